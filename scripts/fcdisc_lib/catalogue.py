@@ -6,12 +6,12 @@ import csv
 import json
 import sys
 from argparse import Namespace
-from typing import Any, Dict, List, Optional, Tuple
+from typing import Dict, List, Optional, Tuple
 
 from .collection import Files, Found, NotAccepted, over_files, status_of, tell_refused
 from .description import describe
 from .images import open_image
-from .listing import disc_row, object_row
+from .listing import Row, disc_row, object_row
 from .messages import Progress, say, shown, tell
 from .program import BadImage, Entry, Run, command, find_program
 from .tree import MAX_DEPTH, Tree, read_below
@@ -19,7 +19,6 @@ from .unread import digests
 from .verdicts import fault_of, is_no_disc
 
 COLUMNS = ("image", "disc_name", "format", "path", "type", "date", "length", "access", "sha256")
-Row = Dict[str, Any]
 
 
 def catalogue(words: Namespace) -> int:

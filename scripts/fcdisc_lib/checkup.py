@@ -5,14 +5,14 @@ from __future__ import annotations
 import json
 import sys
 from argparse import Namespace
-from typing import Any, Dict, Iterator, List, NamedTuple, Optional, Sequence, Tuple
+from typing import Dict, Iterator, List, NamedTuple, Optional, Sequence, Tuple
 
 from . import names
 from .collection import Files, Found, over_files, status_of
 from .description import Description, describe
 from .faults import IT_IS, Fault
 from .images import open_image
-from .listing import counted, day, disc_row, heading
+from .listing import Row, counted, day, disc_row, heading
 from .messages import Progress, clear_progress, say, shown, tell
 from .otherfiles import TEXT
 from .program import BadImage, Entry, Run, command, find_program
@@ -52,7 +52,7 @@ def check(words: Namespace) -> int:
     program, files = find_program(), Files(words.image)
     states: Dict[str, int] = {}
     advice: Dict[Tuple[str, str], int] = {}
-    rows: List[Dict[str, Any]] = []
+    rows: List[Row] = []
     failed = False
     for file, finding in over_files(files, lambda file: examine(program, file, words.order), "files checked"):
         state = finding.state if finding else "not opened"
@@ -158,8 +158,8 @@ def whole_in_words(finding: Finding) -> str:
     return "; ".join([text, *remarks])
 
 
-def as_row(path: str, finding: Finding) -> Dict[str, Any]:
-    row: Dict[str, Any] = {"image": shown(path), "state": finding.state}
+def as_row(path: str, finding: Finding) -> Row:
+    row: Row = {"image": shown(path), "state": finding.state}
     if finding.fault:
         row.update(fault=finding.fault.meaning, line=finding.fault.line, advice=finding.fault.advice)
     if finding.rescue:

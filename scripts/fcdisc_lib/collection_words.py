@@ -2,12 +2,15 @@
 """The words of the jobs over folders of images."""
 from __future__ import annotations
 
-from typing import Any
+from typing import TYPE_CHECKING
 
 from .common_words import add_job, add_order, digest, file_type, later, looked_for
 
+if TYPE_CHECKING:
+    from .common_words import Jobs
 
-def add_collections(added: Any) -> None:
+
+def add_collections(added: Jobs) -> None:
     job = add_job(added, "catalogue", later("catalogue", "catalogue"),
                   "List all objects of all images in a folder, with digests. As CSV, or "
                   "as JSON.")

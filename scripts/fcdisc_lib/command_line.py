@@ -7,7 +7,7 @@ import os
 import signal
 import sys
 from contextlib import suppress
-from typing import Any, List, NoReturn, Optional
+from typing import TYPE_CHECKING, List, NoReturn, Optional
 
 from .collection_words import add_collections
 from .common_words import (BACKUPS, EPILOG, FORMATS, PATH_HELP, WILD_HELP, Job, access_bits, add_job, add_order, add_types,
@@ -16,6 +16,9 @@ from .leftovers import remove_unfinished
 from .messages import FAILED, Trouble, clear_progress, reason, shown, tell
 from .program import BadImage
 from .rescue.words import add_rescuing
+
+if TYPE_CHECKING:
+    from .common_words import Jobs
 
 DESCRIPTION = "Daily jobs with images of Acorn discs (RISC OS, ADFS), by the program fcore."
 
@@ -42,7 +45,7 @@ def version() -> str:
     return "of an unknown version"
 
 
-def add_reading(added: Any) -> None:
+def add_reading(added: Jobs) -> None:
     job = add_job(added, "list", later("jobs", "list_disc"),
                   "List a disc as a tree: type, size, access, date, name. fcore runs once for each "
                   "level of directories.", ["ls"])
@@ -77,7 +80,7 @@ def add_reading(added: Any) -> None:
     job.add_argument("image", metavar="IMAGE", nargs="+", help="an image, or a folder of them")
 
 
-def add_making(added: Any) -> None:
+def add_making(added: Jobs) -> None:
     job = add_job(added, "new", later("jobs", "new"), "Make an empty disc.")
     job.add_argument("format", metavar="FORMAT", type=str.upper, choices=FORMATS, help=", ".join(FORMATS))
     job.add_argument("image", metavar="IMAGE", help="the file to make")
@@ -92,7 +95,7 @@ def add_making(added: Any) -> None:
     job.add_argument("out", metavar="OUT", help="the file to make")
 
 
-def add_changing(added: Any) -> None:
+def add_changing(added: Jobs) -> None:
     job = add_change(added, "put", later("changes", "put"), "Put one file onto a disc, or several into a directory.")
     job.add_argument("--replace", action="store_true", help="take the place of a file that is on the disc")
     job.add_argument("--type", metavar="XXX", type=file_type, help="its file type; else that of its name, as in "
@@ -115,7 +118,7 @@ def add_changing(added: Any) -> None:
     add_whole(added)
 
 
-def add_moving(added: Any) -> None:
+def add_moving(added: Jobs) -> None:
     job = add_change(added, "mkdir", later("changes", "mkdir"), "Make directories.")
     job.add_argument("-p", action="store_true", help="those that lead there, too; what is there stays")
     job.add_argument("path", metavar="PATH", nargs="+", help=PATH_HELP)
@@ -138,7 +141,7 @@ def add_moving(added: Any) -> None:
     job.add_argument("path", metavar="PATH", nargs="+", help=WILD_HELP)
 
 
-def add_whole(added: Any) -> None:
+def add_whole(added: Jobs) -> None:
     add_change(added, "compact", later("changes", "compact"), "Bring the free space of a disc together.")
 
     # fcore doesn't have this command yet: until then it isn't listed
@@ -161,7 +164,7 @@ def add_whole(added: Any) -> None:
     job.add_argument("out", metavar="TO", help="the file to make")
 
 
-def add_change(added: Any, name: str, run: Job, text: str,
+def add_change(added: Jobs, name: str, run: Job, text: str,
                count: Optional[str] = None, is_listed: bool = True) -> argparse.ArgumentParser:
     """A subcommand that changes an image."""
     job = add_job(added, name, run, text + " The image as it was before the first change is "

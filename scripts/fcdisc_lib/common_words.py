@@ -5,10 +5,13 @@ from __future__ import annotations
 import argparse
 import re
 from importlib import import_module
-from typing import Any, Callable, Sequence
+from typing import TYPE_CHECKING, Callable, Sequence
 
 from . import names
 from .images import ORDERS
+
+if TYPE_CHECKING:
+    Jobs = argparse._SubParsersAction[argparse.ArgumentParser]  # what jobs are added to
 
 Job = Callable[[argparse.Namespace], int]
 BACKUPS = ("first", "each")  # what is kept of an image that is changed; the first is the default
@@ -26,13 +29,14 @@ def later(part: str, name: str) -> Job:
     return run
 
 
-def add_job(added: Any, name: str, run: Job, text: str, aliases: Sequence[str] = (), is_listed: bool = True) -> argparse.ArgumentParser:
+def add_job(added: Jobs, name: str, run: Job, text: str, aliases: Sequence[str] = (), is_listed: bool = True) -> argparse.ArgumentParser:
     """A subcommand. The first sentence of its text stands in the list of them, if it is listed: argparse lists those with a help."""
     first = text.split(". ")[0].rstrip(".")
     listed = {"help": first[0].lower() + first[1:]} if is_listed else {}
-    job = added.add_parser(name, description=text, epilog=EPILOG, allow_abbrev=False, aliases=aliases, **listed)
+    job = added.add_parser(name, description=text, epilog=EPILOG, allow_abbrev=False, aliases=aliases,
+                           **listed)  # type: ignore[arg-type]
     job.set_defaults(run=run)
-    return job  # type: ignore[no-any-return]
+    return job
 
 
 def add_types(job: argparse.ArgumentParser) -> None:

@@ -3,7 +3,7 @@
 from __future__ import annotations
 
 from datetime import datetime, timedelta
-from typing import Any, Dict, Iterator, Optional
+from typing import Dict, Iterator, Mapping, Optional, Sequence, Union
 
 from . import names
 from .description import Description
@@ -75,11 +75,15 @@ def heading(disc: Description) -> str:
     return text + (", boot option " + disc.boots if disc.boot_option else "")
 
 
-def disc_row(disc: Description) -> Dict[str, Any]:
+Json = Union[None, bool, int, float, str, Sequence["Json"], Mapping[str, "Json"]]
+Row = Dict[str, Json]
+
+
+def disc_row(disc: Description) -> Row:
     return {"format": disc.form, "disc_name": disc.name, "boot_option": disc.boots, "size": disc.size}
 
 
-def object_row(entry: Entry) -> Dict[str, Any]:
+def object_row(entry: Entry) -> Row:
     """An object's fields, as the JSON of `list` and the rows of `catalogue` have them."""
     number, date = names.type_of(entry.load), date_of(entry)
     told = "directory" if entry.is_directory else None if number is None else "%03x" % number
@@ -88,7 +92,7 @@ def object_row(entry: Entry) -> Dict[str, Any]:
             "date": date.isoformat(timespec="milliseconds") if date else None}
 
 
-def tree_row(tree: Tree, disc: Description) -> Dict[str, Any]:
+def tree_row(tree: Tree, disc: Description) -> Row:
     return {"image": shown(tree.image.path), **disc_row(disc), "objects": [object_row(entry) for entry in tree.walk()]}
 
 

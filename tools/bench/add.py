@@ -11,7 +11,6 @@ import os
 import shutil
 import sys
 import tempfile
-from typing import Any
 
 from tools.bench.extract import seconds
 from tools.images.volumes import NewVolume, record_bytes
@@ -22,7 +21,7 @@ SIZE = (ZONES * ZONE_BITS - 480) * BIT_BYTES
 IN_FOLDER = 100  # files
 
 
-def empty_disc() -> Any:
+def empty_disc() -> bytearray:
     volume = NewVolume(record_bytes(10, 15, 10, ZONES, 32, 0x300, SIZE, version=1, root_size=4096), True)
     volume.root.size = 4096
     volume.take(2, ZONES // 2, 2 * ZONES)
@@ -31,12 +30,12 @@ def empty_disc() -> Any:
     return volume.image()
 
 
-def write(path: Any, content: bytes) -> None:
+def write(path: str, content: bytes) -> None:
     with open(path, "wb") as file:
         file.write(content)
 
 
-def main(fcdisc: Any, fcore: str, rounds: int = 3, files: int = 5000) -> bool:
+def main(fcdisc: str, fcore: str, rounds: int = 3, files: int = 5000) -> bool:
     with tempfile.TemporaryDirectory() as folder:
         tree, disc, empty = (os.path.join(folder, name) for name in ("tree", "disc.adf", "empty.adf"))
         for at in range(files):

@@ -18,11 +18,12 @@ import shutil
 import subprocess
 import sys
 import tempfile
-from typing import Any
+from typing import Callable, Dict, Iterable, List, Tuple
 
 from tools.files import built_shim
 from tools.images.fragmented import hard_disc
 from tools.images.large import SparseFile, with_directories
+from tools.images.volumes import NewVolume
 
 DIRECTORIES, LINES, ROUNDS = 100, 500, 5
 WORDS = "00000000 00000000"
@@ -36,7 +37,7 @@ class Bench:
         self.work = os.path.join(folder, "work")
         self.shim = None if shutil.which("strace") else built_shim(folder)
 
-    def seconds(self, image: Any, script: Any) -> Any:
+    def seconds(self, image: str, script: bytes) -> float:
         """How many seconds of a processor a script takes over the image, which it changes."""
         before = resource.getrusage(resource.RUSAGE_CHILDREN)
         ran = subprocess.run([self.program, image], input=script, stdout=subprocess.PIPE, check=False)
@@ -45,19 +46,19 @@ class Bench:
             sys.exit("status %d: %s" % (ran.returncode, ran.stdout[-200:].decode()))
         return after.ru_utime + after.ru_stime - before.ru_utime - before.ru_stime
 
-    def calls(self, image: Any, script: Any) -> Any:
+    def calls(self, image: str, script: bytes) -> int:
         """How many calls of the system it makes."""
         counts = os.path.join(self.folder, "calls")
         traced = self.shim is None
         words = ["strace", "-f", "-c", "-o", counts, self.program, image] if traced else [self.program, image]
-        others = {} if traced else {"env": {"LD_PRELOAD": self.shim, "OUTSIDE_LOG": counts}}
-        subprocess.run(words, input=script, stdout=subprocess.DEVNULL, check=True, **others)
+        env = {"LD_PRELOAD": self.shim, "OUTSIDE_LOG": counts} if self.shim else None
+        subprocess.run(words, input=script, stdout=subprocess.DEVNULL, check=True, env=env)
         with open(counts) as file:
             lines = file.read().split("\n")
         os.unlink(counts)
         return int(next(line for line in lines if line.endswith("total")).split()[3]) if traced else len(lines) - 1
 
-    def a_command(self, image: Any, lines: Any) -> Any:
+    def a_command(self, image: str, lines: List[str]) -> Tuple[float, float]:
         """Microseconds, the least of ROUNDS rounds, and calls of one of the lines. The image stays."""
         script, found = script_of(lines), []
         for measure, rounds in ((self.seconds, ROUNDS), (self.calls, 1)):
@@ -67,23 +68,23 @@ class Bench:
             found.append((taken[1] - taken[0]) / len(lines))
         return found[0] * 1e6, found[1]
 
-    def over_copy(self, measure: Any, image: Any, script: Any) -> Any:
+    def over_copy(self, measure: Callable[[str, bytes], float], image: str, script: bytes) -> float:
         """What is measured of a script over a copy of the image."""
         subprocess.run(["cp", "--sparse=always", image, self.work], check=True)
         return measure(self.work, script)
 
-    def table(self, image: Any, title: Any, lines: Any) -> None:
+    def table(self, image: str, title: str, lines: Dict[str, List[str]]) -> None:
         """A row for each command."""
         for word, found in lines.items():
             print("%s, %s: %.0f microseconds, %.1f calls a command" % (title, word, *self.a_command(image, found)), flush=True)
 
 
-def saving(numbers: Any, directory_of: Any) -> Any:
+def saving(numbers: Iterable[int], directory_of: Callable[[int], int]) -> List[str]:
     """Lines that save files of 100 bytes with these numbers."""
     return ["save $.D%d.File%05d %s %s" % (directory_of(at), at, WORDS, ("%08x" % at) * 25) for at in numbers]
 
 
-def commands(paths: Any, fresh: Any, others: Any) -> Any:
+def commands(paths: List[str], fresh: List[str], others: List[str]) -> Dict[str, List[str]]:
     """LINES lines of each command: over files that are there, over paths that aren't, and to other directories."""
     return {
         "save": ["save %s %s %s" % (path, WORDS, "5a" * 100) for path in fresh],
@@ -96,12 +97,12 @@ def commands(paths: Any, fresh: Any, others: Any) -> Any:
     }
 
 
-def write(volume: Any, path: Any) -> None:
+def write(volume: NewVolume, path: str) -> None:
     with open(path, "wb") as file:
         volume.write(SparseFile(file, volume.shape.record.size))
 
 
-def empty_disc(path: Any) -> None:
+def empty_disc(path: str) -> None:
     """A disc of 518 MB with big directories."""
     volume = hard_disc(10, 15, 10, 62, big=True)
     volume.root.size = 4096
@@ -111,7 +112,7 @@ def empty_disc(path: Any) -> None:
     write(volume, path)
 
 
-def many_files(bench: Any, image: Any, files: Any) -> None:
+def many_files(bench: Bench, image: str, files: int) -> None:
     """Files of 100 bytes saved in turn into 100 directories, which so get ten times as long."""
     empty_disc(image)
     done = 0
@@ -126,7 +127,7 @@ def many_files(bench: Any, image: Any, files: Any) -> None:
         bench.table(image, "%d files" % count, commands(paths, fresh, others))
 
 
-def full_directories(bench: Any, image: Any, files: Any) -> None:
+def full_directories(bench: Bench, image: str, files: int) -> None:
     """Files of 100 bytes saved into one of 100 directories after another, every tenth first, and the commands in those ten at a tenth
     of the files and at all of them: only the disc has more files then, and no directory in which a command works."""
     empty_disc(image)
@@ -143,7 +144,7 @@ def full_directories(bench: Any, image: Any, files: Any) -> None:
         done = count
 
 
-def one_directory(bench: Any, image: Any, files: Any) -> None:
+def one_directory(bench: Bench, image: str, files: int) -> None:
     """Files of 0 bytes in one directory, which grows at every fiftieth; and files that share identifiers, and so are copied, moved into
     one."""
     empty_disc(image)
@@ -159,7 +160,7 @@ def one_directory(bench: Any, image: Any, files: Any) -> None:
         len(numbers), taken / len(numbers) * 1e6), flush=True)
 
 
-def many_objects(bench: Any, image: Any, objects: Any, big: bool) -> None:
+def many_objects(bench: Bench, image: str, objects: int, big: bool) -> None:
     """The commands over a disc that is full of objects."""
     directories = objects // 50
     write(with_directories(directories, big=big), image)
@@ -171,7 +172,7 @@ def many_objects(bench: Any, image: Any, objects: Any, big: bool) -> None:
     bench.table(image, "%d objects%s" % (51 * directories, ", big directories" * big), commands(paths, fresh, others))
 
 
-def script_of(lines: Any) -> Any:
+def script_of(lines: Iterable[str]) -> bytes:
     return "".join(line + "\n" for line in lines).encode()
 
 
@@ -185,7 +186,7 @@ def main(program: str, files: int = 10000, objects: int = 50000) -> None:
             many_objects(bench, image, objects, big)
 
 
-def directory_paths(count: int, places: Any) -> Any:
+def directory_paths(count: int, places: Iterable[int]) -> List[Tuple[str, int]]:
     """The paths of some directories of tools/images/large.py."""
     volume = with_directories(count)
     found = {one.name: volume.path_of(one)[2:] for one in volume.directories()[1:]}

@@ -17,7 +17,7 @@ import subprocess
 import sys
 import tempfile
 import time
-from typing import Any, Iterator, Optional, Tuple
+from typing import Dict, Iterator, List, Optional, Tuple
 
 from tools.checks.crash import SYNC
 from tools.files import built_shim
@@ -52,7 +52,7 @@ def written(path: str, volume: NewVolume) -> int:
     return sum(map(len, volume.runs))
 
 
-def totals(path: Any) -> Any:
+def totals(path: str) -> Tuple[int, int]:
     """The bytes that were written, and the syncs, of a record."""
     moved = syncs = 0
     with open(path, "rb") as file:
@@ -66,13 +66,13 @@ def totals(path: Any) -> Any:
     return moved, syncs
 
 
-def seconds(words: Any, **others: Any) -> Any:
+def seconds(words: List[str], env: Optional[Dict[str, str]] = None) -> float:
     start = time.monotonic()
-    subprocess.run(words, input=b"compact\n", stdout=subprocess.DEVNULL, check=True, **others)
+    subprocess.run(words, input=b"compact\n", stdout=subprocess.DEVNULL, check=True, env=env)
     return time.monotonic() - start
 
 
-def copying(path: Any, moved: Any, syncs: Any) -> Any:
+def copying(path: str, moved: int, syncs: int) -> float:
     """Copies so many bytes within a file, in as many pieces as there are syncs."""
     piece = max(1, moved // max(1, syncs))
     start, done = time.monotonic(), 0
@@ -86,7 +86,7 @@ def copying(path: Any, moved: Any, syncs: Any) -> Any:
     return time.monotonic() - start
 
 
-def main(program: str) -> None:
+def main(program: str) -> bool:
     program = os.path.realpath(program)
     with tempfile.TemporaryDirectory(dir=os.getcwd()) as folder:
         image, work, record = (os.path.join(folder, name) for name in ("image", "work", "record"))

@@ -13,22 +13,22 @@ import subprocess
 import sys
 import tempfile
 import time
-from typing import Any
+from typing import Dict, List, Optional, Tuple
 
 from tools.images import large
 
 ALLOWED = 5
 
 
-def seconds(words: Any, **how: Any) -> Any:
+def seconds(words: List[str], env: Optional[Dict[str, str]] = None) -> Tuple[float, float]:
     """The time of a command, on the clock and of the processor."""
     before, begin = resource.getrusage(resource.RUSAGE_CHILDREN), time.monotonic()
-    subprocess.run(words, check=True, stdout=subprocess.DEVNULL, **how)
+    subprocess.run(words, check=True, stdout=subprocess.DEVNULL, env=env)
     after = resource.getrusage(resource.RUSAGE_CHILDREN)
     return time.monotonic() - begin, after.ru_utime + after.ru_stime - before.ru_utime - before.ru_stime
 
 
-def main(fcdisc: Any, fcore: str, rounds: int = 3) -> bool:
+def main(fcdisc: str, fcore: str, rounds: int = 3) -> bool:
     with tempfile.TemporaryDirectory() as folder:
         image = os.path.join(folder, "large.adf")
         large.main(image)

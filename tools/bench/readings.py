@@ -12,22 +12,25 @@ from __future__ import annotations
 import functools
 import os
 import random
+import resource
 import shutil
 import subprocess
 import sys
 import tempfile
-from typing import Any, Iterator
+from typing import IO, Callable, Dict, Iterator, List, Optional, Tuple, Union
 
 from tools.images import large
-from tools.images.volumes import NewVolume, record_bytes
+from tools.images.volumes import Directory, NewVolume, record_bytes
 
+Runner = Callable[[List[str], Optional[str]], resource.struct_rusage]
+Places = Callable[[str], str]  # the path of a name
 MEGA = 1 << 20
 COUNTS, FILES, RUNS = (2500, 5000, 10000), 50, 25  # files on the discs in many runs, in a directory, and runs of a file
 RUN = 4096  # the bytes of the smallest run of those discs
 LOADED = 256 * MEGA
 
 
-def run(words: Any, script: Any = None, out: str = subprocess.DEVNULL) -> Any:
+def run(words: List[str], script: Optional[str] = None, out: Union[int, IO[bytes]] = subprocess.DEVNULL) -> resource.struct_rusage:
     """Runs a command, whose standard input is a file. Answers its resources."""
     with open(script or os.devnull, "rb") as given:
         process = subprocess.Popen(words, stdin=given, stdout=out, stderr=subprocess.DEVNULL)
@@ -37,7 +40,7 @@ def run(words: Any, script: Any = None, out: str = subprocess.DEVNULL) -> Any:
     return used
 
 
-def into_pipe(words: Any, script: Any = None) -> Any:
+def into_pipe(words: List[str], script: Optional[str] = None) -> resource.struct_rusage:
     """The same with a pipe as output, which cat empties."""
     with subprocess.Popen(["cat"], stdin=subprocess.PIPE, stdout=subprocess.DEVNULL) as reader:
         used = run(words, script, reader.stdin)
@@ -45,18 +48,18 @@ def into_pipe(words: Any, script: Any = None) -> Any:
     return used
 
 
-def seconds(used: Any) -> Any:
+def seconds(used: resource.struct_rusage) -> float:
     return used.ru_utime + used.ru_stime
 
 
 class Task:
     """What fcore does with a script over an image, and commands that do as much."""
 
-    def __init__(self, name: Any, image: Any, script: Any, others: Any, runner: Any = run) -> None:
+    def __init__(self, name: str, image: str, script: str, others: Dict[str, List[str]], runner: Runner = run) -> None:
         self.name, self.image, self.script, self.others, self.runner = name, image, script, others, runner
 
 
-def empty_volume(zones: Any, log2_bit: Any, map_bits: Any) -> Any:
+def empty_volume(zones: int, log2_bit: int, map_bits: int) -> NewVolume:
     size = (zones * 8160 - 480) << log2_bit
     volume = NewVolume(record_bytes(10, 15, log2_bit, zones, 32, 0x300, size), True)
     volume.take(2, zones // 2, map_bits)
@@ -65,7 +68,7 @@ def empty_volume(zones: Any, log2_bit: Any, map_bits: Any) -> Any:
     return volume
 
 
-def in_many_runs(count: int) -> Any:
+def in_many_runs(count: int) -> NewVolume:
     """So many files in 25 runs each, which lie in zones far apart, in directories $.D0.E0 and so on."""
     zones = 700
     volume = empty_volume(zones, 8, 2 * zones * 4)
@@ -85,7 +88,7 @@ def in_many_runs(count: int) -> Any:
     return volume
 
 
-def with_large_file() -> Any:
+def with_large_file() -> NewVolume:
     """One file of 256 MB, in runs as long as a zone has room for."""
     zones = 70
     volume = empty_volume(zones, 10, 2 * zones)
@@ -104,14 +107,14 @@ class Hollow:
     def __init__(self, size: int) -> None:
         self.size = size
 
-    def __len__(self) -> Any:
+    def __len__(self) -> int:
         return self.size
 
     def __bytes__(self) -> bytes:
         return b""
 
 
-def of_a_terabyte() -> Any:
+def of_a_terabyte() -> NewVolume:
     """240 files of 4 GB, which lie one after the other in all zones but the first and the map's."""
     zones, bits = 1028, 32767
     volume = empty_volume(zones, 17, -(-2 * zones // 128))
@@ -134,22 +137,22 @@ def of_a_terabyte() -> Any:
     return volume
 
 
-def write_image(path: Any, volume: Any) -> None:
+def write_image(path: str, volume: NewVolume) -> None:
     with open(path, "wb") as file:
         volume.write(large.SparseFile(file, volume.shape.record.size))
 
 
-def write_script(path: Any, lines: Any) -> Any:
+def write_script(path: str, lines: List[str]) -> str:
     with open(path, "w") as file:
         file.write("".join(line + "\n" for line in lines))
     return path
 
 
-def write_files(folder: str, volume: Any) -> Any:
+def write_files(folder: str, volume: NewVolume) -> Tuple[List[str], List[str]]:
     """The volume's files outside of it. Answers their paths there and in it."""
     outside, inside = [], []
 
-    def below(directory: Any, path: Any, name: Any) -> None:
+    def below(directory: Directory, path: str, name: str) -> None:
         os.makedirs(path)
         for entry in directory.entries:
             there, here = os.path.join(path, entry.name.decode()), name + "." + entry.name.decode()
@@ -165,12 +168,12 @@ def write_files(folder: str, volume: Any) -> Any:
     return outside, inside
 
 
-def tasks(folder: str) -> Any:
+def tasks(folder: str) -> List[Task]:
     path = functools.partial(os.path.join, folder)
     return [*digest_tasks(path), *large_file_tasks(path), *check_tasks(path)]
 
 
-def digest_tasks(path: Any) -> Iterator[Any]:
+def digest_tasks(path: Places) -> Iterator[Task]:
     for count in COUNTS:
         volume = in_many_runs(count)
         image = path("runs%d.adf" % count)
@@ -182,7 +185,7 @@ def digest_tasks(path: Any) -> Iterator[Any]:
                    {"sha256sum": ["xargs", "-a", list_of, "sha256sum"]})
 
 
-def large_file_tasks(path: Any) -> Iterator[Any]:
+def large_file_tasks(path: Places) -> Iterator[Task]:
     volume = with_large_file()
     write_image(path("large.adf"), volume)
     large = write_files(path("large"), volume)[0][0]
@@ -195,7 +198,7 @@ def large_file_tasks(path: Any) -> Iterator[Any]:
     yield Task("`digest` of 256 MB", path("large.adf"), digest, {"sha256sum": ["sha256sum", large]})
 
 
-def check_tasks(path: Any) -> Iterator[Any]:
+def check_tasks(path: Places) -> Iterator[Task]:
     check = write_script(path("check"), ["check"])
     write_image(path("terabyte.adf"), of_a_terabyte())
     yield Task("`check` of a sparse disc of 1.1 TB with 240 files of 4 GB", path("terabyte.adf"), check, {})
@@ -211,7 +214,7 @@ def check_tasks(path: Any) -> Iterator[Any]:
     yield Task("the same, and `free` 1,000 times", path("objects.adf"), frees, {})
 
 
-def memory(fcore: str, folder: str, volume: Any) -> Any:
+def memory(fcore: str, folder: str, volume: NewVolume) -> int:
     """The most bytes that opening this volume takes. A process has at least its parent's, so a small program starts it."""
     image = os.path.join(folder, "memory.adf")
     write_image(image, volume)
@@ -219,7 +222,7 @@ def memory(fcore: str, folder: str, volume: Any) -> Any:
     return int(told) * 1024
 
 
-def object_sizes(taken: Any) -> Any:
+def object_sizes(taken: Callable[[int, int], int]) -> Tuple[float, float]:
     """The bytes of a file, and of a directory without its files, by what discs of so many directories and files in each take.
 
     All these discs are large, and of one kind, so that what memory comes in counts little."""
@@ -228,7 +231,7 @@ def object_sizes(taken: Any) -> Any:
     return file, (many - taken(600, 50)) / 600 - 50 * file
 
 
-def system_calls(words: Any, script: Any) -> int:
+def system_calls(words: List[str], script: str) -> int:
     """How many system calls a command makes."""
     with open(script, "rb") as given:
         ran = subprocess.run(["strace", "-f", "-c", "-U", "calls", *words], stdin=given, stdout=subprocess.DEVNULL,

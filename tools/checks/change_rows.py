@@ -3,7 +3,7 @@
 from __future__ import annotations
 
 import hashlib
-from typing import Any, Callable
+from typing import Callable
 
 from tools.images import damaged
 from tools.images.fragmented import hard_disc
@@ -40,7 +40,7 @@ def holes_of_four_and_eight() -> OldVolume:
 class Worn:
     """A fresh F disc in which bytes of the map's copies were changed."""
 
-    def __init__(self, change: Callable[..., Any]) -> None:
+    def __init__(self, change: Callable[[damaged.Damage], damaged.Damage]) -> None:
         self.change = change
 
     def image(self) -> bytearray:

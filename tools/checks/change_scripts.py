@@ -2,7 +2,8 @@
 """Draws lines of changing commands, most of them aimed at what is there and at the edges of space, by chance."""
 from __future__ import annotations
 
-from typing import Any, List, Tuple, Union
+import random
+from typing import List, Sequence
 
 from tools.images.drawn_discs import random_name
 from tools.reference.change_answer import CHANGING, Command
@@ -31,7 +32,7 @@ REFUSED = (b"delete $", b"cdir $", b"save $ 00000000 00000000 00", b"create $.A%
 class Drawer:
     """Draws commands over the image as it stands."""
 
-    def __init__(self, chance: Any, words: Union[List[str], Tuple[str, ...]]) -> None:
+    def __init__(self, chance: random.Random, words: Sequence[str]) -> None:
         self.chance, self.drawn = chance, [word for word in CHANGING if word in words]
         self.compacts = "compact" in words
         self.lines = [line for line in LINES if not line or Command(line).fault or Command(line).word in words]
@@ -103,7 +104,7 @@ class Drawer:
         source = self.path_to(self.chance.choice(chosen)) if chosen else self.there()
         return "rename %s %s.%s" % (source, self.path_to(to), self.long_name())
 
-    def is_sharing(self, entry: Entry) -> Any:
+    def is_sharing(self, entry: Entry) -> bool:
         """Whether another object lies in the file's identifier; a tree without an image doesn't say."""
         return isinstance(self.state, State) and bool(entry.sectors) and len(self.state.owners[entry.address // 256]) > 1
 

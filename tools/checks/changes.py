@@ -28,7 +28,7 @@ import sys
 import tempfile
 import time
 import traceback
-from typing import Any, Counter, List, Optional, Tuple, Union
+from typing import Counter, List, Optional, Tuple, Union
 
 from tools.checks import change_rows, change_scripts, crash
 from tools.files import PROGRAM
@@ -175,7 +175,7 @@ def step(actor: Union[Program, Stand], state: State, line: bytes, read_only: boo
     return after
 
 
-def compaction_differences(before: Any, after: State) -> Any:
+def compaction_differences(before: State, after: State) -> List[str]:
     """tools/checks/crash.py has the same looks over new maps."""
     return crash.faults_at_end(before.data, after.data) if before.is_new else change_squash.differences(before, after)
 
@@ -259,7 +259,7 @@ class Run:
             self.counts["event", "at once differs"] += 1
             raise Difference("the script run at once:\n" + "\n".join(found[:12]))
 
-    def report(self, found: Any) -> Any:
+    def report(self, found: object) -> str:
         folder = tempfile.mkdtemp(prefix="check_changes-")
         script = b"".join(line + b"\n" for line in self.script)
         for name, content in (("first.adf", self.image), ("before.adf", self.last), ("after.adf", self.actor.left), ("script", script)):
@@ -294,7 +294,7 @@ def rows_differ(actor: Program, options: argparse.Namespace) -> Optional[bool]:
     return bool(wrong)
 
 
-def left_differences(image: bytes, end: bytes) -> List[Any]:
+def left_differences(image: bytes, end: bytes) -> List[str]:
     """What no row may change: an image opens, and the copies of a new map are equal and have the bits after their zones that were there."""
     try:
         before, after = opened(image), opened(end)
@@ -365,7 +365,7 @@ def found_after(fault: str, words: str, options: argparse.Namespace) -> Tuple[in
     return None
 
 
-def without_fault(options: argparse.Namespace) -> Any:
+def without_fault(options: argparse.Namespace) -> bool:
     """Whether the rows and the commands over discs agree."""
     good = True
     for old in (False, True):

@@ -16,7 +16,7 @@ import functools
 import glob
 import os
 import re
-from typing import Any, Dict, Iterator, List
+from typing import Callable, Dict, Iterator, List, Set, Tuple
 
 from tools.files import TOP
 
@@ -39,7 +39,8 @@ class Item:
     """A definition or lemma at the top of a file: its name, its statement, and the lines of its body."""
 
     def __init__(self, file: File, name: str, is_pub: bool, start: int, statement: str) -> None:
-        self.file, self.name, self.is_pub, self.start, self.statement, self.body = file, name, is_pub, start, statement, []
+        self.file, self.name, self.is_pub, self.start, self.statement = file, name, is_pub, start, statement
+        self.body: List[str] = []
         self.end = start + 1
 
 
@@ -47,18 +48,20 @@ class File:
     """A file of the kit, or of a crate: its items, and what it imports."""
 
     def __init__(self, path: str) -> None:
-        self.path, self.lines, self.imports, self.items = path, read(path).split("\n"), {}, []
+        self.path, self.lines = path, read(path).split("\n")
+        self.imports: Dict[str, str] = {}
+        self.items: List[Item] = []
         for line in filter(None, map(USE.match, self.lines)):
             self.imports.update((name.split(" as ")[-1].strip(), line[1]) for name in line[2].split(","))
         self.read_items()
         self.names = {item.name for item in self.items}
 
     @property
-    def crate(self) -> Any:
+    def crate(self) -> str:
         return self.path.split("/")[1]
 
     @property
-    def module(self) -> Any:
+    def module(self) -> str:
         return "Rattle." + self.path[len("crates/"):-len(".antt")].replace("/", ".")
 
     def read_items(self) -> None:
@@ -79,7 +82,7 @@ class File:
                 item = None
 
 
-def bound_in(text: str) -> Any:
+def bound_in(text: str) -> Set[str]:
     """The variables of binders and lambdas, and of the patterns before `=`."""
     names = [name for found in re.finditer(rf"[({{]({NAME}(?: {NAME})*) : ", text) for name in found[1].split()]
     names += [name for found in re.finditer(r"λ ([^.]*?)\.", text) for name in re.findall(NAME, found[1].split(" : ")[0])]
@@ -88,13 +91,13 @@ def bound_in(text: str) -> Any:
     return {name for name in names if name[0].islower()}
 
 
-def spread(text: str) -> Any:
+def spread(text: str) -> str:
     """Each variable of `(a b : T) → ` gets a binder of its own, so that a lemma may group them as it likes."""
     each = lambda found: "".join(f"({name} : {found[2]}) → " for name in found[1].split())
     return re.sub(rf"\(({NAME}(?: {NAME})*) : ([^()]*(?:\([^()]*\)[^()]*)*)\) → ", each, text)
 
 
-def formed(text: str, own: Any, meaning: Any) -> Any:
+def formed(text: str, own: str, meaning: Callable[[str], str]) -> str:
     """The text with variables by number, and with what it names of other files by where that stands."""
     text = re.sub(r"^(abbrev |unfoldable )?(pub )?", "", text)
     bound, numbers, found = {name for name in bound_in(text) if meaning(name) == name and name != own}, {}, []
@@ -107,27 +110,27 @@ def formed(text: str, own: Any, meaning: Any) -> Any:
     return " ".join(found)
 
 
-def statement_of(item: Any) -> Any:
+def statement_of(item: Item) -> str:
     """The form of a statement alone, without its name and leading types, as std is looked through."""
     text = re.sub(r"^(\{[^{}]*\} → )+", "", HEAD.sub("", item.statement))
     return formed(spread(text), item.name, lambda name: name)
 
 
-def form_of(item: Any) -> Any:
+def form_of(item: Item) -> Tuple[str, str, str]:
     """The form of a statement and its body. What comes of std counts by its name, since std gives it in several modules."""
-    def meaning(name: str) -> Any:
+    def meaning(name: str) -> str:
         module = item.file.imports.get(name) or (item.file.module if name in item.file.names else "")
         return name if not module or module.startswith("Rattle.std.") else f"{module}.{name}"
     kind = item.statement.split(" ")[0] if item.statement.startswith(("abbrev ", "unfoldable ")) else ""
     return kind, formed(item.statement, item.name, meaning), formed("\n".join(item.body), item.name, meaning)
 
 
-def lemmas_of_std(kit: str) -> Any:
+def lemmas_of_std(kit: str) -> Dict[str, Set[str]]:
     """The lemmas that std's modules have or pass on, by the form of their statements."""
     root, found = os.path.join(kit, "rattle"), collections.defaultdict(set)
 
     @functools.lru_cache(maxsize=None)
-    def statements(path: str) -> Any:
+    def statements(path: str) -> Dict[str, Item]:
         return {item.name: item for item in File(path).items if item.is_pub} if os.path.isfile(path) else {}
 
     for path in sorted(glob.glob(f"{root}/std/proofs/lemmas/**/*.antt", recursive=True)):
@@ -151,14 +154,14 @@ def crates_in_order() -> Dict[str, List[str]]:
     return {row[0].strip(): row[1].split() for row in rows}
 
 
-def copies_of_std(files: Any, std: Any) -> Iterator[Any]:
+def copies_of_std(files: List[File], std: Dict[str, Set[str]]) -> Iterator[str]:
     """The lemmas of these files that std has. What only names types says too little to be one."""
     for item in (item for file in files if "/proofs/" in file.path for item in file.items if re.search("→.*[≡≤<⊥]", item.statement)):
         for name in sorted(std.get(statement_of(item), ()))[:1]:
             yield f"{item.file.path}:{item.start + 1} {item.name} is {name}"
 
 
-def copies_of_crates(files: Any, crates: Any) -> Iterator[Any]:
+def copies_of_crates(files: List[File], crates: Dict[str, List[str]]) -> Iterator[str]:
     """The items that the same crate or one below has already, with the lowest that may be cited."""
     same, order = collections.defaultdict(list), list(crates)
     for item in (item for file in files if not file.path.endswith(WRITTEN_BY_GOALS) for item in file.items if item.body):
@@ -171,12 +174,12 @@ def copies_of_crates(files: Any, crates: Any) -> Iterator[Any]:
                 yield f"{item.file.path}:{item.start + 1} {item.name} is {lower[0].file.module}.{lower[0].name}"
 
 
-def words_of(lines: Any) -> Any:
+def words_of(lines: List[str]) -> Dict[str, int]:
     """How often each word stands in these lines, without imports and comments."""
     return collections.Counter(word for line in lines if not line.startswith(("use ", "--")) for word in WORD.findall(line))
 
 
-def unused(files: Any, asked: Any) -> Iterator[Any]:
+def unused(files: List[File], asked: Set[str]) -> Iterator[str]:
     """Lemmas that no other line of their file names, no file imports, and no `using(..)` of the code gives to the prover."""
     for file in (file for file in files if "/proofs/" in file.path and not file.path.endswith(WRITTEN_BY_GOALS)):
         all_words = words_of(file.lines)
@@ -186,7 +189,7 @@ def unused(files: Any, asked: Any) -> Iterator[Any]:
                 yield f"{file.path}:{item.start + 1} {item.name}"
 
 
-def names_asked_for() -> Any:
+def names_asked_for() -> Set[str]:
     """What any file imports of another, or gives to the prover by `using(crate::proofs::MODULE::NAME)`."""
     found = set()
     for path in glob.glob("crates/*/**/*.antt", recursive=True) + glob.glob("crates/*/**/*.rt", recursive=True):
@@ -212,8 +215,8 @@ def main() -> None:
     tables = {"Copies of std": copies_of_std(files, lemmas_of_std(options.kit)),
               "Copies of a crate": copies_of_crates(files, crates),
               "Used by nothing": unused(files, names_asked_for())}
-    for title, rows in tables.items():
-        rows = [row for row in rows if not options.crates or row.split("/")[1] in options.crates]
+    for title, every in tables.items():
+        rows = [row for row in every if not options.crates or row.split("/")[1] in options.crates]
         print(f"{title}: {len(rows)}", *rows, sep="\n  ")
 
 

@@ -18,12 +18,15 @@ import random
 import subprocess
 import sys
 import tempfile
-from typing import Any, Dict, Iterator, List, Optional, Set, Tuple, Union
+from typing import Dict, Iterator, List, Optional, Set, Tuple, Union
 
 from tools.files import built_shim
 from tools.images.fragmented import SHAPES, fragmented
+from tools.images.volumes import NewVolume
 from tools.reference.format_reader import Bad, Disc, Record
 
+Held = Union[List[str], List[Tuple[Union[int, str, None], ...]]]  # a fault's words, or objects
+Steps = List[Optional[Tuple[int, bytes]]]  # a write's place and bytes; None for a sync
 MOMENTS, CHOICES = 24, 2
 SYNC = (1 << 64) - 1
 
@@ -31,7 +34,7 @@ SYNC = (1 << 64) - 1
 # ---- what a disc holds
 
 
-def objects(data: bytes) -> List[Tuple[Optional[Union[int, str]], ...]]:
+def objects(data: bytes) -> Held:
     """Each object with its address, words and the digest of its bytes; the fault, if the disc doesn't open."""
     try:
         disc = Disc(data)
@@ -58,7 +61,7 @@ def zone_of(g: Record, start: int) -> int:
     return next(zone for zone in range(g.zones - 1, -1, -1) if g.base(zone) <= bit)
 
 
-def left_to_do(disc: Disc) -> List[Any]:
+def left_to_do(disc: Disc) -> List[str]:
     """What compaction could still do, in words."""
     g = disc.map.g
     movable = {identifier for identifier in disc.owned if identifier > 2}
@@ -80,7 +83,7 @@ def left_to_do(disc: Disc) -> List[Any]:
     return found
 
 
-def fixed_runs(disc: Disc) -> Dict[int, List[Tuple[int, Any]]]:
+def fixed_runs(disc: Disc) -> Dict[int, List[Tuple[int, Tuple[int, int]]]]:
     return {identifier: runs for identifier, runs in disc.map.runs.items() if identifier < 3 or identifier not in disc.owned}
 
 
@@ -90,7 +93,7 @@ def copies(disc: Disc, data: bytes) -> Tuple[bytes, bytes]:
     return data[start:start + size], data[start + size:start + 2 * size]
 
 
-def faults_at_end(before: bytes, after: bytes) -> List[Any]:
+def faults_at_end(before: bytes, after: bytes) -> List[str]:
     """What is wrong with the disc at the end, in words."""
     if objects(after) != objects(before):
         return ["other objects at the end: %s" % objects(after)[:2]]
@@ -106,8 +109,8 @@ def faults_at_end(before: bytes, after: bytes) -> List[Any]:
 # ---- crashes
 
 
-def steps_of(record: bytes) -> List[Optional[Tuple[int, bytes]]]:
-    """The record as (place, bytes) for a write and None for a sync."""
+def steps_of(record: bytes) -> Steps:
+    """The steps of a record."""
     at, found = 0, []
     while at < len(record):
         place, count = (int.from_bytes(record[at + n:at + n + 8], "little") for n in (0, 8))
@@ -123,7 +126,7 @@ def steps_of(record: bytes) -> List[Optional[Tuple[int, bytes]]]:
 class Crashes:
     """The images that crashes leave, along a record."""
 
-    def __init__(self, image: bytes, steps: List[Optional[Tuple[int, bytes]]], sector: int, chance: random.Random) -> None:
+    def __init__(self, image: bytes, steps: Steps, sector: int, chance: random.Random) -> None:
         self.image, self.steps, self.sector, self.chance = bytearray(image), steps, sector, chance
 
     def versions(self, pending: List[Tuple[int, bytes]]) -> Dict[int, List[bytes]]:
@@ -164,8 +167,8 @@ class Crashes:
         self.apply(pending)
 
 
-def crash_faults(image: bytes, steps: List[Optional[Tuple[int, bytes]]], sector: int,
-                 chance: random.Random) -> Tuple[List[Any], bytes]:
+def crash_faults(image: bytes, steps: Steps, sector: int,
+                 chance: random.Random) -> Tuple[List[str], bytes]:
     """The first crash that loses something, in words, and the image at the end."""
     wanted = objects(image)
     numbers = range(1, len(steps) + 1)
@@ -192,7 +195,7 @@ def with_torn_copy(image: bytearray, seed: int) -> bytes:
     return bytes(torn)
 
 
-def compacted(program: str, shim: str, folder: str, image: bytes) -> Tuple[List[Optional[Tuple[int, bytes]]], bytes, List[Any]]:
+def compacted(program: str, shim: str, folder: str, image: bytes) -> Tuple[Steps, bytes, List[str]]:
     """The record of the program's writes over the image, and what is wrong with the run."""
     path, record = os.path.join(folder, "disc"), os.path.join(folder, "record")
     for name, content in ((path, image), (record, b"")):
@@ -208,7 +211,7 @@ def compacted(program: str, shim: str, folder: str, image: bytes) -> Tuple[List[
     return steps, end, wrong
 
 
-def look(image: bytes, steps: List[Optional[Tuple[int, bytes]]], chance: random.Random) -> Tuple[List[Any], bytes]:
+def look(image: bytes, steps: Steps, chance: random.Random) -> Tuple[List[str], bytes]:
     """All that is wrong with the record of a compaction, and the image at its end."""
     found, end = crash_faults(image, steps, Disc(image).map.sector, chance)
     if steps and steps[-1] is not None:
@@ -237,7 +240,7 @@ def check(program: str, discs: int) -> bool:
 # ---- the self-test: one run slides into the hole before it
 
 
-def slid(volume: Any, most: int) -> Any:
+def slid(volume: NewVolume, most: bool) -> Optional[Tuple[int, int, int, int]]:
     """The zone, the place of the hole, and the runs afterwards, where a movable run follows a hole: one that fits, or a longer one."""
     owned = volume.owned() - {1, 2}
     for zone, runs in enumerate(volume.runs):
@@ -249,7 +252,7 @@ def slid(volume: Any, most: int) -> Any:
     return None
 
 
-def stand_in(volume: Any, image: bytes, fault: Optional[str]) -> Any:
+def stand_in(volume: NewVolume, image: bytes, fault: Optional[str]) -> Steps:
     """What a compactor of one step writes: bytes into the hole, a sync, and one zone in both copies."""
     shape = volume.shape
     zone, bit, size, length = slid(volume, fault != "own place")

@@ -12,7 +12,7 @@ import re
 import subprocess
 import sys
 import tempfile
-from typing import Any, Iterator, List, Optional, Tuple
+from typing import Iterator, List, Optional, Tuple
 
 COUNTS = (1, 2, 63, 64, 65, 1000, 10000)
 FORMS = ("E", "F", "D", "L", "E+", "F+")
@@ -24,7 +24,7 @@ def draws(seed: int) -> Iterator[int]:
         yield seed // 65536
 
 
-def line(number: int, drawn: Iterator[Any]) -> str:
+def line(number: int, drawn: Iterator[int]) -> str:
     one, two, three = next(drawn), next(drawn), next(drawn)
     folder, name, rest = one % 8, two % 16, three // 8
     path = "$.D%d.F%d" % (folder, name)
@@ -69,11 +69,11 @@ class Demos:
     def __init__(self, program: str) -> None:
         self.program, self.passed, self.failed = os.path.abspath(program), 0, 0
 
-    def run(self, words: List[str], script: str = "") -> Optional[Tuple[int, str]]:
+    def run(self, words: List[str], script: str = "") -> Tuple[int, str]:
         done = subprocess.run([self.program, *words], input=script.encode(), capture_output=True, timeout=600)
         return done.returncode, done.stdout.decode()
 
-    def expect(self, what: str, wanted: Any, found: Any) -> None:
+    def expect(self, what: str, wanted: object, found: object) -> None:
         if wanted == found:
             self.passed += 1
         else:

@@ -10,7 +10,7 @@ import collections
 import errno
 import os
 import subprocess
-from typing import Any, Counter, Dict, List, Optional, Set, Tuple, Union
+from typing import Counter, Dict, Iterable, List, Optional, Set, Tuple, Union
 
 from tools.checks import crash
 from tools.checks.outside import fault, some_of
@@ -99,7 +99,7 @@ class Script:
             if end.status not in (0, 1) or calls[:len(end.disk_calls())] != end.disk_calls():
                 raise Wrong("a beginning of the script ends with status %d, or makes other calls" % end.status)
 
-    def failed_line(self, kind: str, number: int) -> Any:
+    def failed_line(self, kind: str, number: int) -> int:
         """The number of the line, from 1, in which this call is made; 0 before the first one."""
         return next(at for at, end in enumerate(self.ends) if end.counts[kind] >= number)
 
@@ -111,7 +111,7 @@ class Script:
 
     # ---- one failing call
 
-    def outcome(self, kind: str, number: int) -> Any:
+    def outcome(self, kind: str, number: int) -> str:
         """What the image was left as, if the call of this kind and number fails; Wrong if it mustn't be."""
         faults = fault(kind, number, errno.ENOMEM if kind == "memory" else errno.EIO)
         if kind == TORN:
@@ -123,12 +123,12 @@ class Script:
             return self.after_source(ended)
         return self.after_others(ended, kind)
 
-    def after_source(self, ended: Ended) -> Any:
+    def after_source(self, ended: Ended) -> str:
         if (ended.status, ended.text) != (5, b"") or ended.image is not self.image or any(call[0] == "open" for call in ended.calls):
             raise Wrong("status %d, text %r; nothing may be opened, written or changed" % (ended.status, ended.text[:80]))
         return UNTOUCHED
 
-    def after_others(self, ended: Ended, kind: str) -> Any:
+    def after_others(self, ended: Ended, kind: str) -> str:
         """Some lines were done, a part of their text was written, and nothing is pending."""
         wanted = (STATUS[kind],) if kind in STATUS else (7, self.whole.status)
         if ended.status not in wanted:
@@ -226,7 +226,7 @@ def spared_sectors(state: State, c: Command) -> Dict[str, Union[List[int], Set[i
     return found
 
 
-def spared_by_compact(state: State) -> Any:
+def spared_by_compact(state: State) -> Dict[str, Iterable[int]]:
     """On a new map all but the map, holes and what may move; of an old map nothing is promised but lost space."""
     found = {"lost space, or identifier 1": state.idle_sectors() - map_sectors(state), "the boot block": boot_sectors(state)}
     if state.is_new:
@@ -235,7 +235,7 @@ def spared_by_compact(state: State) -> Any:
     return found
 
 
-def compact_outcome(before: Any, image: bytes) -> Any:
+def compact_outcome(before: State, image: bytes) -> str:
     if not before.is_new:
         return OLD_COMPACT
     if crash.objects(image) != crash.objects(before.data):
@@ -246,7 +246,7 @@ def compact_outcome(before: Any, image: bytes) -> Any:
 # ---- all calls of a script
 
 
-def each_call(script: Script, each: int, counts: Counter[Any]) -> str:
+def each_call(script: Script, each: int, counts: Counter[Tuple[str, str]]) -> str:
     """Lets calls of each kind fail in turn: the first thing that is wrong, in words; `counts` gets each outcome."""
     for kind in KINDS:
         count = script.whole.counts["pwrite" if kind == TORN else kind]

@@ -15,7 +15,8 @@ import signal
 import subprocess
 import sys
 import tempfile
-from typing import Any, Dict, Iterator, List, Optional, Tuple
+from types import ModuleType
+from typing import TYPE_CHECKING, Callable, Collection, Dict, Iterable, Iterator, List, Optional, Sequence, Tuple, TypeVar, Union
 
 from tools.checks import (examples, fcdisc_backups, fcdisc_cases, fcdisc_changes, fcdisc_collections, fcdisc_everyday,
                           fcdisc_exchange)
@@ -23,9 +24,14 @@ from tools.checks.selection import Suite, shortened
 from tools.checks.work_folders import fill, snapshot, wait_for
 from tools.files import TOP
 from tools.images import damaged, table
-from tools.images.volumes import Directory
+from tools.images.volumes import AnyVolume, Directory, Entry
 from tools.reference.filecore import folded, spelled
 
+if TYPE_CHECKING:
+    from fcdisc_lib.output import Folder, Inode
+
+Row = Tuple[str, str, str, int, str]  # of `list`: the kind's first word, size, access, depth and name
+Subject = TypeVar("Subject")
 LONGEST = 255
 FCDISC = os.path.join(TOP, "scripts", "fcdisc")
 
@@ -55,7 +61,7 @@ class Checks:
         os.mkdir(self.place(name))
         return self.place(name)
 
-    def run(self, words: List[str], fcore: Optional[str] = None, within: Optional[str] = None) -> Optional[Tuple[str, str, int]]:
+    def run(self, words: List[str], fcore: Optional[str] = None, within: Optional[str] = None) -> Tuple[str, str, int]:
         command = [self.fcdisc, *words]
         if within:
             command = ["bash", "-c", within, "bash", *command]
@@ -66,7 +72,7 @@ class Checks:
     def environment(self, fcore: Optional[str] = None) -> Dict[str, str]:
         return {**os.environ, "FCORE": fcore or self.fcore, "COLUMNS": "80", "LC_ALL": "C.UTF-8"}
 
-    def expect(self, name: str, **pairs: Tuple[Any, Any]) -> None:
+    def expect(self, name: str, **pairs: Tuple[object, object]) -> None:
         """Each pair is what was wanted and what came."""
         wrong = [key for key, (wanted, got) in pairs.items() if wanted != got]
         self.suite.note(name, [line for key in wrong for line in (
@@ -94,7 +100,7 @@ def texts(wanted: str, got: str) -> Tuple[str, str]:
 # ---- discs that are accepted
 
 
-def host_name(entry: Any) -> Any:
+def host_name(entry: Entry) -> bytes:
     """A name on the host, as fcdisc(1) says, for the names of tools/images/table.py."""
     base = "".join("." if byte == 47 else "%%%02X" % byte if 127 <= byte < 160 or byte in b'.%\\:*?"<>|' else chr(byte)
                    for byte in entry.name).encode()
@@ -104,14 +110,14 @@ def host_name(entry: Any) -> Any:
     return base[:LONGEST - len(suffix)] + suffix
 
 
-def kind_of(entry: Any) -> str:
+def kind_of(entry: Entry) -> str:
     """A file's type, or its load and exec words."""
     if entry.load >> 20 == 0xFFF:
         return "%03x" % (entry.load >> 8 & 0xFFF)
     return "%08x-%08x" % (entry.load, entry.execution)
 
 
-def host_tree(volume: Any, holder: Directory, place: Any) -> Any:
+def host_tree(volume: AnyVolume, holder: Directory, place: bytes) -> Tuple[Dict[bytes, Optional[bytes]], Dict[bytes, int]]:
     """What has to stand in a folder after `extract`, and the times of files with a type."""
     left, times = {place: None}, {}
     for entry in holder.entries:
@@ -128,8 +134,8 @@ def host_tree(volume: Any, holder: Directory, place: Any) -> Any:
     return left, times
 
 
-def list_rows(holder: Directory, depth: int = 0) -> Iterator[Any]:
-    """The rows of `list`: the kind's first word, size, access, depth and name."""
+def list_rows(holder: Directory, depth: int = 0) -> Iterator[Row]:
+    """The rows of `list`."""
     for entry in sorted(holder.entries, key=lambda one: folded(one.name)):
         bits = entry.attributes
         access = "".join(letter for bit, letter in ((4, "L"), (2, "W"), (1, "R")) if bits & bit) + "/"
@@ -141,12 +147,12 @@ def list_rows(holder: Directory, depth: int = 0) -> Iterator[Any]:
             yield kind_of(entry), str(len(entry.data)), access, depth, spelled(entry.name)
 
 
-def read_row(line: Any) -> Any:
+def read_row(line: str) -> Union[Row, str]:
     found = re.fullmatch(r"(.{17}) (.{10})  (.{6})  .{16}  ((?: {2})*)(\S+)", line)
     return (found[1].split()[0], found[2].strip(), found[3].strip(), len(found[4]) // 2, found[5]) if found else line
 
 
-def accepted_disc(checks: Checks, name: Any, volume: Any) -> None:
+def accepted_disc(checks: Checks, name: str, volume: AnyVolume) -> None:
     """All jobs over a disc, compared with its description."""
     path = fcdisc_cases.image(name + ".adf")
     long_names = sum(len(entry.name) > 245 for directory in volume.directories() for entry in directory.entries)
@@ -166,7 +172,7 @@ def accepted_disc(checks: Checks, name: Any, volume: Any) -> None:
 # ---- all images at once
 
 
-def found_lines() -> Iterator[Any]:
+def found_lines() -> Iterator[Tuple[str, str]]:
     """What `check` has to say of the images that aren't damaged: a beginning, by their names."""
     refused = {name for name, data, line in damaged.damaged()}
     for name, volume, data in table.accepted():
@@ -176,7 +182,7 @@ def found_lines() -> Iterator[Any]:
                 counted[0], "s" * (counted[0] != 1), counted[1], "y" if counted[1] == 1 else "ies", sum(volume.hole_lengths()))
 
 
-def folder_of_images(checks: Checks, files: Any) -> None:
+def folder_of_images(checks: Checks, files: Collection[str]) -> None:
     """One `check` of the folder: a line for each image, with the fault that the table says."""
     out, err, status = checks.run(["check", "../images"])
     lines = dict(line[len("../images/"):].split(": ", 1) for line in out.splitlines() if line.startswith("../images/"))
@@ -201,7 +207,7 @@ EXAMPLE_IMAGES = {b"f-user.adf": "f-user.adf", b"d-twin.adf": "d-twin.adf", b"ol
                   **{name: name.decode() for name in (b"named.adf", b"hello.adf", b"e-plus-grown.adf")}}
 
 
-def examples_of(page: str) -> Any:
+def examples_of(page: str) -> Iterator[Tuple[str, List[str]]]:
     """The literal text of a page of mdoc, indented as readme_examples.py wants it."""
     with open(page) as file:
         blocks = re.findall(r"^\.Bd -literal.*?\n(.*?)^\.Ed", file.read(), re.DOTALL | re.MULTILINE)
@@ -224,12 +230,12 @@ def page_examples(checks: Checks, page: str) -> None:
 # ---- names alone
 
 
-def random_name(source: Any) -> bytes:
+def random_name(source: random.Random) -> bytes:
     common = b",./%ffb-0" if source.random() < 0.5 else bytes(range(32, 256))
     return bytes(source.choice(common) for _ in range(source.choice((1, 2, 3, 4, 5, 12, 30))))
 
 
-def name_is_kept(names: Any, source: Any) -> bool:
+def name_is_kept(names: ModuleType, source: random.Random) -> bool:
     """Whether a random name comes back from the host, and can't lead out of its folder."""
     name, is_directory = random_name(source), source.random() < 0.3
     load = source.choice((0xFFF00000 | source.randrange(1 << 20), source.randrange(1 << 32)))
@@ -243,7 +249,7 @@ def name_is_kept(names: Any, source: Any) -> bool:
             and names.spelled(name) == spelled(name))
 
 
-def fits(names: Any, source: Any) -> Any:
+def fits(names: ModuleType, source: random.Random) -> bool:
     """Whether a shortened name has room, and others of that name differ from it."""
     name, limit = random_name(source) * 9, source.randrange(40, 256)
     found = [names.fitted_name(name, b",fff", limit, number) for number in (1, 2, 3, 10)]
@@ -277,7 +283,7 @@ def publish_without_links(checks: Checks) -> None:
     """On a host without hard links a file gets its name all the same, and doesn't replace another."""
     from fcdisc_lib import output
 
-    def no_link(*_: Any, **__: Any) -> None:
+    def no_link(*_: object, **__: object) -> None:
         raise PermissionError(1, "no links here")
 
     made, link = checks.fresh(b"work"), os.link
@@ -310,25 +316,25 @@ def unread_copy(checks: Checks) -> None:
 # ---- a host that takes capitals for small letters
 
 
-def folding_folder(number: int) -> Any:
+def folding_folder(number: int) -> Folder:
     """The open folder as on such a host: every name is used in small letters."""
     from fcdisc_lib import output
 
     class FoldingFolder(output.Folder):
 
-        def inode(self, name: Any) -> Any:
+        def inode(self, name: bytes) -> Inode:
             return super().inode(small(name))
 
-        def is_folder(self, name: Any) -> Any:
+        def is_folder(self, name: bytes) -> bool:
             return super().is_folder(small(name))
 
-        def make(self, name: Any) -> None:
+        def make(self, name: bytes) -> None:
             super().make(small(name))
 
-        def publish(self, temporary: Any, name: Any) -> None:
+        def publish(self, temporary: bytes, name: bytes) -> None:
             super().publish(temporary, small(name))
 
-        def below(self, names: Any) -> Any:
+        def below(self, names: Sequence[bytes]) -> FoldingFolder:
             return super().below(list(map(small, names)))
 
     return FoldingFolder(number)
@@ -357,7 +363,7 @@ def folding_host(checks: Checks) -> None:
                   told=(2, len(told)))
 
 
-def small(name: Any) -> Any:
+def small(name: bytes) -> bytes:
     return name.decode().lower().encode()
 
 
@@ -451,7 +457,7 @@ def changing(suite: Suite, fcore: str) -> None:
         fcdisc_changes.run_parts(checks, can_mount())
 
 
-def run_parts(checks: Checks, subject: Any, parts: Any) -> None:
+def run_parts(checks: Checks, subject: Subject, parts: Iterable[Callable[[Subject], None]]) -> None:
     for part in parts:
         if checks.suite.wants(part.__name__):
             part(subject)

@@ -8,8 +8,9 @@ import shutil
 import signal
 import subprocess
 import time
-from typing import Any
+from typing import List, Tuple
 
+from tools.checks.fcdisc_changes import Changes
 from tools.checks.fcdisc_hosts import on_host
 from tools.checks.work_folders import wait_for
 from tools.files import read
@@ -17,12 +18,12 @@ from tools.files import read
 NOTE = {"note": b"Hello"}
 
 
-def make(c: Any, name: Any) -> Any:
+def make(c: Changes, name: str) -> Tuple[str, str, int]:
     """A job that changes the disc."""
     return c.run("mkdir", "a.adf", name)
 
 
-def first_state(c: Any) -> None:
+def first_state(c: Changes) -> None:
     """IMAGE~ stays through many changes, and undo brings it back."""
     first = c.start()
     for name in "EFG":
@@ -41,7 +42,7 @@ def first_state(c: Any) -> None:
               "a.adf: it was changed since undo: its state before that is a.adf~")
 
 
-def each_state(c: Any) -> None:
+def each_state(c: Changes) -> None:
     states = [c.start()]
     for name in "EFG":
         c.run("mkdir", "--backup", "each", "a.adf", name)
@@ -50,7 +51,7 @@ def each_state(c: Any) -> None:
                     states=(True, [read(c.at("a.adf~%d~" % at)) for at in (1, 2, 3)] == states[:3]))
 
 
-def unfit_backups(c: Any) -> None:
+def unfit_backups(c: Changes) -> None:
     """What can't be an earlier state of the image isn't taken for one, and isn't replaced."""
     c.start(files={"a.adf~": b"an editor's"})
     c.refused("a file of the backup's name", ["mkdir", "a.adf", "E"], "a.adf~: it has another length than the image, so it is no "
@@ -63,7 +64,7 @@ def unfit_backups(c: Any) -> None:
     c.refused("undo by a link", ["undo", "a.adf"], "a.adf: there is no a.adf~, so there is nothing to undo")
 
 
-def undo_troubles(c: Any) -> None:
+def undo_troubles(c: Changes) -> None:
     c.start(files={"a.adf~": b"older"})
     with open(c.at("a.adf"), "rb") as other:
         fcntl.flock(other, fcntl.LOCK_EX)
@@ -80,7 +81,7 @@ def undo_troubles(c: Any) -> None:
                         temporary=([], [name for name in c.names() if name.endswith(".tmp")]))
 
 
-def leftovers(c: Any) -> None:
+def leftovers(c: Changes) -> None:
     """What a killed job left is gone after the next one, unless somebody has it locked; nothing else is touched."""
     kept = {".fcdisc-x.tmpx": b"mine", "fcdisc-1.tmp": b"mine", ".fcdisc-locked-1.tmp": b"in use"}
     c.start(files={".fcdisc-0011-1.tmp": b"dead", **kept})
@@ -109,14 +110,14 @@ runpy.run_path(sys.argv[0], run_name="__main__")
 """
 
 
-def killed(c: Any) -> None:
+def killed(c: Changes) -> None:
     """kill -9 while the changed copy is written, or a file: image and names stay, and the next job clears away what is left."""
     for words, after in ((["mkdir", "a.adf", "E"], ["mkdir", "a.adf", "F"]), (["extract", "a.adf", "o"], ["extract", "a.adf", "o"])):
         before = c.start(files={"slow.py": SLOW_WRITE.encode()})
         run = subprocess.Popen(["python3", "slow.py", c.checks.fcdisc, *words], cwd=c.work, env=c.checks.environment(),
                                stdout=subprocess.DEVNULL)
 
-        def there() -> Any:
+        def there() -> List[bytes]:
             return [name for folder, _, names in os.walk(c.work) for name in names if name.endswith(b".tmp")]
         wait_for(there)
         second = c.run(*after)  # it doesn't touch what is in use
@@ -128,7 +129,7 @@ def killed(c: Any) -> None:
         c.checks.expect("%s after a kill" % words[0], left=([], there()), status=(0, third[2]))
 
 
-def early(c: Any) -> None:
+def early(c: Changes) -> None:
     """An interrupt while the program starts: it ends by the signal and says nothing."""
     c.start()
     for delay in (0.03, 0.06, 0.1, 0.15):
@@ -142,7 +143,7 @@ def early(c: Any) -> None:
         c.checks.expect("interrupted after %.2f s" % delay, result=((b"", b"", -signal.SIGINT), (out, errors, run.returncode)))
 
 
-def at_script(pid: Any) -> Any:
+def at_script(pid: int) -> bool:
     """Whether Python itself has started: it then doesn't catch an interrupt by its own handler any more."""
     with open("/proc/%d/status" % pid) as file:
         masks = dict(line.split(":", 1) for line in file.read().splitlines())
@@ -152,7 +153,7 @@ def at_script(pid: Any) -> Any:
     return python and os.path.exists("/proc/%d/fd" % pid) and (caught == 0 or bool(caught >> 14 & 1))
 
 
-def read_only_folder(c: Any) -> None:
+def read_only_folder(c: Changes) -> None:
     """A folder on a host that is only read."""
     c.start(files=NOTE)
     within = ("mkdir ../room; unshare -m sh -c 'mount --bind . ../room && cd ../room && mount -o remount,bind,ro . && cd \"$PWD\" && "
@@ -161,7 +162,7 @@ def read_only_folder(c: Any) -> None:
     c.refused("new on a host that is only read", ["new", "E", "n.adf"], "n.adf: Read-only file system", within=within)
 
 
-def fresh_names(c: Any) -> None:
+def fresh_names(c: Changes) -> None:
     """`new` and `convert` leave nothing where fcore makes the disc."""
     c.start()
     place = os.fsdecode(c.checks.fresh(b"tmp"))

@@ -6,7 +6,7 @@ Each case runs in a fresh folder `work` beside the folder `images`. Host names a
 from __future__ import annotations
 
 import gzip
-from typing import Any, Dict, Iterator, List, Optional, Union
+from typing import Dict, Iterator, List, Optional, Union
 
 from tools.images.volumes import NewVolume, OldVolume, fresh_e
 
@@ -337,7 +337,7 @@ def checking() -> Iterator[Case]:
 # ---- orders and headers
 
 
-def found_out() -> Iterator[Any]:
+def found_out() -> Iterator[Case]:
     whole = ('whole: L disc "OldDisc", boot option Exec: 62 files, 5 directories, 520704 bytes free, newest file of 1924-07-01; '
              "3072 bytes that nothing owns; 1 directory out of order; 1 directory with a wrong parent\n")
     yield Case("sides-adl", ["check", image("sides.adl")], "../images/sides.adl: " + whole, told("sides.adl", SIDES))
@@ -363,7 +363,7 @@ def found_out() -> Iterator[Any]:
 # ---- new, adl, strip
 
 
-def making(files: Dict[str, bytearray], extra: Dict[str, bytes]) -> Iterator[Any]:
+def making(files: Dict[str, bytearray], extra: Dict[str, bytes]) -> Iterator[Case]:
     for form in ("E", "F", "D", "L", "E+", "F+"):
         yield Case("new-" + form, ["new", form, "x.adf"], left={b"x.adf": bytes(files["fresh-%s.adf" % form])})
     yield Case("new-lower", ["new", "e+", "x.adf"], left={b"x.adf": bytes(files["fresh-E+.adf"])})
@@ -394,7 +394,7 @@ def making(files: Dict[str, bytearray], extra: Dict[str, bytes]) -> Iterator[Any
                before={b"x": bytes(512)})
 
 
-def interleaved_back(image: bytearray) -> Any:
+def interleaved_back(image: bytes) -> bytes:
     """What becomes of an image in disc order that is taken for an interleaved one."""
     tracks = [image[at:at + TRACK] for at in range(0, len(image), TRACK)]
     return b"".join(tracks[0::2] + tracks[1::2])
@@ -403,7 +403,7 @@ def interleaved_back(image: bytearray) -> Any:
 # ---- words
 
 
-def words() -> Iterator[Any]:
+def words() -> Iterator[Case]:
     for at, one in enumerate((["lst", "x"], [], ["list"], ["get", "x"], ["extract", "x"], ["check"], ["new", "E"],
                               ["new", "G", "x"],
                               ["adl", "x"], ["strip", "x"], ["list", "--order", "x", "y"], ["list", "a", "b", "c"],
@@ -435,7 +435,7 @@ esac
 """
 
 
-def other_programs() -> Iterator[Any]:
+def other_programs() -> Iterator[Case]:
     hello = image("hello.adf")
     for name, program, error in (
             ("fails-on-image", "#!/bin/sh\ncat > /dev/null; exit 4\n", "I/O error while fcore read it"),

@@ -13,25 +13,27 @@ import shutil
 import signal
 import stat
 import subprocess
-from typing import TYPE_CHECKING, Any, Dict, Iterator, List, Optional, Tuple, Union
+from typing import TYPE_CHECKING, Dict, Iterable, Iterator, List, Mapping, Optional, Tuple, Union
 
 from tools.checks import fcdisc_cases
 from tools.checks.fcdisc_hosts import on_host
 from tools.checks.work_folders import wait_for
 from tools.files import read
 from tools.images import table
+from tools.images.volumes import Volume
 from tools.reference.change_state import State
 from tools.reference.filecore import NOT_SPELLED, spelled_path
 
 if TYPE_CHECKING:
     from tools.checks.fcdisc import Checks
 
+Node = Tuple[int, int, int, Optional[bytes]]  # attributes, words, and bytes; None for a directory
 SETTABLE = 15
 LOST = "lost what others than the owner may do: fcore can't set that"
 
 
-def tree_of(data: bytes) -> Dict[Tuple[bytes, ...], Tuple[int, int, int, Optional[bytes]]]:
-    """Each object of an image: its attributes, words and bytes, None for a directory's."""
+def tree_of(data: bytes) -> Dict[Tuple[bytes, ...], Node]:
+    """Each object of an image."""
     state = State(data)
     return {tuple(entry.path): (entry.attributes, entry.load, entry.execution,
                                 None if entry.is_directory() else bytes(state.content(entry)))
@@ -51,7 +53,7 @@ class Changes:
 
     # a disc in the work folder
 
-    def start(self, name: str = "named.adf", image: str = "a.adf", files: Optional[Dict[str, bytes]] = None) -> bytes:
+    def start(self, name: str = "named.adf", image: str = "a.adf", files: Optional[Mapping[str, Optional[bytes]]] = None) -> bytes:
         """A fresh work folder with a copy of an image, and files of the host by name."""
         self.work = self.checks.fresh(b"work")
         shutil.copy(self.checks.place(b"images/" + os.fsencode(name)), self.at(image))
@@ -67,10 +69,10 @@ class Changes:
     def at(self, name: str) -> bytes:
         return os.path.join(self.work, os.fsencode(name))
 
-    def run(self, *words: str, fcore: Optional[str] = None, within: Any = None) -> Optional[Tuple[str, str, int]]:
+    def run(self, *words: str, fcore: Optional[str] = None, within: Optional[str] = None) -> Tuple[str, str, int]:
         return self.checks.run(list(words), fcore, within)
 
-    def fake(self, text: Any) -> str:
+    def fake(self, text: str) -> str:
         """A program in fcore's place."""
         path = os.path.join(self.checks.fresh(b"fake"), b"fcore")
         with open(path, "w") as file:
@@ -82,7 +84,7 @@ class Changes:
         return sorted(map(os.fsdecode, os.listdir(self.work)))
 
     def good(self, name: str, words: List[str], tree: Dict[str, Union[Tuple[int, bytes], int]], out: str = "", image: str = "a.adf",
-             **more: Any) -> None:
+             **more: Optional[str]) -> None:
         """A job that does all: the tree afterwards, and the image as it was before the first change beside it."""
         before, first = self.both(image)
         got = self.run(*words, **more)
@@ -91,7 +93,7 @@ class Changes:
                            backup=(True, backup == self.both(image)[1]))
 
     def refused(self, name: str, words: List[str], error: str, status: int = 1, out: str = "", image: str = "a.adf", notes: int = 0,
-                **more: Any) -> None:
+                **more: Optional[str]) -> None:
         """A job that does nothing: image and folder stay as they were. `notes`: lines that may come before the error."""
         before, names = self.both(image), self.names()
         got = self.run(*words, **more)
@@ -103,7 +105,7 @@ class Changes:
         self.checks.expect(name, result=((out, error, status), got), same=(True, self.both(image) == before),
                            left=(names, self.names()))
 
-    def both(self, image: str) -> List[bytes]:
+    def both(self, image: str) -> List[Optional[bytes]]:
         """The image, and what is kept beside it."""
         return [read(self.at(name)) if os.path.isfile(self.at(name)) else None for name in (image, image + "~")]
 
@@ -450,24 +452,24 @@ def signals(c: Changes) -> None:
 # ---- whole discs
 
 
-def is_writable(path: Any, big: bool, seven: bool = False) -> Any:
+def is_writable(path: Iterable[bytes], big: bool, seven: bool = False) -> bool:
     return all(len(name) <= (255 if big else 10) and not any(
         byte <= 32 or byte == 127 or byte in NOT_SPELLED or seven and byte > 126 for byte in name) for name in path)
 
 
-def wanted_tree(tree: Dict[str, Union[Tuple[int, bytes], int]], form: str) -> Any:
+def wanted_tree(tree: Dict[Tuple[bytes, ...], Node], form: str) -> Dict[Tuple[bytes, ...], Node]:
     """What of a tree can be on a disc of that format, with the attributes that can be set."""
     return {path: (node[0] & SETTABLE, *node[1:]) for path, node in tree.items()
             if is_writable(path, form.endswith("+"), form == "L")}
 
 
-def own_format(data: bytes, volume: Any) -> Any:
+def own_format(data: bytes, volume: Optional[Volume]) -> str:
     """The format of a fresh disc like this one."""
     big = "+" * (getattr(volume, "big", False) is True)
     return {819200: "E", 1638400: "F", 655360: "L"}.get(len(data), "F") + big
 
 
-def round_trip(c: Changes, name: str, data: bytes, forms: Any) -> None:
+def round_trip(c: Changes, name: str, data: bytes, forms: Iterable[str]) -> None:
     """`extract`, and `add` to fresh discs; and `convert`."""
     tree, checks = tree_of(data), c.checks
     loses = any(node[0] & ~SETTABLE for node in tree.values())
@@ -506,7 +508,7 @@ def kept_words(c: Changes) -> None:
                     time=(True, other[2] != 0x5A5A5A5A), content=(b"| boots\nmore", other[3]))
 
 
-def differing(wanted: Any, found: Any) -> Any:
+def differing(wanted: Dict[Tuple[bytes, ...], Node], found: Dict[Tuple[bytes, ...], Node]) -> List[Tuple[object, ...]]:
     """The first objects that aren't alike, without their bytes."""
     paths = [path for path in {**wanted, **found} if wanted.get(path) != found.get(path)]
     return [(path, wanted.get(path, ())[:3], found.get(path, ())[:3]) for path in paths[:5]]
@@ -539,7 +541,7 @@ def run_rounds(checks: Checks) -> None:
             round_trip(c, name, data, (own_format(data, volume), "F+"))
 
 
-def whole_discs(checks: Checks) -> Iterator[Any]:
+def whole_discs(checks: Checks) -> Iterator[Tuple[str, Optional[Volume], bytes]]:
     """The discs of the table that differ in more than their maps: name, volume, image."""
     seen = []
     discs = [(name, volume, data) for name, volume, data in table.accepted() if len(data) < 2000000]

@@ -10,7 +10,7 @@ import os
 import re
 import signal
 import subprocess
-from typing import TYPE_CHECKING, Any, Dict, List
+from typing import TYPE_CHECKING, Dict, List, Sequence, Set, Tuple
 
 from tools.checks import fcdisc_cases
 from tools.checks.fcdisc_hosts import on_host
@@ -18,6 +18,7 @@ from tools.checks.work_folders import fill, snapshot, wait_for
 from tools.files import read
 from tools.reference.change_state import State
 from tools.reference.filecore import spelled_path
+from tools.reference.read_image import Entry
 
 if TYPE_CHECKING:
     from tools.checks.fcdisc import Checks
@@ -32,7 +33,7 @@ BEGINNINGS = {
 DFS = b"TITLE   " + b"PROG   $" + bytes(240) + b"    \1\10\3\x20" + bytes(248)
 
 
-def half_check(half: Any) -> Any:
+def half_check(half: bytearray) -> int:
     total = 255
     for byte in reversed(half):
         if total > 255:
@@ -41,7 +42,7 @@ def half_check(half: Any) -> Any:
     return total & 0xFF
 
 
-def old_hard_disc() -> Any:
+def old_hard_disc() -> bytes:
     """The map of a hard disc of 20 MB with an old map."""
     first = bytearray(255)
     first[252:255] = (80000).to_bytes(3, "little")
@@ -49,11 +50,11 @@ def old_hard_disc() -> Any:
     return b"".join(bytes(half) + bytes((half_check(half),)) for half in (first, second)) + bytes(2048)
 
 
-def user_image(checks: Checks) -> Any:
+def user_image(checks: Checks) -> bytes:
     return read(checks.place(b"images/f-user.adf"))
 
 
-def collection(checks: Checks) -> Any:
+def collection(checks: Checks) -> bytes:
     """A keeper's folder: discs, damaged ones, what isn't a disc, what fcdisc leaves, links and pipes."""
     work = checks.fresh(b"work")
     user, named, twin = (read(checks.place(b"images/" + name)) for name in (b"f-user.adf", b"named.adf", b"d-twin.adf"))
@@ -174,7 +175,7 @@ def equal_tracks(checks: Checks) -> None:
                                                          "\nWhat to do about tracks of equal bytes: " in out))
 
 
-def used_track(checks: Checks, name: Any, image: Any, track: Any) -> Any:
+def used_track(checks: Checks, name: bytes, image: bytes, track: int) -> Tuple[int, List[str]]:
     """A track that holds nothing but files' bytes, by the volume that made the image; and the files that have bytes there."""
     state = State(image)
     taken = {}
@@ -195,13 +196,13 @@ def used_track(checks: Checks, name: Any, image: Any, track: Any) -> Any:
     raise AssertionError(name)
 
 
-def sectors_of(image: Any, state: Any, entry: Any) -> Any:
+def sectors_of(image: bytes, state: State, entry: Entry) -> Sequence[int]:
     content = bytes(state.content(entry))[:256]
     at = image.find(content)
     return range(at, at + len(state.content(entry)), 256) if at >= 0 else ()
 
 
-def changed(one: Any, other: Any) -> Any:
+def changed(one: State, other: State) -> Set[str]:
     """Files that are other in the second."""
     found = set()
     for key, entry in one.objects.items():

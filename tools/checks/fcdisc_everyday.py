@@ -7,10 +7,9 @@ import os
 import re
 import signal
 import subprocess
-from typing import Any
 
 from tools.checks import fcdisc_cases
-from tools.checks.fcdisc_changes import NAMED, SLOW, tree_of
+from tools.checks.fcdisc_changes import NAMED, SLOW, Changes, tree_of
 from tools.checks.work_folders import snapshot, wait_for
 from tools.files import TOP, read
 
@@ -18,14 +17,14 @@ LETTERS = {"o/" + name: name.encode() for name in ("Abc", "Abd", "Bcd", "caf\u00
 TREE = {"$.Abc": (3, b"Abc"), "$.Abd": (3, b"Abd"), "$.Bcd": (3, b"Bcd"), "$.caf%E9": (3, "caf\u00e9".encode()), "$.x1": (3, b"x1"), "$.x22": (3, b"x22")}
 
 
-def lettered(c: Any) -> None:
+def lettered(c: Changes) -> None:
     c.start("fresh-F.adf", files=LETTERS)
     c.run("add", "a.adf", "o")
     c.run("undo", "a.adf")
     c.run("add", "a.adf", "o")
 
 
-def wildcards(c: Any) -> None:
+def wildcards(c: Changes) -> None:
     """`*` and `#` in every job that takes a path of what is there."""
     lettered(c)
     out, err, status = c.run("list", "a.adf", "Ab*")
@@ -54,7 +53,7 @@ def wildcards(c: Any) -> None:
     c.checks.expect("a star in a name", names=(["%2A?%22<>%7C"], [line.split()[-1] for line in out.splitlines()[:-1]]))
 
 
-def several(c: Any) -> None:
+def several(c: Changes) -> None:
     """Several files in `put` and `get`."""
     lettered(c)
     c.run("mkdir", "a.adf", "New")
@@ -83,7 +82,7 @@ def several(c: Any) -> None:
     c.checks.expect("short words", words=((0x8000, 0x8023), tree_of(read(c.at("a.adf")))[(b"Code",)][1:3]))
 
 
-def directories(c: Any) -> None:
+def directories(c: Changes) -> None:
     c.start()
     c.good("mkdir -p", ["mkdir", "-p", "a.adf", "D.E.F", "G.H"], {**NAMED, "$.D.E": 0, "$.D.E.F": 0, "$.G": 0, "$.G.H": 0})
     c.checks.expect("mkdir -p again", result=(("", "", 0), c.run("mkdir", "-p", "a.adf", "d.e.f")))
@@ -91,7 +90,7 @@ def directories(c: Any) -> None:
     c.checks.expect("mkdir -p below a file", status=(1, got[2]))
 
 
-def copies(c: Any) -> None:
+def copies(c: Changes) -> None:
     """cp keeps words and access, and replaces nothing."""
     c.start()
     c.run("access", "a.adf", "LR", "A B")
@@ -108,7 +107,7 @@ def copies(c: Any) -> None:
     c.refused("cp to nowhere", ["cp", "a.adf", "Ab", "x.y"], "a.adf: $.x.y: not copied: there is no directory for it on the disc")
 
 
-def words(c: Any) -> None:
+def words(c: Changes) -> None:
     """Other names of jobs, the version, JSON, letters of the command line."""
     c.start("f-user.adf")
     c.checks.expect("ls", same=(c.run("list", "a.adf"), c.run("ls", "a.adf")))
@@ -125,7 +124,7 @@ def words(c: Any) -> None:
     c.checks.expect("letters in another locale", result=(("file 9", "", 0), (out, err, status)))
 
 
-def completion(c: Any) -> None:
+def completion(c: Changes) -> None:
     """What bash offers."""
     script = os.path.join(TOP, "scripts", "completion", "fcdisc.bash")
     c.start()
@@ -144,7 +143,7 @@ def completion(c: Any) -> None:
 RECLAIM = '#!/bin/sh\ncase "$*" in *read-only*) exec FCORE "$@";; esac\ncat > /dev/null\n%s\n'
 
 
-def reclaiming(c: Any) -> None:
+def reclaiming(c: Changes) -> None:
     """What comes of fcore's answers; the command itself is checked where fcore is."""
     for answer, result in (("exit 9", ("", "fcdisc: a.adf: this fcore can't do that: it isn't built in: nothing was changed\n", 1)),
                            ("echo reclaimed 3072; echo ok", ("a.adf: 3072 bytes given back\n", "", 0)),
@@ -156,7 +155,7 @@ def reclaiming(c: Any) -> None:
         c.checks.expect("reclaim: " + answer, result=(result, got), left=(kept, c.names()), same=(True, read(c.at("a.adf")) == before))
 
 
-def interrupted_jobs(c: Any) -> None:
+def interrupted_jobs(c: Changes) -> None:
     """Signals and kills of the newer jobs that change a disc: the image stays as it was, and nothing is left."""
     for words in (["cp", "a.adf", "Ab", "N"], ["put", "a.adf", "note", "note2", "D"], ["add", "--fit", "a.adf", "o"], ["mkdir", "-p", "a.adf", "x.y"],
                   ["reclaim", "a.adf"]):

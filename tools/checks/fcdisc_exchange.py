@@ -4,10 +4,10 @@ from __future__ import annotations
 
 import struct
 import zipfile
-from typing import Any, Dict, Optional, Tuple
+from typing import Dict, Tuple
 
 from tools.checks.fcdisc_cases import FULL_DISK
-from tools.checks.fcdisc_changes import NAMED, differing, is_writable, short_tree, tree_of
+from tools.checks.fcdisc_changes import NAMED, Changes, Node, differing, is_writable, short_tree, tree_of
 from tools.checks.work_folders import snapshot
 from tools.files import read
 
@@ -17,14 +17,14 @@ RAMFS = ('mkdir -p ../room; unshare -m sh -c \'mount -t ramfs none ../room && cp
 UNKEPT = "lost access, words or time: this host can't keep them; extract --inf or a zip archive does\n"
 
 
-def settable(tree: Dict[Tuple[bytes, ...], Tuple[int, int, int, Optional[bytes]]]) -> Any:
+def settable(tree: Dict[Tuple[bytes, ...], Node]) -> Dict[Tuple[bytes, ...], Node]:
     return {path: (node[0] & SETTABLE, *node[1:]) for path, node in tree.items()}
 
 
 # ---- attributes that a host can't keep
 
 
-def without_attributes(c: Any) -> None:
+def without_attributes(c: Changes) -> None:
     """On a host without extended attributes what is lost is counted; with --inf or into an archive nothing is."""
     c.start("hard-disc.adf")
     lost = sum(needs_keeping(node) for node in tree_of(read(c.at("a.adf"))).values())
@@ -39,7 +39,7 @@ def without_attributes(c: Any) -> None:
     c.checks.expect("get without attributes", status=(1, status), told=("fcdisc: $.Ab " + UNKEPT, err))
 
 
-def needs_keeping(node: Tuple[int, int, int, Optional[bytes]]) -> bool:
+def needs_keeping(node: Node) -> bool:
     """Whether an object has what a name and a time of the host don't tell: all times since 1970 are told on this host."""
     attributes, load, execution, content = node
     if content is None:
@@ -50,7 +50,7 @@ def needs_keeping(node: Tuple[int, int, int, Optional[bytes]]) -> bool:
 # ---- zip archives
 
 
-def archives(c: Any) -> None:
+def archives(c: Changes) -> None:
     """What an archive holds, and what comes of archives of others."""
     c.start("f-user.adf")
     c.run("access", "a.adf", "LR", "Docs.Note1")
@@ -89,7 +89,7 @@ def archives(c: Any) -> None:
     c.checks.expect("a damaged archive", status=(1, status), told=(True, "x.zip: a/b/deep.txt: " in err or "a/b/deep.txt: not added: the archive is damaged" in err))
 
 
-def latin_names(c: Any) -> None:
+def latin_names(c: Changes) -> None:
     """Names in archives of RISC OS are in Latin 1, without a mark."""
     c.start()
     with zipfile.ZipFile(c.at("x.zip").decode(), "w") as archive:
@@ -103,7 +103,7 @@ def latin_names(c: Any) -> None:
 # ---- .inf files
 
 
-def infs(c: Any) -> None:
+def infs(c: Changes) -> None:
     files = {"o/Prog": b"p", "o/Prog.inf": b"$.PROG FFFF1900 FFFF8023 0000B000 0B\n", "o/two": b"t", "o/two.inf": b"TWO 1900 8023 Locked\r\n",
              "o/six": b"6", "o/six.inf": b"$.SIX FF1900 FF8023 000001 CRC=1234\n", "o/alone.inf": b"no pair", "o/odd": b"o", "o/odd.inf": b"not hex here",
              "o/quoted": b"q", "o/quoted.inf": b'"$.A%%20B" 00000000 00000000 00000001 19\n'.replace(b"%%", b"%"), "o/let": b"l", "o/let.inf": b"LET 0 0 1 WR/r"}
@@ -130,7 +130,7 @@ def infs(c: Any) -> None:
 # ---- round trips
 
 
-def round_trip(c: Any, name: Any, data: bytes) -> None:
+def round_trip(c: Changes, name: str, data: bytes) -> None:
     """`extract` to an archive and with .inf files, and `add` from there: names, types, words, access and bytes are the same."""
     form = {819200: "E+", 655360: "E+"}.get(len(data), "F+")
     tree = tree_of(data)
@@ -151,7 +151,7 @@ def round_trip(c: Any, name: Any, data: bytes) -> None:
 # ---- endings
 
 
-def endings(c: Any) -> None:
+def endings(c: Changes) -> None:
     files = {"o/photo.jpg": b"j", "o/page.HTML": b"h", "o/x.unknown": b"u", "o/Prog,ffb": b"b", "o/noend": b"n"}
     c.start(files=files)
     c.run("add", "--types", "default", "a.adf", "o")
@@ -181,7 +181,7 @@ EVERYDAY = ("My Holiday Photo.jpeg", "Caf\u00e9 menu.txt", "R&D budget (50%).csv
             "report_final_v3.pdf", "\u0101\u010d\u0113.txt", "a*b#c|d\"e$f@g^h", "tab\there", "ok")
 
 
-def fitting(c: Any) -> None:
+def fitting(c: Changes) -> None:
     files = {"o/Long folder name/In here.txt": b"i", **{"o/" + name: name.encode() for name in EVERYDAY}}
     for image, long_names in (("fresh-F.adf", False), ("fresh-E+.adf", True), ("fresh-L.adf", False), ("fresh-D.adf", False)):
         c.start(image, files=files)
@@ -209,7 +209,7 @@ def fitting(c: Any) -> None:
                                                                     "$.A%A0folder~1.A%A0long%A0n~2": (3, b"2")}, short_tree(read(c.at("a.adf")))))
 
 
-def converting_to_fit(c: Any) -> None:
+def converting_to_fit(c: Changes) -> None:
     """A disc with long names onto one with short ones: all files, and a list of names."""
     c.start("hostile.adf")
     before = tree_of(read(c.at("a.adf")))
@@ -227,7 +227,7 @@ def converting_to_fit(c: Any) -> None:
 # ---- many refusals
 
 
-def many_refusals(c: Any) -> None:
+def many_refusals(c: Changes) -> None:
     files = {"o/%03d much too long" % at: b"" for at in range(40)}
     c.start(files=files)
     out, err, status = c.run("add", "a.adf", "o")
@@ -241,7 +241,7 @@ def many_refusals(c: Any) -> None:
     c.checks.expect("what a folder needs", first=("fcdisc: a.adf: the files need 2.7 MB, and the disc has 0.8 MB free", err.splitlines()[0]), status=(1, status))
 
 
-def full_hosts(c: Any) -> None:
+def full_hosts(c: Changes) -> None:
     """A host without room for what is to be written: nothing half-made is left, and the reason is told."""
     for words, size, told, left in (
             (["extract", "../images/f-user.adf", "o.zip"], 8, "fcdisc: o.zip: No space left on device\n", ". ./pad"),
@@ -255,7 +255,7 @@ def full_hosts(c: Any) -> None:
         c.checks.expect("a full host: " + " ".join(words), told=(told, err), status=(1, status), left=(left, out.splitlines()[-1]))
 
 
-def unwritable_hosts(c: Any) -> None:
+def unwritable_hosts(c: Changes) -> None:
     """A host that is only read: what reads works, what writes says why not."""
     c.start("f-user.adf")
     within = ("mkdir ../room; unshare -m sh -c 'mount --bind . ../room && cd ../room && mount -o remount,bind,ro . && cd \"$PWD\" && "

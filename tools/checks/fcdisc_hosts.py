@@ -17,29 +17,30 @@ import os
 import runpy
 import signal
 import sys
-from typing import Any
+from typing import List, Union
 
 from tools.files import TOOLS
 
+Name = Union[str, bytes]
 IMAGE, SEEN = b"a.adf", "../seen"
 
 
 class Host:
     """The calls of the system that give names to files."""
 
-    def __init__(self, kinds: Any) -> None:
+    def __init__(self, kinds: List[str]) -> None:
         self.kinds, self.synced = kinds, set()
         self.system = {"link": os.link, "replace": os.replace, "fsync": os.fsync}
         os.link, os.replace, os.fsync = self.link, self.replace, self.fsync
 
-    def link(self, source: Any, target: Any, **folders: Any) -> None:
+    def link(self, source: Name, target: Name, **folders: int) -> None:
         if "early-signal" in self.kinds:
             os.kill(os.getpid(), signal.SIGTERM)
         if "no-links" in self.kinds:
             raise PermissionError(errno.EPERM, "Operation not permitted")
         self.system["link"](source, target, **folders)
 
-    def replace(self, source: Any, target: Any, **folders: Any) -> None:
+    def replace(self, source: Name, target: Name, **folders: int) -> None:
         found = os.stat(source, dir_fd=folders["src_dir_fd"])
         if "no-links" in self.kinds and found.st_ino not in self.synced:
             note("%s isn't synced" % os.fsdecode(source))
@@ -56,12 +57,12 @@ class Host:
         self.system["fsync"](number)
 
 
-def on_host(host: Any) -> str:
+def on_host(host: str) -> str:
     """The words before those of fcdisc, for a shell."""
     return "exec python3 '%s' checks/fcdisc_hosts %s \"$@\"" % (os.path.join(TOOLS, "run"), host)
 
 
-def digest() -> Any:
+def digest() -> str:
     try:
         with open(IMAGE, "rb") as file:
             return hashlib.sha256(file.read()).hexdigest()
@@ -69,12 +70,12 @@ def digest() -> Any:
         return "no image"
 
 
-def note(text: Any) -> None:
+def note(text: str) -> None:
     with open(SEEN, "a") as file:
         file.write(text + "\n")
 
 
-def main(kinds: Any, fcdisc: Any, *words: Any) -> None:
+def main(kinds: str, fcdisc: str, *words: str) -> None:
     Host(kinds.split(","))
     sys.path.insert(0, os.path.dirname(os.path.realpath(fcdisc)))
     sys.dont_write_bytecode = True

@@ -16,6 +16,7 @@ from tools.files import TOP
 
 SCRIPTS = os.path.join(TOP, "scripts")
 PACKAGE = "fcdisc_lib"
+TYPES_ALONE = ast.dump(ast.Name("TYPE_CHECKING", ast.Load()))  # what is taken under this test isn't there in a run
 
 
 def parts() -> Iterator[Tuple[str, str]]:
@@ -33,8 +34,9 @@ def taken(module: str, path: str) -> Iterator[Tuple[int, str, str]]:
     package = module if path.endswith("__init__.py") else module.rpartition(".")[0]
     with open(path) as file:
         tree = ast.parse(file.read())
+    for_types = {one for node in ast.walk(tree) if isinstance(node, ast.If) and ast.dump(node.test) == TYPES_ALONE for one in node.body}
     for node in ast.walk(tree):
-        if isinstance(node, ast.ImportFrom) and node.level:
+        if isinstance(node, ast.ImportFrom) and node.level and node not in for_types:
             holder = importlib.util.resolve_name("." * node.level + (node.module or ""), package)
             yield from ((node.lineno, holder, alias.name) for alias in node.names)
         if isinstance(node, ast.Call) and isinstance(node.func, ast.Name) and node.func.id == "later":

@@ -21,7 +21,7 @@ import signal
 import subprocess
 import sys
 import tempfile
-from typing import Any, Dict, List, Optional, Tuple, Union
+from typing import Dict, List, Optional, Tuple, Union
 
 from tools.files import TOP, built_shim, compiler, has_compiler, read
 from tools.images.damaged import sized
@@ -86,12 +86,12 @@ class Place:
         for name in ("answer", "errors"):
             write(self.path(name), b"")
 
-    def environment(self, faults: str, root: Any = None) -> Dict[str, str]:
+    def environment(self, faults: str, root: Optional[str] = None) -> Dict[str, str]:
         root = self.root if root is None else root
         return {"LD_PRELOAD": os.path.join(root, "shim.so"), "OUTSIDE_LOG": os.path.join(root, "log"), "OUTSIDE_FAULTS": faults}
 
-    def run(self, words: List[str], script: str = "script", closed: Tuple[Any, ...] = (), faults: str = "",
-            keep: bool = False) -> Optional[Ended]:
+    def run(self, words: List[str], script: str = "script", closed: Tuple[int, ...] = (), faults: str = "",
+            keep: bool = False) -> Ended:
         """A run in the folder, with the streams of these numbers closed, and with these calls disturbed."""
         if not keep:
             self.clear()
@@ -222,7 +222,7 @@ STREAM_WORDS = [
 SUBSETS = [subset for count in range(4) for subset in itertools.combinations(range(3), count)]
 
 
-def wanted_of_closed(words: List[str], script: str, closed: Tuple[Any, ...]) -> Any:
+def wanted_of_closed(words: List[str], script: str, closed: Tuple[int, ...]) -> Tuple[int, str]:
     """Status and what is left of fresh.adf: the words come first, then the script, the image, the replies."""
     if "--unknown" in words:
         return 2, "absent"
@@ -260,7 +260,7 @@ def root_without_dev(place: Place) -> None:
         os.chmod(path, 0o755)
 
 
-def run_in_root(place: Place, words: List[str], script: str, closed: Tuple[Any, ...], nobody: Any) -> Any:
+def run_in_root(place: Place, words: List[str], script: str, closed: Tuple[int, ...], nobody: bool) -> Ended:
     """A run in which the folder is the root, so that there is no /dev. Nobody may not read a folder of the mode 0711."""
     place.clear()
 
@@ -345,7 +345,7 @@ SECTORS = [
 ]
 
 
-def counts(ended: Ended) -> Any:
+def counts(ended: Ended) -> Dict[str, int]:
     numbers = {}
     for call in ended.calls[:-1]:
         numbers[call[0]] = numbers.get(call[0], 0) + 1
@@ -353,7 +353,7 @@ def counts(ended: Ended) -> Any:
     return numbers
 
 
-def fault(kind: str, first: int, how: int, last: Any = None) -> str:
+def fault(kind: str, first: int, how: Union[int, str], last: Optional[int] = None) -> str:
     return "%s:%d:%d:%s" % (kind, first, last or first, how)
 
 
@@ -364,7 +364,7 @@ def some_of(count: int, most: int = 44) -> Union[List[int], range]:
     return sorted({1 + at * (count - 1) // (most - 1) for at in range(most)})
 
 
-def disturbed_reading(place: Place, output: Any) -> None:
+def disturbed_reading(place: Place, output: bytes) -> None:
     for words in (["disc.adf"], ["--read-only", "disc.adf"]):
         numbers = counts(place.run(words))
         for kind, disturbances in READING.items():
@@ -381,7 +381,7 @@ def disturbed_reading(place: Place, output: Any) -> None:
     place.expect("no file has the name", place.run(["disc.adf"], faults=fault("statx", 1, MISSING)), 12)
 
 
-def disturbed_making(place: Place, output: Any) -> None:
+def disturbed_making(place: Place, output: bytes) -> None:
     words = ["--new", "E", "fresh.adf"]
     numbers = counts(place.run(words))
     for name, disturbances in MAKING.items():
@@ -425,7 +425,7 @@ def kills(place: Place) -> None:
 # ---- limits and signals
 
 
-def limited(place: Place, words: List[str], limit: Any, ignored: Any, output_to_file: bool = True) -> Any:
+def limited(place: Place, words: List[str], limit: int, ignored: bool, output_to_file: bool = True) -> Ended:
     """A run under a limit of the bytes of a file. The signal that goes with it is ignored, or ends the program."""
     place.clear()
 

@@ -18,13 +18,16 @@ import random
 import subprocess
 import sys
 import tempfile
-from typing import Any, List, Optional, Tuple
+from typing import Dict, List, Optional, Tuple
 
-from tools.checks.crash import MOMENTS, Crashes, copies, layout, objects, steps_of, with_torn_copy
+from tools.checks.crash import MOMENTS, Crashes, Steps, copies, layout, objects, steps_of, with_torn_copy
 from tools.files import built_shim
 from tools.images.fragmented import SHAPES, Fragmenter
+from tools.images.volumes import NewVolume, Part
 from tools.reference.format_reader import Disc, boot_check, valid
 
+Run = Tuple[int, int, Optional[int]]  # start and length in bytes, and identifier; None for a hole
+Answer = Tuple[int, bytes]  # status and output
 BOOT_BLOCK, BOOT_END = 0xC00, 0xE00
 KEPT = (1, 2)  # identifiers that are never lost
 FAILING = (("pwrite", 1), ("pwrite", 2), ("fsync", 1), ("fsync", 3))
@@ -33,13 +36,13 @@ FAILING = (("pwrite", 1), ("pwrite", 2), ("fsync", 1), ("fsync", 3))
 # ---- what has to become of a disc
 
 
-def has_boot_block(data: bytes) -> Any:
+def has_boot_block(data: bytes) -> bool:
     """Whether a boot block fits, whatever the disc is opened as."""
     block = data[BOOT_BLOCK:BOOT_END]
     return len(data) >= BOOT_END and block[511] == boot_check(block) and valid(block[0x1C0:0x1FC])
 
 
-def reserved_bytes(disc: Any, data: bytes) -> Any:
+def reserved_bytes(disc: Disc, data: bytes) -> List[Tuple[int, int]]:
     """What a run that goes back may not hold, as rows of bytes."""
     g = disc.map.g
     start = g.map_sector() * g.sector
@@ -49,13 +52,13 @@ def reserved_bytes(disc: Any, data: bytes) -> Any:
     return found
 
 
-def goes_back(disc: Any, reserved: Any, run: Any) -> Any:
+def goes_back(disc: Disc, reserved: List[Tuple[int, int]], run: Run) -> bool:
     start, size, identifier = run
     lost = identifier is not None and identifier not in KEPT and identifier not in disc.owned
     return lost and not any(start < end and first < start + size for first, end in reserved)
 
 
-def joined(row: Any) -> Any:
+def joined(row: List[Tuple[Run, bool]]) -> List[Run]:
     """Runs that touch, some of which go back: one hole if any does, else as they are."""
     if not any(goes for run, goes in row):
         return [run for run, goes in row]
@@ -63,7 +66,7 @@ def joined(row: Any) -> Any:
     return [(first[0], last[0] + last[1] - first[0], None)]
 
 
-def expected(data: bytes) -> Any:
+def expected(data: bytes) -> Tuple[List[List[Run]], int]:
     """For each zone the runs that it must have, and the bytes that are given back."""
     disc = Disc(data)
     reserved, zones, given = reserved_bytes(disc, data), [], 0
@@ -81,20 +84,20 @@ def expected(data: bytes) -> Any:
     return zones, given
 
 
-def kept_runs(data: bytes) -> Any:
+def kept_runs(data: bytes) -> Dict[int, List[Tuple[int, Tuple[int, int]]]]:
     """The runs of identifiers that stay."""
     disc = Disc(data)
     return {identifier: runs for identifier, runs in disc.map.runs.items() if identifier in KEPT or identifier in disc.owned}
 
 
-def outside_map(data: bytes) -> Any:
+def outside_map(data: bytes) -> bytes:
     disc = Disc(data)
     g = disc.map.g
     start = g.map_sector() * g.sector
     return data[:start] + data[start + 2 * g.zones * g.sector:]
 
 
-def faults_left(before: Any, after: Any) -> Any:
+def faults_left(before: bytes, after: bytes) -> List[str]:
     """What is wrong with an image that a crash or an exit leaves, in words."""
     if objects(after) != objects(before):
         return ["other objects: %s" % str(objects(after)[:2])[:200]]
@@ -106,7 +109,7 @@ def faults_left(before: Any, after: Any) -> Any:
     return found
 
 
-def faults_at_end(before: Any, after: Any) -> Any:
+def faults_at_end(before: bytes, after: bytes) -> List[str]:
     found = faults_left(before, after)
     if found:
         return found
@@ -118,7 +121,7 @@ def faults_at_end(before: Any, after: Any) -> Any:
     return found
 
 
-def crash_faults(image: Any, steps: List[Optional[Tuple[int, bytes]]], chance: random.Random) -> Any:
+def crash_faults(image: bytes, steps: Steps, chance: random.Random) -> Tuple[List[str], bytes]:
     """The first crash that leaves something wrong, in words, and the image at the end."""
     crashes = Crashes(image, steps, Disc(image).map.sector, chance)
     numbers = range(1, len(steps) + 1)
@@ -133,7 +136,7 @@ def crash_faults(image: Any, steps: List[Optional[Tuple[int, bytes]]], chance: r
 # ---- discs
 
 
-def lose(volume: Any, chance: random.Random) -> None:
+def lose(volume: NewVolume, chance: random.Random) -> None:
     """Makes runs of some holes that belong to no object: two in a row, and at the ends of zones."""
     shape = volume.shape
     lost = [volume.new_identifier() for at in range(3)]
@@ -155,7 +158,7 @@ def lose(volume: Any, chance: random.Random) -> None:
             at += 1
 
 
-def losing(name: Any, seed: int) -> Any:
+def losing(name: str, seed: int) -> bytes:
     volume = SHAPES[name]()
     Fragmenter(volume, seed).fill(2)
     lose(volume, random.Random(seed))
@@ -165,7 +168,7 @@ def losing(name: Any, seed: int) -> Any:
 # ---- the program
 
 
-def reclaimed(program: str, shim: str, folder: str, image: Any, faults: Optional[str] = None) -> Any:
+def reclaimed(program: str, shim: str, folder: str, image: bytes, faults: Optional[str] = None) -> Tuple[Steps, Answer, bytes]:
     """The record of the program's writes over the image, its status and output, and the image at its end."""
     path, record = os.path.join(folder, "disc"), os.path.join(folder, "record")
     for name, content in ((path, image), (record, b"")):
@@ -181,7 +184,7 @@ def reclaimed(program: str, shim: str, folder: str, image: Any, faults: Optional
         return steps, (ran.returncode, ran.stdout), file.read()
 
 
-def look(image: Any, steps: List[Optional[Tuple[int, bytes]]], answer: Any, chance: random.Random) -> Any:
+def look(image: bytes, steps: Steps, answer: Answer, chance: random.Random) -> Tuple[List[str], bytes]:
     """All that is wrong with one run, and the image that its record comes to."""
     found, end = crash_faults(image, steps, chance)
     wanted = 0, b"reclaimed %d\nok\n" % expected(image)[1]
@@ -192,7 +195,7 @@ def look(image: Any, steps: List[Optional[Tuple[int, bytes]]], answer: Any, chan
     return found + faults_at_end(image, end), end
 
 
-def check(program: str, discs: Any) -> bool:
+def check(program: str, discs: int) -> bool:
     failures, calls, given = [], 0, 0
     with tempfile.TemporaryDirectory() as folder:
         shim, program, names = built_shim(folder), os.path.realpath(program), sorted(SHAPES)
@@ -218,7 +221,7 @@ def check(program: str, discs: Any) -> bool:
 # ---- the self-test
 
 
-def stand_in(name: Any, seed: int, fault: Optional[str]) -> Any:
+def stand_in(name: str, seed: int, fault: Optional[str]) -> Tuple[bytes, Steps, Answer]:
     """An image, and what a program that gives its lost runs back would write and answer."""
     volume = SHAPES[name]()
     Fragmenter(volume, seed).fill(2)
@@ -247,7 +250,7 @@ def stand_in(name: Any, seed: int, fault: Optional[str]) -> Any:
     return image, steps, (0, b"reclaimed %d\nok\n" % given)
 
 
-def joined_bits(row: Any) -> Any:
+def joined_bits(row: List[Tuple[int, Optional[int], bool]]) -> List[Part]:
     """The runs of a zone, lengths in bits, with the holes that have become of some joined with those that touch them."""
     found, chain = [], []
     for length, owner, goes in row + [(0, 0, False)]:

@@ -19,7 +19,7 @@ import shutil
 import sys
 import tempfile
 import time
-from typing import Any, Iterator
+from typing import TYPE_CHECKING, Callable, Dict, Iterator, Optional, Tuple, Union
 
 from tools.checks import rescue_cases
 from tools.checks.fcdisc import FCDISC, Checks, host_tree, snapshot
@@ -27,7 +27,11 @@ from tools.checks.selection import Selection, Suite
 from tools.files import read
 from tools.images import damaged as damaged_images, rescue_hostile, rescue_images, table as images
 from tools.images.rescue_images import FORMATS
+from tools.images.volumes import AnyVolume
 from tools.reference import format_reader, rescue_reader
+
+if TYPE_CHECKING:
+    from fcdisc_lib.rescue.reading import Reading
 
 # Most sound files may be wrong in 1 of these; and at least so many of 100 files have to be right
 SOUND_PER_WRONG, RIGHT = 1000, 85
@@ -47,7 +51,7 @@ class Rescue:
         self.reading, self.report, self.writing, self.messages, self.names = reading, report, writing, messages, names
         self.place, self.file = os.path.join(folder, "image.adf"), None
 
-    def read(self, data: bytes, **options: Any) -> Any:
+    def read(self, data: bytes, **options: Union[str, bool, None]) -> Optional[Reading]:
         """The reading, or None if nothing of a disc was found."""
         with open(self.place, "wb") as file:
             file.write(data)
@@ -64,7 +68,7 @@ class Rescue:
 # ---- whole discs
 
 
-def whole_discs(checks: Checks, rescue: Any) -> None:
+def whole_discs(checks: Checks, rescue: Rescue) -> None:
     """Exactly what `extract` gives, all sound."""
     for name, volume, data in images.accepted():
         found = rescue.read(bytes(data))
@@ -85,7 +89,7 @@ def whole_discs(checks: Checks, rescue: Any) -> None:
                       output=(text, out))
 
 
-def write(path: Any, data: bytes) -> None:
+def write(path: bytes, data: bytes) -> None:
     with open(path, "wb") as file:
         file.write(data)
 
@@ -93,7 +97,7 @@ def write(path: Any, data: bytes) -> None:
 # ---- one fault
 
 
-def single_faults(checks: Checks, rescue: Any) -> None:
+def single_faults(checks: Checks, rescue: Rescue) -> None:
     """The damaged images of the table: how many files are sound, doubtful, cut off and lost."""
     outcomes = {name: counts for counts, names in rescue_cases.OUTCOMES.items() for name in names.split()}
     for name, data, _ in damaged_images.damaged():
@@ -113,7 +117,7 @@ class Tally:
     def __init__(self) -> None:
         self.images = self.files = self.sound = self.doubtful = self.wrong = self.doubted = 0
 
-    def add(self, volume: Any, found: Any) -> None:
+    def add(self, volume: AnyVolume, found: Optional[Reading]) -> None:
         truth = rescue_images.files_of(volume)
         by_name = collections.defaultdict(set)
         for path, content in truth.items():
@@ -133,7 +137,7 @@ class Tally:
             elif grade == "doubtful":
                 self.doubted += 1
 
-    def __add__(self, other: Any) -> Any:
+    def __add__(self, other: Tally) -> Tally:
         made = Tally()
         for key in vars(made):
             setattr(made, key, getattr(self, key) + getattr(other, key))
@@ -145,7 +149,7 @@ class Tally:
             kind, self.images, self.files, self.sound, self.doubtful, self.wrong, self.doubted, part)
 
 
-def tallies(checks: Checks, rescue: Any) -> Any:
+def tallies(checks: Optional[Checks], rescue: Rescue) -> Tuple[Dict[str, Tally], Dict[str, Tally]]:
     """The damages of each kind in each format; on the way, the second reading is compared."""
     kinds, forms = collections.defaultdict(Tally), collections.defaultdict(Tally)
     for form in FORMATS:
@@ -161,7 +165,7 @@ def tallies(checks: Checks, rescue: Any) -> Any:
     return kinds, forms
 
 
-def usual_damages(checks: Checks, rescue: Any) -> None:
+def usual_damages(checks: Checks, rescue: Rescue) -> None:
     kinds, forms = tallies(checks, rescue)
     total = sum(kinds.values(), Tally())
     seen = sum((tally for kind, tally in kinds.items() if kind != UNSEEN), Tally())
@@ -172,7 +176,7 @@ def usual_damages(checks: Checks, rescue: Any) -> None:
         total.images, right, total.files, total.sound + total.wrong, total.wrong, kinds[UNSEEN].wrong))
 
 
-def table(rescue: Any) -> None:
+def table(rescue: Rescue) -> None:
     kinds, forms = tallies(None, rescue)
     print("| Damage | Images | Files | Right, sound | Right, doubtful | Wrong, sound | Wrong, doubtful | Right in all |")
     print("|---" * 8 + "|")
@@ -187,7 +191,7 @@ def table(rescue: Any) -> None:
 SIGNS = ("bytes", "discs may be mixed", "whole track", "with its mark")
 
 
-def compare(checks: Checks, name: Any, data: bytes, found: Any) -> None:
+def compare(checks: Checks, name: str, data: bytes, found: Reading) -> None:
     """The second reading has the same files, bytes and grades, where it reads the disc at all."""
     try:
         second = rescue_reader.Reading(data).rows
@@ -235,7 +239,7 @@ def untouched(checks: Checks) -> None:
 # ---- harm
 
 
-def hostile_images() -> Iterator[Any]:
+def hostile_images() -> Iterator[Tuple[str, bytes]]:
     for form in FORMATS:
         yield "names of " + form, rescue_hostile.broken_root(rescue_hostile.names(form))
         yield "loop of " + form, rescue_hostile.loop(form)
@@ -248,7 +252,7 @@ def hostile_images() -> Iterator[Any]:
     yield "deep", bytes(rescue_hostile.deep().image())
 
 
-def hostile(checks: Checks, rescue: Any) -> None:
+def hostile(checks: Checks, rescue: Rescue) -> None:
     for name, data in hostile_images():
         work = checks.fresh(b"work")
         start = time.process_time()
@@ -267,7 +271,7 @@ def hostile(checks: Checks, rescue: Any) -> None:
         json.loads(left[b"out/report.json"])
 
 
-def quietly(run: Any) -> Any:
+def quietly(run: Callable[[], object]) -> str:
     """What the run tells people."""
     kept, sys.stderr = sys.stderr, io.StringIO()
     try:
@@ -293,7 +297,7 @@ def large(checks: Checks) -> None:
 # ---- random damages
 
 
-def random_damages(checks: Checks, rescue: Any, count: int) -> None:
+def random_damages(checks: Checks, rescue: Rescue, count: int) -> None:
     """It ends, what comes out is bounded, and hardly a file is sound that has other bytes than its places."""
     slowest = 0
     wrong, sound = collections.Counter(), collections.Counter()
@@ -314,7 +318,7 @@ def random_damages(checks: Checks, rescue: Any, count: int) -> None:
         count, sum(sound.values()), sum(wrong.values()), wrong["L"], slowest))
 
 
-def where_they_lie(volume: Any, data: bytes) -> Any:
+def where_they_lie(volume: AnyVolume, data: bytes) -> Dict[str, bytes]:
     """What each file's own places have in the damaged image: damage of these bytes leaves no trace."""
     found = {}
     for holder in volume.directories():
@@ -325,7 +329,7 @@ def where_they_lie(volume: Any, data: bytes) -> Any:
     return found
 
 
-def cut_images(rescue: Any, checks: Checks, step: Any) -> None:
+def cut_images(rescue: Rescue, checks: Checks, step: int) -> None:
     """Images cut at every so manyth sector: nothing fails, and no file is sound and wrong."""
     for form in FORMATS:
         volume = rescue_images.floppy(form)
@@ -342,7 +346,7 @@ def cut_images(rescue: Any, checks: Checks, step: Any) -> None:
 # ---- all of it
 
 
-def run_all(checks: Checks, rescue: Any, is_long: Any) -> None:
+def run_all(checks: Checks, rescue: Rescue, is_long: bool) -> None:
     for name in (b"images", b"work", b"fake"):
         os.makedirs(checks.place(name), exist_ok=True)
     whole_discs(checks, rescue)
@@ -356,7 +360,7 @@ def run_all(checks: Checks, rescue: Any, is_long: Any) -> None:
     cut_images(rescue, checks, 1 if is_long else 40)
 
 
-def main(fcore: str, *more: Any) -> bool:
+def main(fcore: str, *more: str) -> bool:
     sys.dont_write_bytecode = True
     memory = "/dev/shm" if os.access("/dev/shm", os.W_OK) else None
     with tempfile.TemporaryDirectory(dir=memory) as folder:

@@ -7,7 +7,6 @@ in which nothing of a disc is found.
 from __future__ import annotations
 
 import os
-from typing import Any
 
 from tools.checks.fcdisc import Checks, snapshot, texts
 from tools.files import read
@@ -72,7 +71,7 @@ OUTCOMES = {
 }
 
 
-def write(path: Any, data: bytes) -> None:
+def write(path: bytes, data: bytes) -> None:
     with open(path, "wb") as file:
         file.write(data)
 
@@ -87,7 +86,7 @@ def run(checks: Checks) -> None:
     advice(checks)
 
 
-def started(checks: Checks, **files: Any) -> Any:
+def started(checks: Checks, **files: bytes) -> bytes:
     """A fresh folder with these images."""
     work = checks.fresh(b"work")
     for name, data in files.items():

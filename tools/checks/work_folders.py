@@ -4,12 +4,15 @@ from __future__ import annotations
 
 import os
 import time
-from typing import Any
+from typing import Callable, Dict, Mapping, Union
 
 from tools.files import read
 
 
-def fill(folder: str, content: bytes) -> None:
+Content = Mapping[bytes, Union[bytes, str, None]]  # by path: a file's bytes, a link's `-> TARGET`, None for a folder
+
+
+def fill(folder: bytes, content: Content) -> None:
     """Makes what stands in a folder before a case."""
     for name, data in content.items():
         path = os.path.join(folder, name)
@@ -22,9 +25,9 @@ def fill(folder: str, content: bytes) -> None:
                 file.write(data)
 
 
-def snapshot(folder: str) -> Any:
+def snapshot(folder: bytes) -> Dict[bytes, Union[bytes, str, None]]:
     """What stands in a folder: bytes, None for a folder, `-> TARGET` for a link."""
-    found = {}
+    found: Dict[bytes, Union[bytes, str, None]] = {}
     for place, folders, files in os.walk(folder):
         for name in folders + files:
             path = os.path.join(place, name)
@@ -37,7 +40,7 @@ def snapshot(folder: str) -> Any:
     return found
 
 
-def wait_for(there: Any, seconds: int = 60) -> None:
+def wait_for(there: Callable[[], object], seconds: int = 60) -> None:
     end = time.monotonic() + seconds
     while not there() and time.monotonic() < end:
         time.sleep(0.02)

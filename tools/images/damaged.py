@@ -2,18 +2,18 @@
 """Damaged images, each with the line that fcore has to answer: every fault, and which comes first where two stand together."""
 from __future__ import annotations
 
-from typing import Any, Callable, Dict, Iterator, Optional, Tuple
+from typing import Callable, Dict, Iterator, List, Optional, Tuple
 
 from tools.images import volumes
-from tools.images.volumes import (Directory, File, NewVolume, OldVolume, boot_block, fresh_e, fresh_f, fresh_old, record_bytes,
-                                  seal_old_map)
+from tools.images.volumes import (AnyVolume, Directory, File, NewVolume, OldOrNew, OldVolume, Part, boot_block, fresh_e, fresh_f,
+                                  fresh_old, record_bytes, seal_old_map)
 from tools.reference.filecore import BOOT_BLOCK, boot_check, head_space, put, small_directory_check, zone_check
 
 
 class Damage:
     """The image of a volume, and ways to damage it."""
 
-    def __init__(self, volume: volumes.Volume) -> None:
+    def __init__(self, volume: AnyVolume) -> None:
         self.volume, self.data = volume, volume.image()
 
     def patch(self, at: int, changed: bytes) -> Damage:
@@ -82,7 +82,7 @@ def tiny() -> NewVolume:
     return volume
 
 
-def with_directory(make: Callable[..., Any]) -> Tuple[volumes.Volume, Directory]:
+def with_directory(make: Callable[[], OldOrNew]) -> Tuple[OldOrNew, Directory]:
     """A volume with `$.D`, which has four files, and with `$.Z`."""
     volume = make()
     inner = volume.root.insert(volume.directory(volume.root, b"D"))
@@ -191,7 +191,7 @@ def agreement() -> Iterator[Tuple[str, bytearray, str]]:
 # ---- zones and holes
 
 
-def with_runs(make: Callable[..., Any], zone: int, runs: Callable[..., Any]) -> NewVolume:
+def with_runs(make: Callable[[], NewVolume], zone: int, runs: Callable[[int], List[Part]]) -> NewVolume:
     """A volume whose zone has these runs and then the rest."""
     volume = make()
     volume.runs[zone] = runs(sum(length for length, owner in volume.runs[zone]))
@@ -372,7 +372,7 @@ def twice_right() -> bytearray:
 # ---- places
 
 
-def placed(make: Callable[..., Any], address: int, length: int = 1, name: bytes = b"F", units: Optional[int] = None) -> bytearray:
+def placed(make: Callable[[], AnyVolume], address: int, length: int = 1, name: bytes = b"F", units: Optional[int] = None) -> bytearray:
     """A file at an address that nothing leads to, whose bytes stand nowhere."""
     volume = make()
     wrong = File(name, b"", address)

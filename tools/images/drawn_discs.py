@@ -8,13 +8,17 @@ of the map that differ, and bytes past the disc's end. Free space is filled with
 from __future__ import annotations
 
 import random
-from typing import Any, Callable, Tuple
+from typing import Callable, Tuple
 
 from tools.images.fragmented import SHAPES, Fragmenter, hard_disc
 from tools.images.table import VOLUMES, full_identifiers, two_holes
-from tools.images.volumes import FRESH, Directory, Entry, File, NewVolume, OldVolume, Volume, big_heap
+from tools.images.volumes import FRESH, FRESH_NEW, AnyVolume, Directory, Entry, File, NewVolume, OldVolume, Some, Volume, big_heap
 from tools.reference.change_state import State
 from tools.reference.filecore import folded, head_space, zone_check
+
+Recipe = Callable[[random.Random], NewVolume]
+OldRecipe = Callable[[random.Random], OldVolume]
+Maker = Callable[[], NewVolume]
 
 TABLE = ("hello", "e-files", "f-files", "e-plus-files", "f-plus-files", "f-user", "e-plus-grown", "scattered-directories", "scattered-big",
          "small-sectors", "large-sectors", "wide-disc")
@@ -24,7 +28,7 @@ OLD_TABLE = ("d-files", "l-files", "l-7-units", "l-8-units", "l-640-units", "l-8
 # ---- what new maps hold
 
 
-def fragments(name: str) -> Callable[..., Any]:
+def fragments(name: str) -> Recipe:
     def make(chance: random.Random) -> NewVolume:
         volume = SHAPES[name]()
         Fragmenter(volume, chance.random()).fill(chance.randint(1, 6))
@@ -32,7 +36,7 @@ def fragments(name: str) -> Callable[..., Any]:
     return make
 
 
-def nearly_full(name: str) -> Callable[..., Any]:
+def nearly_full(name: str) -> Recipe:
     """A fragmented disc whose holes were given to one file, but for a few."""
     def make(chance: random.Random) -> NewVolume:
         volume = fragments(name)(chance)
@@ -56,9 +60,9 @@ def leave_few_holes(volume: NewVolume, chance: random.Random) -> None:
         add(volume, volume.root, File(b"Filler", chance.randbytes(room - chance.randrange(volume.shape.sector)), identifier * 256))
 
 
-def few_identifiers(make_volume: Callable[..., Any]) -> Callable[..., Any]:
+def few_identifiers(make_volume: Recipe) -> Recipe:
     """A disc of whose identifiers at most four are left, while many holes are."""
-    def make(chance: random.Random) -> Any:
+    def make(chance: random.Random) -> NewVolume:
         volume = make_volume(chance)
         runs = [(zone, at) for zone, found in enumerate(volume.runs) for at, run in enumerate(found) if run[1] is not None and run[1] > 3]
         lost = set(range(3, volume.shape.id_limit)) - {entry.address // 256 for entry in volume.objects() if entry.address}
@@ -74,7 +78,7 @@ def few_identifiers(make_volume: Callable[..., Any]) -> Callable[..., Any]:
     return make
 
 
-def few_identifiers_big(chance: random.Random) -> Any:
+def few_identifiers_big(chance: random.Random) -> NewVolume:
     """All identifiers of a disc with big directories have runs, most of them lost."""
     volume = hard_disc(8, 11, 8, 16, big=True)
     growing_directories(volume, chance, 3)
@@ -86,7 +90,7 @@ def few_identifiers_big(chance: random.Random) -> Any:
     return volume
 
 
-def growing_directories(volume: Any, chance: random.Random, most: int) -> None:
+def growing_directories(volume: NewVolume, chance: random.Random, most: int) -> None:
     """Big directories of which little is left, each with some directories in it, alone in their identifiers or not."""
     holders = [volume.root]
     for number in range(chance.randint(1, most)):
@@ -101,8 +105,8 @@ def growing_directories(volume: Any, chance: random.Random, most: int) -> None:
             fill_big(chance, holder)
 
 
-def growing(make_volume: Callable[..., Any]) -> Callable[..., Any]:
-    def make(chance: random.Random) -> Any:
+def growing(make_volume: Maker) -> Recipe:
+    def make(chance: random.Random) -> NewVolume:
         volume = make_volume()
         growing_directories(volume, chance, 4)
         if chance.random() < 0.4:
@@ -111,10 +115,10 @@ def growing(make_volume: Callable[..., Any]) -> Callable[..., Any]:
     return make
 
 
-def full_directory(name: str) -> Callable[..., Any]:
+def full_directory(name: str) -> Recipe:
     """A directory with as many entries as can be, or one less."""
     def make(chance: random.Random) -> NewVolume:
-        volume = FRESH[name]()
+        volume = FRESH_NEW[name]()
         holder = add(volume, volume.root, volume.directory(volume.root, b"Full"))
         for holder in (holder, volume.root):
             while len(holder.entries) < 77 - chance.randint(0, 1):
@@ -123,9 +127,9 @@ def full_directory(name: str) -> Callable[..., Any]:
     return make
 
 
-def shared(make_volume: Callable[..., Any]) -> Callable[..., Any]:
+def shared(make_volume: Maker) -> Recipe:
     """Files that share identifiers, with slack between and after them; for big directories one with room, or without."""
-    def make(chance: random.Random) -> Any:
+    def make(chance: random.Random) -> NewVolume:
         volume = make_volume()
         holders = [volume.root, add(volume, volume.root, volume.directory(volume.root, b"Docs"))]
         for number in range(chance.randint(3, 8)):
@@ -144,8 +148,8 @@ def shared(make_volume: Callable[..., Any]) -> Callable[..., Any]:
     return make
 
 
-def add_big_directory(volume: Any, chance: random.Random, holder: Directory, name: str, identifier: Any,
-                      units: Callable[..., Any]) -> Any:
+def add_big_directory(volume: NewVolume, chance: random.Random, holder: Directory, name: bytes, identifier: int,
+                      units: int) -> int:
     """A big directory that is nearly full, at the front of an identifier; answers the low byte after it."""
     low, share = chance.choice((0, 1, 1, 2)), volume.shape.share
     needed = -(-2048 // share)
@@ -159,7 +163,7 @@ def add_big_directory(volume: Any, chance: random.Random, holder: Directory, nam
     return max(low, 1) + needed + chance.choice((0, 0, 1, 2))
 
 
-def fill_big(chance: random.Random, directory: Any) -> None:
+def fill_big(chance: random.Random, directory: Directory) -> None:
     """Files of 0 bytes until little is left of the directory."""
     while True:
         name = random_name(chance, "big")
@@ -171,14 +175,14 @@ def fill_big(chance: random.Random, directory: Any) -> None:
             return
 
 
-def big_fits(directory: Any, more: int = 0) -> bool:
+def big_fits(directory: Directory, more: int = 0) -> bool:
     head = head_space(directory.form, directory.head_name)
     return 28 + head + 28 * len(directory.entries) + len(big_heap(directory)[0]) + more + 8 <= directory.size
 
 
-def second_forms(chance: random.Random) -> Any:
+def second_forms(chance: random.Random) -> NewVolume:
     """Directories whose heads' names have the second form, and lengths in which it differs from the first, with a word 0 after the heap."""
-    volume = FRESH[chance.choice(("E+", "F+"))]()
+    volume = FRESH_NEW[chance.choice(("E+", "F+"))]()
     holders = [volume.root]
     for number in range(10):
         holder = chance.choice(holders)
@@ -188,7 +192,7 @@ def second_forms(chance: random.Random) -> Any:
     return volume
 
 
-def in_the_map(make_volume: Callable[..., Any]) -> Callable[..., Any]:
+def in_the_map(make_volume: Maker) -> Recipe:
     """Objects in identifier 2, which the map owns too."""
     def make(chance: random.Random) -> NewVolume:
         volume = make_volume()
@@ -220,7 +224,7 @@ def in_the_map(make_volume: Callable[..., Any]) -> Callable[..., Any]:
     return make
 
 
-def add(volume: NewVolume, holder: Directory, entry: Entry) -> Entry:
+def add(volume: NewVolume, holder: Directory, entry: Some) -> Some:
     """Inserts an entry; if a big directory can't hold it, files of 0 bytes make room."""
     holder.insert(entry)
     while volume.form == "big" and not big_fits(holder):
@@ -228,29 +232,29 @@ def add(volume: NewVolume, holder: Directory, entry: Entry) -> Entry:
     return entry
 
 
-def shares() -> Any:
+def shares() -> NewVolume:
     return hard_disc(9, 13, 7, 5, share=1)
 
 
-def big_shares() -> Any:
+def big_shares() -> NewVolume:
     return hard_disc(8, 14, 7, 6, big=True)
 
 
-def table(name: str) -> Callable[..., Any]:
+def table(name: str) -> Callable[[random.Random], AnyVolume]:
     return lambda chance: VOLUMES[name]()
 
 
 NEW = {
-    **{"fresh " + name: lambda chance, name=name: FRESH[name]() for name in ("E", "F", "E+", "F+")},
+    **{"fresh " + name: lambda chance, name=name: FRESH_NEW[name]() for name in ("E", "F", "E+", "F+")},
     **{"fragmented " + name: fragments(name) for name in SHAPES},
     **{"nearly full " + name: nearly_full(name) for name in SHAPES},
     **{"table " + name: table(name) for name in TABLE},
     **{"full directory " + name: full_directory(name) for name in ("E", "F")},
-    **{"shared " + name: shared(FRESH[name]) for name in ("E", "F", "E+", "F+")},
+    **{"shared " + name: shared(FRESH_NEW[name]) for name in ("E", "F", "E+", "F+")},
     "shared, units of two sectors": shared(shares), "shared, big": shared(big_shares),
-    **{"in identifier 2, " + name: in_the_map(FRESH[name]) for name in ("E", "F", "E+", "F+")},
+    **{"in identifier 2, " + name: in_the_map(FRESH_NEW[name]) for name in ("E", "F", "E+", "F+")},
     "in identifier 2, nine zones": in_the_map(SHAPES["nine-zones"]), "in identifier 2, big": in_the_map(big_shares),
-    **{"growing " + name: growing(FRESH[name]) for name in ("E+", "F+")}, "growing, big": growing(big_shares),
+    **{"growing " + name: growing(FRESH_NEW[name]) for name in ("E+", "F+")}, "growing, big": growing(big_shares),
     "second forms": second_forms,
     "few identifiers": few_identifiers(lambda chance: full_identifiers()), "few identifiers, big": few_identifiers(few_identifiers_big),
     "two holes": lambda chance: two_holes(),
@@ -260,7 +264,7 @@ NEW = {
 # ---- old maps
 
 
-def old_filled(form: str, units: Callable[..., Any], holes: int, most_steps: int = 8) -> Callable[..., Any]:
+def old_filled(form: str, units: Callable[[random.Random], int], holes: int, most_steps: int = 8) -> OldRecipe:
     """A disc of an old map with files, holes and lost space in turn; a hole has at most so many sectors, a file some times as many."""
     def make(chance: random.Random) -> OldVolume:
         size = units(chance)
@@ -288,7 +292,7 @@ def old_filled(form: str, units: Callable[..., Any], holes: int, most_steps: int
     return make
 
 
-def many_units(form: str) -> Callable[..., Any]:
+def many_units(form: str) -> Callable[[random.Random], int]:
     return (lambda chance: 3200) if form == "D" else (lambda chance: 2560)
 
 
@@ -323,7 +327,7 @@ def decorate(volume: Volume, chance: random.Random) -> None:
             decorate_entry(volume, entry, chance)
 
 
-def decorate_big(directory: Any, chance: random.Random) -> None:
+def decorate_big(directory: Directory, chance: random.Random) -> None:
     """Another form, another name in the head, a longer heap; taken back if the parts don't fit."""
     for field, value in (("form", 2), ("head_name", random_name(chance, "big")), ("heap_tail", 4 * chance.randint(1, 20))):
         kept = getattr(directory, field)

@@ -6,9 +6,9 @@ What a disc holds follows from its shape and a seed alone. No code is shared wit
 from __future__ import annotations
 
 import random
-from typing import Any, Dict, Iterator, List, Tuple
+from typing import Dict, Iterator, List, Tuple
 
-from tools.images.volumes import FRESH, Directory, File, NewVolume, record_bytes
+from tools.images.volumes import FRESH_NEW, Directory, File, NewVolume, record_bytes
 
 IDENTIFIER_1 = 1
 
@@ -30,7 +30,7 @@ def hard_disc(log2_sector: int, idlen: int, log2_bit: int, zones: int, spare: in
 
 
 SHAPES = {
-    **{name: FRESH[name] for name in ("E", "F", "E+", "F+")},
+    **{name: FRESH_NEW[name] for name in ("E", "F", "E+", "F+")},
     "four-zones": lambda: hard_disc(8, 12, 6, 4),
     "nine-zones": lambda: hard_disc(9, 13, 7, 9, share=1),
     "sixteen-zones": lambda: hard_disc(8, 11, 8, 16),
@@ -97,7 +97,7 @@ class Fragmenter:
         return dict(attributes=self.random.choice((3, 3, 0x33, 1, 7)), load=self.random.getrandbits(32),
                     execution=self.random.getrandbits(32))
 
-    def files(self, names: Iterator[Any], most: int) -> List[File]:
+    def files(self, names: Iterator[bytes], most: int) -> List[File]:
         """The files of one identifier: one of them, or some that share it."""
         made, room = self.identifier(self.random.choice((1, 1, 1, 2, 2, 3, 4, 6, 9)))
         shape, at, low = self.shape, 0, 1

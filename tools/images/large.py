@@ -7,9 +7,9 @@ usage: tools/run images/large IMAGE [DIRECTORIES]    1,000 directories, if no nu
 from __future__ import annotations
 
 import sys
-from typing import Any
+from typing import BinaryIO, Union
 
-from tools.images.volumes import File, NewVolume, record_bytes
+from tools.images.volumes import Directory, File, NewVolume, record_bytes
 
 ZONES, ZONE_BITS, BIT_BYTES = 62, 8160, 1024
 FILES = 50
@@ -18,16 +18,16 @@ FILES = 50
 class SparseFile:
     """A file of bytes 0 that takes bytes in slices."""
 
-    def __init__(self, file: Any, size: int) -> None:
+    def __init__(self, file: BinaryIO, size: int) -> None:
         self.file = file
         file.truncate(size)
 
-    def __setitem__(self, place: Any, content: Any) -> None:
+    def __setitem__(self, place: slice, content: Union[bytes, bytearray]) -> None:
         self.file.seek(place.start)
         self.file.write(content)
 
 
-def with_directories(count: int, files: Any = FILES, big: bool = False) -> Any:
+def with_directories(count: int, files: int = FILES, big: bool = False) -> NewVolume:
     size = (ZONES * ZONE_BITS - 480) * BIT_BYTES
     others = dict(version=1, root_size=4096) if big else {}
     volume = NewVolume(record_bytes(10, 15, 10, ZONES, 32, 0x300, size, **others), True)
@@ -49,7 +49,7 @@ def with_directories(count: int, files: Any = FILES, big: bool = False) -> Any:
     return volume
 
 
-def fill(volume: Any, directory: Any, zone: int, files: Any) -> None:
+def fill(volume: NewVolume, directory: Directory, zone: int, files: int) -> None:
     """At most 50 files of up to 2,048 bytes that share one identifier."""
     identifier = volume.place(2 * files * 1024, [(zone, 2 * files)])
     for at in range(files):
@@ -57,7 +57,7 @@ def fill(volume: Any, directory: Any, zone: int, files: Any) -> None:
         directory.entries.append(File(b"F%02d" % at, content, identifier * 256 + 1 + 2 * at))
 
 
-def main(path: Any, directories: int = 1000) -> None:
+def main(path: str, directories: int = 1000) -> None:
     volume = with_directories(directories)
     with open(path, "wb") as file:
         volume.write(SparseFile(file, volume.shape.record.size))

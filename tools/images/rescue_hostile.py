@@ -3,17 +3,18 @@
 from __future__ import annotations
 
 import random
-from typing import Any, Iterator
+from typing import Iterator, Tuple
 
 from tools.images import damaged as damaged_images, rescue_images
-from tools.images.volumes import Directory, File, OldVolume, boot_block, fresh_e, record_bytes, small_directory
+from tools.images.volumes import (AnyVolume, Directory, File, NewVolume, OldVolume, boot_block, fresh_e, record_bytes,
+                                  small_directory)
 from tools.reference.filecore import UNIT, Geometry, Record, put, zone_check
 
 NAMES = (b"..", b".", b"/", b"//", b"../x", b"/etc/x", b"a/../../b", b"\\..\\x", b"x,fff", b"sound", b"report/txt", b"\xe9\xff",
          b"con", b"%2e%2e/x", b"~", b"-rf")
 
 
-def names(form: str) -> Any:
+def names(form: str) -> AnyVolume:
     """A disc whose names try to lead out of a folder, with a damaged root."""
     volume = rescue_images.empty(form)
     for at, name in enumerate(NAMES):
@@ -28,7 +29,7 @@ def names(form: str) -> Any:
     return volume
 
 
-def broken_root(volume: Any) -> bytes:
+def broken_root(volume: AnyVolume) -> bytes:
     damage = damaged_images.Damage(volume)
     word = 2040 if volume.form == "big" else 1274 if volume.form == "L" else 2042
     return bytes(damage.directory(volume.root, {word: b"XX"}).data)
@@ -106,7 +107,7 @@ def loop(form: str) -> bytes:
     return bytes(image())
 
 
-def deep(levels: int = 200) -> Any:
+def deep(levels: int = 200) -> NewVolume:
     """Directories one in the other, beyond any path."""
     volume = fresh_e()
     holder = volume.root
@@ -116,7 +117,7 @@ def deep(levels: int = 200) -> Any:
     return volume
 
 
-def shortest_runs(shape: Any, raw: Any) -> Any:
+def shortest_runs(shape: Geometry, raw: bytes) -> bytes:
     """A copy of a map that is all runs of one sector pair, of identifier 5."""
     sectors = []
     for zone in range(shape.zones):
@@ -132,7 +133,7 @@ def shortest_runs(shape: Any, raw: Any) -> Any:
     return b"".join(sectors)
 
 
-def write_large(path: Any, size: int = 512 << 20) -> None:
+def write_large(path: bytes, size: int = 512 << 20) -> None:
     """A hard disc of the shortest runs, with thousands of directories, whose entries all name half the disc: a sparse file."""
     zones = -(-(size // 64 + 480) // (8 * 512 - 32))
     raw = record_bytes(9, 15, 6, zones, 32, 0x500, size)
@@ -155,7 +156,7 @@ def write_large(path: Any, size: int = 512 << 20) -> None:
         file.write(copy + copy)
 
 
-def random_damages(form: str, count: int, seed: int) -> Iterator[Any]:
+def random_damages(form: str, count: int, seed: int) -> Iterator[Tuple[AnyVolume, bytes]]:
     """The image of a floppy with 1 to 2,000 other bytes, half of them in its map and directories; and where it was changed."""
     volume = rescue_images.floppy(form)
     image = bytes(volume.image())

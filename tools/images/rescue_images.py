@@ -7,11 +7,12 @@ from __future__ import annotations
 
 import hashlib
 import random
-from typing import Any, Iterator
+from typing import Dict, Iterator, List, Tuple
 
-from tools.images.volumes import FRESH, OldVolume
+from tools.images.volumes import FRESH, AnyVolume, Entry, File, OldVolume
 from tools.reference.filecore import UNIT
 
+Damages = Iterator[Tuple[str, bytes]]  # each a kind, and the image
 FORMATS = ("E", "F", "D", "L", "E+", "F+")
 TRACKS = {"E": 5120, "F": 10240, "D": 5120, "L": 4096}
 FOLDERS = ((b"$", b"Docs"), (b"$", b"Games"), (b"Docs", b"Old"), (b"$", b"Art"), (b"Games", b"Data"), (b"$", b"Music"))
@@ -19,11 +20,11 @@ FILES = 40
 ROOM = {"E": 620000, "F": 1250000, "D": 640000, "L": 500000}
 
 
-def track_of(form: str) -> Any:
+def track_of(form: str) -> int:
     return TRACKS[form[0]]
 
 
-def content(length: int, seed: int) -> Any:
+def content(length: int, seed: int) -> bytes:
     """Bytes as files have them: a third packed, a third text, a third with runs of zeros."""
     packed = hashlib.shake_128(b"%d" % seed).digest(length)
     if seed % 3 == 1:
@@ -33,14 +34,14 @@ def content(length: int, seed: int) -> Any:
     return packed
 
 
-def lengths(form: str, source: Any) -> Any:
+def lengths(form: str, source: random.Random) -> List[int]:
     """Forty lengths, some of a few bytes, which fill most of the disc."""
     parts = [source.choice((1, 2, 3, 8, 20, 60)) for _ in range(FILES - 4)]
     room = ROOM[form[0]]
     return [0, 1, 1023, 2048] + [max(1, room * part // sum(parts) - source.randrange(900)) for part in parts]
 
 
-def place_file(volume: Any, name: Any, data: bytes, source: Any) -> Any:
+def place_file(volume: AnyVolume, name: bytes, data: bytes, source: random.Random) -> File:
     """A file in one piece, or on a new map where its first zone has no room, in several."""
     load = 0xFFF00000 | source.choice((0xFFF, 0xFFB, 0xFF9, 0xFEB)) << 8 | 0x41
     fields = {"load": load, "execution": source.randrange(1 << 32)}
@@ -60,7 +61,7 @@ def place_file(volume: Any, name: Any, data: bytes, source: Any) -> Any:
     return volume.file(name, data, pieces, **fields)
 
 
-def empty(form: str) -> Any:
+def empty(form: str) -> AnyVolume:
     """A fresh volume whose free space is still to be given out."""
     volume = FRESH[form]()
     if isinstance(volume, OldVolume):
@@ -69,7 +70,7 @@ def empty(form: str) -> Any:
     return volume
 
 
-def floppy(form: str, seed: int = 1) -> Any:
+def floppy(form: str, seed: int = 1) -> AnyVolume:
     """A volume of forty files in seven directories."""
     source = random.Random("%s %d" % (form, seed))
     volume = empty(form)
@@ -89,13 +90,13 @@ def floppy(form: str, seed: int = 1) -> Any:
     return volume
 
 
-def files_of(volume: Any) -> Any:
+def files_of(volume: AnyVolume) -> Dict[str, bytes]:
     """The bytes of each file, by its path."""
     return {volume.path_of(holder, entry): bytes(entry.data)
             for holder in volume.directories() for entry in holder.entries if not entry.is_directory}
 
 
-def extents_of(volume: Any, entry: Any) -> Any:
+def extents_of(volume: AnyVolume, entry: Entry) -> List[Tuple[int, int]]:
     """Where an object lies: places and lengths."""
     length = len(volume.content(entry))
     if not length:
@@ -106,7 +107,7 @@ def extents_of(volume: Any, entry: Any) -> Any:
     return list(volume.pieces_of(entry.address, length))
 
 
-def places_of(volume: Any) -> Iterator[Any]:
+def places_of(volume: AnyVolume) -> Iterator[Tuple[str, int, int]]:
     """The bytes that the disc's structures have: kind, place and length."""
     if isinstance(volume, OldVolume):
         yield "map", 0, 512
@@ -125,13 +126,13 @@ def places_of(volume: Any) -> Iterator[Any]:
 # ---- damages: each a name of its kind, and the image
 
 
-def changed(image: Any, start: int, data: bytes) -> bytes:
+def changed(image: bytes, start: int, data: bytes) -> bytes:
     made = bytearray(image)
     made[start:start + len(data)] = data
     return bytes(made)
 
 
-def whole_tracks(form: str, image: Any, source: Any) -> Iterator[Any]:
+def whole_tracks(form: str, image: bytes, source: random.Random) -> Damages:
     """Tracks that weren't read, that were left out, or that were read in place of their neighbour."""
     size = track_of(form)
     count = len(image) // size
@@ -146,7 +147,7 @@ def whole_tracks(form: str, image: Any, source: Any) -> Iterator[Any]:
         yield "wrong track read", changed(image, start, image[other * size:(other + 1) * size])
 
 
-def cuts(form: str, image: Any, source: Any) -> Iterator[Any]:
+def cuts(form: str, image: bytes, source: random.Random) -> Damages:
     size = track_of(form)
     for part in (98, 95, 90, 80, 60):
         end = len(image) * part // 100
@@ -154,7 +155,7 @@ def cuts(form: str, image: Any, source: Any) -> Iterator[Any]:
         yield "end cut off", image[:end - source.randrange(1, 200)]
 
 
-def bits(volume: Any, image: Any, source: Any) -> Iterator[Any]:
+def bits(volume: AnyVolume, image: bytes, source: random.Random) -> Damages:
     """One bit of each structure."""
     for kind, start, length in places_of(volume):
         used = length if kind != "directory" else min(length, 400)
@@ -162,7 +163,7 @@ def bits(volume: Any, image: Any, source: Any) -> Iterator[Any]:
         yield "one bit of a " + kind.split(" copy")[0], changed(image, at, bytes([image[at] ^ 1 << source.randrange(8)]))
 
 
-def sectors(volume: Any, form: str, image: Any, source: Any) -> Iterator[Any]:
+def sectors(volume: AnyVolume, form: str, image: bytes, source: random.Random) -> Damages:
     """A sector of each structure that wasn't read: zeros, or the one before again."""
     size = 256 if form == "L" else 1024
     for kind, start, length in places_of(volume):
@@ -178,7 +179,7 @@ def sectors(volume: Any, form: str, image: Any, source: Any) -> Iterator[Any]:
             yield "sector repeated", changed(image, at, image[at - size:at])
 
 
-def both_maps(volume: Any, form: str, image: Any) -> Iterator[Any]:
+def both_maps(volume: AnyVolume, form: str, image: bytes) -> Damages:
     """The same zone of both copies of a map."""
     if not isinstance(volume, OldVolume):
         shape = volume.shape
@@ -189,7 +190,7 @@ def both_maps(volume: Any, form: str, image: Any) -> Iterator[Any]:
             yield "zone of both maps", made
 
 
-def mixtures(form: str, image: Any, other: Any) -> Iterator[Any]:
+def mixtures(form: str, image: bytes, other: bytes) -> Damages:
     """From some track on, or between two, the image is that of another disc."""
     size = track_of(form)
     count = len(image) // size
@@ -197,7 +198,7 @@ def mixtures(form: str, image: Any, other: Any) -> Iterator[Any]:
         yield "two discs mixed", image[:first * size] + other[first * size:end * size] + image[end * size:]
 
 
-def formattings(form: str, image: Any) -> Iterator[Any]:
+def formattings(form: str, image: bytes) -> Damages:
     """A new formatting was broken off."""
     size = track_of(form)
     for part in (20, 8, 4, 2):
@@ -205,7 +206,7 @@ def formattings(form: str, image: Any) -> Iterator[Any]:
         yield "format broken off", b"\xe5" * length + image[length:]
 
 
-def damages(volume: Any, form: str, other: Any) -> Iterator[Any]:
+def damages(volume: AnyVolume, form: str, other: bytes) -> Damages:
     """Each kind of damage, with images."""
     source = random.Random("damages of " + form)
     image = bytes(volume.image())
@@ -218,7 +219,7 @@ def damages(volume: Any, form: str, other: Any) -> Iterator[Any]:
     yield from formattings(form, image)
 
 
-def reformatted(volume: Any, form: str, fresh: Any) -> bytes:
+def reformatted(volume: AnyVolume, form: str, fresh: str) -> bytes:
     """A disc whose map and root are those of a fresh disc, and whose other bytes are still those of the old one."""
     image, new = bytes(volume.image()), FRESH[fresh]()
     made = bytearray(image.ljust(len(new.image()), b"\0"))

@@ -2,7 +2,7 @@
 """Runs of fcore beside the answers over single images: words, scripts, lines that are refused, fresh volumes, what isn't built."""
 from __future__ import annotations
 
-from typing import Any, Iterator, List, Optional, Tuple, Union
+from typing import Iterator, List, Optional, Sequence, Tuple, Union
 
 from tools.images.volumes import FRESH
 from tools.reference.filecore import (BAD_COMMAND, BAD_NAME, EXISTS, INTO_ITSELF, IS_DIRECTORY, LOCKED, NOT_DIRECTORY, NOT_EMPTY,
@@ -20,13 +20,13 @@ class Case:
         self.script = script if isinstance(script, bytes) else script.encode()
         self.made, self.absent = made, absent
 
-    def image(self) -> str:
+    def image(self) -> Optional[str]:
         """The image, where the words name one alone or with --read-only."""
         rest = [word for word in self.words if word not in ("--read-only", "--")]
         return rest[0] if len(rest) == 1 and not rest[0].startswith("-") else None
 
 
-def lines_case(name: str, image: str, pairs: List[Tuple[str, str]], words: Union[List[str], Tuple[Any, ...]] = ()) -> Case:
+def lines_case(name: str, image: str, pairs: List[Tuple[str, str]], words: Sequence[str] = ()) -> Case:
     """Lines with their replies, in one script."""
     pairs = list(pairs)
     status = int(any(reply.startswith("error ") and reply.count("\n") == 1 for line, reply in pairs))

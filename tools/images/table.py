@@ -10,7 +10,7 @@ from __future__ import annotations
 
 import os
 import sys
-from typing import Any, Callable, Dict, Iterator, List, Tuple, Union
+from typing import Callable, Dict, Iterator, List, Tuple, Union
 
 from tools.images import damaged, script_cases
 from tools.images.volumes import FRESH, Directory, File, NewVolume, OldVolume, Volume, fresh_e, fresh_f, record_bytes
@@ -83,7 +83,7 @@ def add_map_oddities(volume: NewVolume, zone: int) -> None:
     volume.split_hole(zone, bits)
 
 
-def new_volume(make: Callable[..., Any], zone: int = 0) -> NewVolume:
+def new_volume(make: Callable[[], NewVolume], zone: int = 0) -> NewVolume:
     volume = make()
     add_tree(volume)
     add_map_oddities(volume, zone)
@@ -121,7 +121,7 @@ def user_disc() -> NewVolume:
 # ---- big directories
 
 
-def big_volume(make: Callable[..., Any]) -> NewVolume:
+def big_volume(make: Callable[[], NewVolume]) -> NewVolume:
     volume = new_volume(make)
     root = volume.root
     many = root.append(volume.directory(root, b"Many", size=10240))
@@ -485,7 +485,7 @@ WHOLE = ("E", "E+", "L")  # every other byte of these is 0
 COPIES = {"F": (0xC6800, 0xC7800, 0xC8800), "F+": (0xC6800, 0xC7800, 0xC8800)}
 
 
-def fresh_differences(form: str) -> List[Any]:
+def fresh_differences(form: str) -> List[str]:
     """What of a fresh volume isn't as it is known from elsewhere."""
     known, image, wrong = KNOWN_BYTES[form], FRESH[form]().image(), []
     wanted = bytearray(len(image)) if form in WHOLE else bytearray(image)

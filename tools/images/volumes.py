@@ -7,7 +7,7 @@ this description alone; tools/reference/read_image.py reads the image without it
 from __future__ import annotations
 
 import hashlib
-from typing import TYPE_CHECKING, Any, Dict, Iterator, List, Optional, Set, Tuple, Union
+from typing import TYPE_CHECKING, Callable, Dict, Iterator, List, Optional, Set, Tuple, TypeVar, Union
 
 from tools.reference.filecore import (BOOT_BLOCK, BOOT_SIZE, IS_DIRECTORY, NOT_DIRECTORY, NOT_FOUND, SMALL_SIZE, UNIT, Geometry,
                                       Record, big_directory_check, boot_check, entry_line, folded, head_space, name_space,
@@ -16,11 +16,19 @@ from tools.reference.filecore import (BOOT_BLOCK, BOOT_SIZE, IS_DIRECTORY, NOT_D
 if TYPE_CHECKING:
     from tools.images.large import SparseFile
 
+Part = Tuple[int, Optional[int]]  # of a zone: bits, and identifier; None for a hole
+Some = TypeVar("Some", bound="Entry")
+
 # ---- objects
 
 
 class Entry:
     """What a directory says of an object. `address` None: the object takes no space, and 0 is written."""
+
+    is_directory: bool
+    data: bytes  # of a file
+    length: int  # of a file
+    size: int  # of a big directory
 
     def __init__(self, name: bytes, address: Optional[int], attributes: int, load: int, execution: int) -> None:
         self.name, self.address, self.attributes, self.load, self.execution = name, address, attributes, load, execution
@@ -42,13 +50,13 @@ class Directory(Entry):
 
     def __init__(self, name: bytes, address: int, attributes: int = 8, load: int = 0, execution: int = 0) -> None:
         super().__init__(name, address, attributes, load, execution)
-        self.entries = []  # in stored order
+        self.entries: List[Entry] = []  # in stored order
         self.holder = self
-        self.parent = None  # a parent field that isn't the holder's address
+        self.parent: Optional[int] = None  # a parent field that isn't the holder's address
         self.title = name
         self.head_name = name
         self.sequence = 0
-        self.word = None  # `Hugo` or `Nick`, where it isn't the format's
+        self.word: Optional[bytes] = None  # `Hugo` or `Nick`, where it isn't the format's
         self.size = 2048  # of a big directory
         self.form = 1  # of a big directory's head name: 1 or 2
         self.heap_tail = 0  # bytes of the heap after the names
@@ -56,17 +64,17 @@ class Directory(Entry):
         self.guards_form = False  # of a big directory: whether the word after the heap keeps the second form from being read as the first
         self.reserved = b""  # what the reserved bytes begin with
 
-    def insert(self, entry: Entry) -> Entry:
+    def insert(self, entry: Some) -> Some:
         """In the place of a new entry: before the first greater name."""
         at = next((n for n, other in enumerate(self.entries) if folded(other.name) > folded(entry.name)), len(self.entries))
         self.entries.insert(at, entry)
         return entry
 
-    def append(self, entry: Entry) -> Entry:
+    def append(self, entry: Some) -> Some:
         self.entries.append(entry)
         return entry
 
-    def parent_field(self) -> int:
+    def parent_field(self) -> Optional[int]:
         return self.holder.address if self.parent is None else self.parent
 
 
@@ -151,16 +159,25 @@ class Volume:
     root: Directory
     form: str
 
+    def hole_lengths(self) -> List[int]:
+        raise NotImplementedError
+
+    def lost(self) -> int:
+        raise NotImplementedError
+
+    def image(self) -> bytearray:
+        raise NotImplementedError
+
     def directories(self) -> List[Directory]:
         found = [self.root]
         for directory in found:
-            found += [entry for entry in directory.entries if entry.is_directory]
+            found += [entry for entry in directory.entries if isinstance(entry, Directory)]
         return found
 
     def objects(self) -> List[Entry]:
         return [self.root] + [entry for directory in self.directories() for entry in directory.entries]
 
-    def path_of(self, directory: Directory, entry: Optional[File] = None) -> str:
+    def path_of(self, directory: Directory, entry: Optional[Entry] = None) -> str:
         names = [entry.name] if entry else []
         while directory is not self.root:
             names.insert(0, directory.name)
@@ -170,12 +187,12 @@ class Volume:
     def directory_bytes(self, directory: Directory) -> bytearray:
         return big_directory(directory) if self.form == "big" else small_directory(directory, self.form)
 
-    def is_in_one_piece(self, entry: Directory) -> bool:
+    def is_in_one_piece(self, entry: Entry) -> bool:
         """Whether an object's bytes lie one after the other."""
         return True
 
     def content(self, entry: Entry) -> bytes:
-        return self.directory_bytes(entry) if entry.is_directory else entry.data
+        return self.directory_bytes(entry) if isinstance(entry, Directory) else entry.data
 
     def free_line(self) -> str:
         holes = self.hole_lengths()
@@ -206,7 +223,7 @@ class Volume:
                 yield from self.file_cases(self.path_of(directory, entry), entry)
 
     @staticmethod
-    def file_cases(path: str, entry: File) -> Iterator[Tuple[str, str]]:
+    def file_cases(path: str, entry: Entry) -> Iterator[Tuple[str, str]]:
         yield "digest " + path, hashlib.sha256(entry.data).hexdigest() + "\nok\n"
         yield "load " + path.lower(), entry.data.hex() + "\nok\n"
         if len(entry.data) < 2:
@@ -233,7 +250,7 @@ class OldVolume(Volume):
         self.map_units = 4 if form == "D" else 2
         self.root = Directory(b"$", 4 if form == "D" else 2)
         self.next = self.map_units + self.units_of(SMALL_SIZE[form])
-        self.holes = []
+        self.holes: List[Tuple[int, int]] = []
         self.lost_units = 0
         self.check_start = 255
         self.name, self.identifier, self.option = b"", 0, 0
@@ -289,7 +306,7 @@ class OldVolume(Volume):
         disc[0:512] = self.map_bytes()
         for entry in self.objects():
             content = self.content(entry)
-            if content:
+            if content and entry.address is not None:
                 disc[entry.address * UNIT:entry.address * UNIT + len(content)] = content
         return disc
 
@@ -305,7 +322,7 @@ def seal_old_map(block: bytearray, start: int = 255) -> None:
 class NewVolume(Volume):
     """A volume with zones. `runs` has for each zone the runs in order: length and identifier, None for a hole."""
 
-    def __init__(self, raw: bytearray, has_boot: bool, cross_checks: Any = None) -> None:
+    def __init__(self, raw: bytearray, has_boot: bool, cross_checks: Optional[List[int]] = None) -> None:
         self.raw = raw
         record = Record(raw)
         assert record.fault() is None, record.fault()
@@ -313,10 +330,10 @@ class NewVolume(Volume):
         self.form = "big" if record.version else "D"
         self.has_boot = has_boot
         self.root = Directory(b"$", record.root)
-        self.runs = [[(shape.end(zone) - shape.first(zone), None)] for zone in range(shape.zones)]
+        self.runs: List[List[Part]] = [[(shape.end(zone) - shape.first(zone), None)] for zone in range(shape.zones)]
         self.cross_checks = cross_checks or [0xFF] + [0] * (shape.zones - 1)
         self.next_identifier = 3
-        self.extents = {}  # of all identifiers, found anew for each image
+        self.extents: Dict[int, List[Tuple[int, int]]] = {}  # of all identifiers, found anew for each image
         self.past_end = 0  # the bits that come after the last map bit of each zone
         self.high_bits = 0  # what holes have in the bits of their fields above the distance
 
@@ -325,7 +342,7 @@ class NewVolume(Volume):
         runs = self.runs[zone]
         at = next(n for n, (length, owner) in enumerate(runs) if owner is None and length >= bits + skip)
         rest = runs[at][0] - bits - skip
-        parts = [(skip, None), (bits, identifier), (rest, None)]
+        parts: List[Part] = [(skip, None), (bits, identifier), (rest, None)]
         runs[at:at + 1] = [part for part in parts if part[0]]
 
     def split_hole(self, zone: int, bits: int) -> None:
@@ -364,7 +381,7 @@ class NewVolume(Volume):
         return [bits * self.shape.bit_bytes for runs in self.runs for bits, owner in runs if owner is None]
 
     def owned(self) -> Set[int]:
-        return {entry.address // 256 for entry in self.objects() if entry.is_directory or entry.data} | {1, 2}
+        return {entry.address // 256 for entry in self.objects() if entry.address and (entry.is_directory or entry.data)} | {1, 2}
 
     def lost(self) -> int:
         owned = self.owned()
@@ -402,7 +419,8 @@ class NewVolume(Volume):
 
     def find_extents(self) -> None:
         """The bytes of every identifier's runs, from its home zone round: places and lengths."""
-        shape, found = self.shape, {}
+        shape = self.shape
+        found: Dict[int, List[Tuple[int, int, int]]] = {}
         for zone, runs in enumerate(self.runs):
             bit = shape.base(zone)
             for length, owner in runs:
@@ -410,11 +428,11 @@ class NewVolume(Volume):
                     turn = (zone - shape.home(owner)) % shape.zones
                     found.setdefault(owner, []).append((turn, bit * shape.bit_bytes, length * shape.bit_bytes))
                 bit += length
-        self.extents = {owner: [run[1:] for run in sorted(runs)] for owner, runs in found.items()}
+        self.extents = {owner: [(start, length) for _, start, length in sorted(runs)] for owner, runs in found.items()}
 
-    def pieces_of(self, address: int, length: int) -> Iterator[Tuple[int, int]]:
+    def pieces_of(self, address: Optional[int], length: int) -> Iterator[Tuple[int, int]]:
         """Where the bytes of an object lie: places and lengths."""
-        identifier, low = divmod(address, 256)
+        identifier, low = divmod(address or 0, 256)
         skipped = (low - 1) * self.shape.share if low else 0
         for start, room in self.extents[identifier]:
             passed = min(skipped, room)
@@ -425,7 +443,7 @@ class NewVolume(Volume):
             length -= count
         assert length == 0
 
-    def is_in_one_piece(self, entry: Directory) -> bool:
+    def is_in_one_piece(self, entry: Entry) -> bool:
         return len(list(self.pieces_of(entry.address, len(self.content(entry))))) < 2
 
     def write_object(self, disc: Union[bytearray, SparseFile], entry: Entry) -> None:
@@ -436,9 +454,11 @@ class NewVolume(Volume):
             done += count
 
     def image(self) -> bytearray:
-        return self.write(bytearray(self.shape.record.size))
+        disc = bytearray(self.shape.record.size)
+        self.write(disc)
+        return disc
 
-    def write(self, disc: Union[bytearray, SparseFile]) -> Union[bytearray, SparseFile]:
+    def write(self, disc: Union[bytearray, SparseFile]) -> None:
         """Fills a disc of bytes 0, which takes bytes in slices."""
         shape = self.shape
         self.find_extents()
@@ -449,7 +469,10 @@ class NewVolume(Volume):
         disc[start:start + 2 * len(copy)] = copy + copy
         for entry in self.objects():
             self.write_object(disc, entry)
-        return disc
+
+
+AnyVolume = Union[OldVolume, NewVolume]
+OldOrNew = TypeVar("OldOrNew", OldVolume, NewVolume)
 
 
 def boot_block(raw: bytearray) -> bytearray:
@@ -459,19 +482,19 @@ def boot_block(raw: bytearray) -> bytearray:
     return block
 
 
-def record_bytes(log2_sector: int, idlen: int, log2_bit: int, zones: int, spare: int, root: int, size: int,
-                 **others: Union[Dict[int, int], int]) -> bytearray:
-    """The bytes of a record; `others` may have share, version, root_size, and `carried`, a table of offsets and bytes."""
+def record_bytes(log2_sector: int, idlen: int, log2_bit: int, zones: int, spare: int, root: int, size: int, share: int = 0,
+                 version: int = 0, root_size: int = 0, carried: Optional[Dict[int, int]] = None) -> bytearray:
+    """The bytes of a record; `carried` is a table of offsets and bytes."""
     raw = bytearray(60)
     raw[0], raw[4], raw[5], raw[9], raw[42] = log2_sector, idlen, log2_bit, zones % 256, zones // 256
     put(raw, 10, 2, spare)
     put(raw, 12, 4, root)
     put(raw, 16, 4, size % (1 << 32))
     put(raw, 36, 4, size >> 32)
-    raw[40] = others.get("share", 0)
-    put(raw, 44, 4, others.get("version", 0))
-    put(raw, 48, 4, others.get("root_size", 0))
-    for at, byte in others.get("carried", {}).items():
+    raw[40] = share
+    put(raw, 44, 4, version)
+    put(raw, 48, 4, root_size)
+    for at, byte in (carried or {}).items():
         raw[at] = byte
     return raw
 
@@ -506,5 +529,6 @@ def fresh_old(form: str) -> OldVolume:
     return volume
 
 
-FRESH = {"E": fresh_e, "F": fresh_f, "D": lambda: fresh_old("D"), "L": lambda: fresh_old("L"),
-         "E+": lambda: fresh_e(True), "F+": lambda: fresh_f(True)}
+FRESH_NEW: Dict[str, Callable[[], NewVolume]] = {"E": fresh_e, "F": fresh_f, "E+": lambda: fresh_e(True), "F+": lambda: fresh_f(True)}
+FRESH: Dict[str, Callable[[], AnyVolume]] = {
+    "E": fresh_e, "F": fresh_f, "D": lambda: fresh_old("D"), "L": lambda: fresh_old("L"), "E+": FRESH_NEW["E+"], "F+": FRESH_NEW["F+"]}

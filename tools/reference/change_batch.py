@@ -8,7 +8,7 @@ lines.
 from __future__ import annotations
 
 import re
-from typing import Any, Dict, List, Optional, Tuple
+from typing import Dict, List, Optional, Tuple
 
 from tools.reference.change_answer import CHANGING, WORDS, Command, refusal_of, tree_after
 from tools.reference.change_state import State, changed_sectors, key_of
@@ -38,7 +38,7 @@ class TreeDisc:
         self.root, self.directories = root, directories
 
     @staticmethod
-    def content(entry: Any) -> Any:
+    def content(entry: Node) -> Optional[bytes]:
         return entry.content
 
 
@@ -68,10 +68,10 @@ class TreeState:
     def tree(self) -> Dict[Tuple[bytes, ...], Tuple[int, int, int, Optional[bytes]]]:
         return dict(self.nodes)
 
-    def holes(self) -> Any:
+    def holes(self) -> List[Tuple[int, int, int]]:
         return self.first.holes()
 
-    def old_holes(self) -> Any:
+    def old_holes(self) -> List[Tuple[int, int]]:
         return self.first.old_holes()
 
 
@@ -112,7 +112,7 @@ def follow(state: TreeState, script: List[bytes], text: str, read_only: bool) ->
     return state, changed, refused, "more text than replies: %r" % text[:200] if text else ""
 
 
-def tree_faults(wanted: TreeState, found: TreeState) -> List[Any]:
+def tree_faults(wanted: TreeState, found: TreeState) -> List[str]:
     odd, both = set(wanted.nodes) ^ set(found.nodes), set(wanted.nodes) & set(found.nodes)
     faults = ["%s is missing, or should not be there" % spelled_path(path) for path in odd]
     return sorted(faults + ["%s is another object" % spelled_path(path) for path in both if wanted.nodes[path] != found.nodes[path]])
@@ -126,7 +126,7 @@ def touching(state: State) -> int:
     return sum(one[0] == other[0] and one[1] + one[2] == other[1] for one, other in zip(holes, holes[1:]))
 
 
-def layout_faults(before: State, after: State, changed: bool) -> List[Any]:
+def layout_faults(before: State, after: State, changed: bool) -> List[str]:
     """What holds of any script that doesn't reclaim or compact."""
     found = []
     if before.idle_sectors() - after.idle_sectors():
@@ -146,7 +146,7 @@ def layout_faults(before: State, after: State, changed: bool) -> List[Any]:
     return found
 
 
-def batch_differences(before: State, after: State, script: List[bytes], status: int, text: str, read_only: bool) -> List[Any]:
+def batch_differences(before: State, after: State, script: List[bytes], status: int, text: str, read_only: bool) -> List[str]:
     """All that is wrong with a script that was run at once."""
     end, changed, refused, wrong = follow(TreeState.of(before), script, text, read_only)
     if wrong:

@@ -7,9 +7,9 @@ directory, the length of a small directory in an entry that a command names), ea
 """
 from __future__ import annotations
 
-from typing import TYPE_CHECKING, Any, List, Optional, Tuple
+from typing import TYPE_CHECKING, List, Optional, Tuple
 
-from tools.reference.change_state import SmallHead, State, name_in, same_name, size_for
+from tools.reference.change_state import BigHead, SmallHead, State, name_in, same_name, size_for
 from tools.reference.filecore import folded, head_space, name_space, padded, spelled_path
 from tools.reference.read_image import Entry
 
@@ -27,7 +27,7 @@ class Line:
         self.address, self.lengths, self.lasts = entry.address, {entry.length}, {last}
         self.raw = raw
 
-    def differences(self, other: Line) -> List[Any]:
+    def differences(self, other: Line) -> List[str]:
         """The fields in which the entry that is there, `other`, isn't this one."""
         fields = ("name", "attributes", "load", "execution", "address")
         fields = [field for field in fields if getattr(self, field) != getattr(other, field)]
@@ -86,7 +86,7 @@ def wanted_lines(change: Change, key: Tuple[bytes, ...]) -> List[Line]:
     return lines
 
 
-def entry_differences(change: Change, key: Tuple[bytes, ...], now: Tuple[bytes, ...]) -> List[Any]:
+def entry_differences(change: Change, key: Tuple[bytes, ...], now: Tuple[bytes, ...]) -> List[str]:
     wanted, there = wanted_lines(change, key), lines_of(change.after, now)
     path = spelled_path(now)
     if [line.name for line in wanted] != [line.name for line in there]:
@@ -119,19 +119,19 @@ def has_to_name_holder(change: Change, key: Tuple[bytes, ...]) -> bool:
 # ---- heads
 
 
-def new_name(change: Change, key: Tuple[bytes, ...]) -> Any:
+def new_name(change: Change, key: Tuple[bytes, ...]) -> Optional[bytes]:
     """The name that a renamed directory gets, or None."""
     return change.c.paths[1][-1] if change.c.word == "rename" and key == change.c.key() else None
 
 
-def small_name_fault(change: Change, key: Tuple[bytes, ...], old: SmallHead, new: SmallHead) -> List[Any]:
+def small_name_fault(change: Change, key: Tuple[bytes, ...], old: SmallHead, new: SmallHead) -> List[str]:
     """A renamed directory has its new name; another keeps its field, or has the same name padded anew."""
     name = new_name(change, key)
     allowed = [padded(name, 10)] if name else [old.name, padded(name_in(old.name), 10)]
     return [] if new.name in allowed else ["the name in its head is %s" % new.name]
 
 
-def small_differences(change: Change, key: Tuple[bytes, ...], old: SmallHead, new: SmallHead) -> List[Any]:
+def small_differences(change: Change, key: Tuple[bytes, ...], old: SmallHead, new: SmallHead) -> List[str]:
     found = [field for field in ("word", "title", "reserved") if getattr(old, field) != getattr(new, field)]
     found = ["its %s has changed" % field for field in found] + small_name_fault(change, key, old, new)
     if new.mark not in (0, old.mark):
@@ -141,7 +141,7 @@ def small_differences(change: Change, key: Tuple[bytes, ...], old: SmallHead, ne
     return found
 
 
-def heap_sizes(change: Change, key: Tuple[bytes, ...], old: SmallHead, count: int) -> Any:
+def heap_sizes(change: Change, key: Tuple[bytes, ...], old: BigHead, count: int) -> Tuple[int, int, bool]:
     """The least and the greatest heap, and whether only these two will do."""
     names = [entry.name for entry in change.after.objects[change.key_after(key)].entries]
     packed, kept = sum(name_space(name) for name in names), len(old.heap)
@@ -151,7 +151,7 @@ def heap_sizes(change: Change, key: Tuple[bytes, ...], old: SmallHead, count: in
     return packed, kept, count == len(names)
 
 
-def heap_fault(change: Change, key: Tuple[bytes, ...], old: SmallHead, new: SmallHead, count: int) -> Any:
+def heap_fault(change: Change, key: Tuple[bytes, ...], old: BigHead, new: BigHead, count: int) -> List[str]:
     least, most, only = heap_sizes(change, key, old, count)
     size = len(new.heap)
     if size in (least, most) or not only and min(least, most) <= size <= max(least, most):
@@ -159,7 +159,7 @@ def heap_fault(change: Change, key: Tuple[bytes, ...], old: SmallHead, new: Smal
     return ["its heap has %d bytes, and not %d or %d" % (size, least, most)]
 
 
-def head_name_fault(change: Change, key: Tuple[bytes, ...], old: SmallHead, new: SmallHead, entries: Any) -> Any:
+def head_name_fault(change: Change, key: Tuple[bytes, ...], old: BigHead, new: BigHead, entries: List[Entry]) -> List[str]:
     """A renamed directory has its new name in its head if there is space for it beside its heap, whichever heap is written."""
     name, kept = new_name(change, key), [old.name]
     if name:
@@ -175,7 +175,7 @@ def head_name_fault(change: Change, key: Tuple[bytes, ...], old: SmallHead, new:
     return found
 
 
-def big_differences(change: Change, key: Tuple[bytes, ...], old: SmallHead, new: SmallHead) -> Any:
+def big_differences(change: Change, key: Tuple[bytes, ...], old: BigHead, new: BigHead) -> List[str]:
     size = change.needs.size if key == change.needs.grown else old.size
     found = [] if new.size == size else ["it has %d bytes instead of %d" % (new.size, size)]
     found += [] if new.reserved == old.reserved else ["its reserved bytes have changed"]
@@ -183,7 +183,7 @@ def big_differences(change: Change, key: Tuple[bytes, ...], old: SmallHead, new:
     return found + head_name_fault(change, key, old, new, change.before.objects[key].entries)
 
 
-def rewritten_differences(change: Change, key: Tuple[bytes, ...], now: Tuple[bytes, ...]) -> List[Any]:
+def rewritten_differences(change: Change, key: Tuple[bytes, ...], now: Tuple[bytes, ...]) -> List[str]:
     """What a directory owes whose bytes have changed."""
     old, new = change.before.heads[key], change.after.heads[now]
     holder = change.after.objects[now].holder
@@ -196,7 +196,7 @@ def rewritten_differences(change: Change, key: Tuple[bytes, ...], now: Tuple[byt
     return ["%s: %s" % (spelled_path(now), one) for one in found]
 
 
-def kept_differences(change: Change, key: Tuple[bytes, ...], now: Tuple[bytes, ...]) -> List[Any]:
+def kept_differences(change: Change, key: Tuple[bytes, ...], now: Tuple[bytes, ...]) -> List[str]:
     """What a directory owes whose bytes are as they were."""
     old, found = change.before.heads[key], []
     if has_to_name_holder(change, key):
@@ -211,7 +211,7 @@ def kept_differences(change: Change, key: Tuple[bytes, ...], now: Tuple[bytes, .
     return ["%s: %s" % (spelled_path(now), one) for one in found]
 
 
-def new_entry_spelling(change: Change) -> List[Any]:
+def new_entry_spelling(change: Change) -> List[str]:
     """A name that is new is followed by 13 and bytes 0."""
     c, after = change.c, change.after
     holder = c.target()[:-1]
@@ -228,7 +228,7 @@ def new_entry_spelling(change: Change) -> List[Any]:
     return [] if is_kept or raw == padded(name, 10) else ["the new name is followed by %s" % raw[len(name):]]
 
 
-def new_directory(change: Change) -> List[Any]:
+def new_directory(change: Change) -> List[str]:
     """What `cdir` owes beside the tree."""
     if change.c.word != "cdir":
         return []
@@ -245,7 +245,7 @@ def new_directory(change: Change) -> List[Any]:
     return ["the new directory has " + one for one in found]
 
 
-def differences(change: Change) -> List[Any]:
+def differences(change: Change) -> List[str]:
     """All that is wrong with the directories; the tree is right."""
     found = []
     for key in change.before.heads:

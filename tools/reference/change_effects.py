@@ -6,7 +6,7 @@ Each function answers a list of differences in words; the list is empty if all i
 """
 from __future__ import annotations
 
-from typing import Any, List, Optional, Set, Tuple, Union
+from typing import Iterable, List, Optional, Set, Tuple, Union
 
 from tools.reference import change_directories
 from tools.reference.change_answer import OLD_HOLES, Command, Needs, given, low_byte, tree_after
@@ -43,7 +43,7 @@ class Change:
     def new_identifier(self) -> Optional[int]:
         return self.made().address // 256 if self.takes_space() else None
 
-    def grown(self) -> Any:
+    def grown(self) -> Optional[Entry]:
         """The grown directory afterwards, or None."""
         return None if self.needs.grown is None else self.after.objects[self.key_after(self.needs.grown)]
 
@@ -62,7 +62,7 @@ def content_differs(change: Change, wanted: Union[bytes, Entry], entry: Entry) -
     return change.after.content(entry) != change.before.content(wanted)
 
 
-def tree_differences(change: Change) -> List[Any]:
+def tree_differences(change: Change) -> List[str]:
     wanted, found = tree_after(change.before, change.c), change.after.tree()
     differences = ["%s is missing" % spelled_path(path) for path in sorted(set(wanted) - set(found))[:3]]
     differences += ["%s should not be there" % spelled_path(path) for path in sorted(set(found) - set(wanted))[:3]]
@@ -77,7 +77,7 @@ def tree_differences(change: Change) -> List[Any]:
     return differences
 
 
-def shown(numbers: Any) -> Any:
+def shown(numbers: Iterable[int]) -> str:
     return " ".join("%08x" % number for number in numbers)
 
 
@@ -95,7 +95,7 @@ def fewest(holes: List[Tuple[int, int, int]], bits: int) -> int:
 
 
 def taken(change: Change, holes: List[Tuple[int, int, int]], parts: List[Tuple[int, int, int]], bits: int,
-          who: str) -> Tuple[List[Tuple[int, int, int]], List[Any]]:
+          who: str) -> Tuple[List[Tuple[int, int, int]], List[str]]:
     """The holes that are left when the parts are taken, and the differences from what may be taken."""
     least, found, left = change.before.map.shape.least, [], list(holes)
     total = sum(length for zone, start, length in parts)
@@ -117,7 +117,7 @@ def taken(change: Change, holes: List[Tuple[int, int, int]], parts: List[Tuple[i
     return sorted(left), found
 
 
-def address_differences(change: Change) -> List[Any]:
+def address_differences(change: Change) -> List[str]:
     """The address of the named object, unless it lies in new space."""
     made, needs, c = change.made(), change.needs, change.c
     if made is None or change.takes_space():
@@ -131,11 +131,11 @@ def address_differences(change: Change) -> List[Any]:
     return [] if made.address == wanted else ["the object has the address %x instead of %x" % (made.address, wanted)]
 
 
-def fresh_identifier(change: Change, identifier: int, who: str) -> List[Any]:
+def fresh_identifier(change: Change, identifier: int, who: str) -> List[str]:
     return [] if identifier in change.before.free_identifiers() else ["%s has identifier %d, which wasn't free" % (who, identifier)]
 
 
-def object_placed(change: Change) -> Tuple[List[Tuple[int, int, int]], List[Any]]:
+def object_placed(change: Change) -> Tuple[List[Tuple[int, int, int]], List[str]]:
     """The holes that the new object leaves, and differences."""
     holes = change.before.holes()
     if not change.takes_space():
@@ -152,7 +152,7 @@ def object_placed(change: Change) -> Tuple[List[Tuple[int, int, int]], List[Any]
     return left, found + wrong
 
 
-def growth_placed(change: Change, holes: List[Tuple[int, int, int]]) -> Tuple[List[Tuple[int, int, int]], List[Any]]:
+def growth_placed(change: Change, holes: List[Tuple[int, int, int]]) -> Tuple[List[Tuple[int, int, int]], List[str]]:
     """The holes that the grown directory leaves, and differences."""
     needs, grown = change.needs, change.grown()
     if grown is None:
@@ -202,11 +202,11 @@ def runs_after(change: Change, left: List[Tuple[int, int, int]], gone: Set[int])
     return sorted(kept + [(zone, *hole, None) for zone, found in holes.items() for hole in found], key=lambda run: run[:3])
 
 
-def run_text(run: Any) -> str:
+def run_text(run: Tuple[int, int, int, Optional[int]]) -> str:
     return "zone %d at %d, %d bits, %s" % (*run[:3], "hole" if run[3] is None else "identifier %d" % run[3])
 
 
-def map_differences(change: Change) -> List[Any]:
+def map_differences(change: Change) -> List[str]:
     left, found = object_placed(change)
     left, wrong = growth_placed(change, left)
     found += wrong
@@ -216,7 +216,7 @@ def map_differences(change: Change) -> List[Any]:
     return found
 
 
-def zone_differences(change: Change) -> List[Any]:
+def zone_differences(change: Change) -> List[str]:
     """Bits outside the allocation bits, links, and the record."""
     shape, found = change.before.map.shape, []
     copies = chosen_copy(change.before), change.after.copies()[0]
@@ -241,7 +241,7 @@ def chosen_copy(state: State) -> bytes:
     return chosen
 
 
-def high_bits(change: Change, zone: int, old: bytes, new: bytes) -> List[Any]:
+def high_bits(change: Change, zone: int, old: bytes, new: bytes) -> List[str]:
     """Bits of a hole's field above the link are 0, or as they were."""
     shape = change.before.map.shape
     if shape.idlen <= 15:
@@ -256,7 +256,7 @@ def high_bits(change: Change, zone: int, old: bytes, new: bytes) -> List[Any]:
     return []
 
 
-def record_differences(change: Change, old: bytes, new: bytes) -> List[Any]:
+def record_differences(change: Change, old: bytes, new: bytes) -> List[str]:
     wanted = bytearray(old)
     if change.needs.grown == ():
         root = change.grown()
@@ -265,7 +265,7 @@ def record_differences(change: Change, old: bytes, new: bytes) -> List[Any]:
     return ["the record differs at %s" % places] if places else []
 
 
-def copy_differences(change: Change) -> List[Any]:
+def copy_differences(change: Change) -> List[str]:
     one, other = change.after.copies()
     return [] if one == other else ["the two copies of the map differ"]
 
@@ -273,7 +273,7 @@ def copy_differences(change: Change) -> List[Any]:
 # ---- old maps
 
 
-def old_map_differences(change: Change) -> List[Any]:
+def old_map_differences(change: Change) -> List[str]:
     found, needs = [], change.needs
     wanted, there = needs.old_holes_after(), change.after.old_holes()
     if wanted != there:
@@ -285,7 +285,7 @@ def old_map_differences(change: Change) -> List[Any]:
     return found + old_map_bytes(change, change.before.old_holes() != there)
 
 
-def old_map_bytes(change: Change, is_new: bool) -> List[Any]:
+def old_map_bytes(change: Change, is_new: bool) -> List[str]:
     """An old map keeps every byte but its hole fields, FreeEnd and checks."""
     old, new = change.before.data, change.after.data
     found = ["byte %d of the map has changed" % at for at in [*range(246, 255), *range(502, 510)] if old[at] != new[at]]
@@ -304,7 +304,7 @@ def old_map_bytes(change: Change, is_new: bool) -> List[Any]:
 # ---- all that stays
 
 
-def outside_differences(change: Change) -> List[Any]:
+def outside_differences(change: Change) -> List[str]:
     before, after, found = change.before, change.after, []
     if after.kind != before.kind:
         found.append("the image opens as %s instead of %s" % (after.kind, before.kind))
@@ -320,7 +320,7 @@ def outside_differences(change: Change) -> List[Any]:
     return found
 
 
-def differences(before: State, after: State, c: Command, needs: Needs) -> List[Any]:
+def differences(before: State, after: State, c: Command, needs: Needs) -> List[str]:
     """All that is wrong with what a changing command left."""
     change = Change(before, after, c, needs)
     found = tree_differences(change)

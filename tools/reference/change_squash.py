@@ -2,22 +2,22 @@
 """What `compact` may do to a disc with an old map: the differences from `Compacts` of fc_image::effects."""
 from __future__ import annotations
 
-from typing import Any, Tuple
+from typing import List, Tuple
 
 from tools.reference.change_directories import lines_of
 from tools.reference.change_effects import old_map_bytes, outside_differences
-from tools.reference.change_state import changed_sectors
+from tools.reference.change_state import State, changed_sectors
 from tools.reference.filecore import spelled_path
 
 
 class Compaction:
     """The image before it and after it."""
 
-    def __init__(self, before: Any, after: Any) -> None:
+    def __init__(self, before: State, after: State) -> None:
         self.before, self.after, self.changed = before, after, changed_sectors(before, after)
 
 
-def tree_differences(before: Any, after: Any) -> Any:
+def tree_differences(before: State, after: State) -> List[str]:
     """The tree is the same, and files of 0 bytes keep their addresses."""
     if [entry.path for entry in before.objects.values()] != [entry.path for entry in after.objects.values()]:
         return ["there are other objects"]
@@ -31,7 +31,7 @@ def tree_differences(before: Any, after: Any) -> Any:
     return found
 
 
-def directory_differences(before: Any, after: Any, key: Tuple[bytes, ...]) -> Any:
+def directory_differences(before: State, after: State, key: Tuple[bytes, ...]) -> List[str]:
     """A directory keeps all but addresses, its parent field if its holder moved, and its sequence if it is rewritten."""
     old, new, entry = before.heads[key], after.heads[key], before.objects[key]
     found = [field for field in ("word", "name", "title", "reserved") if getattr(old, field) != getattr(new, field)]
@@ -46,7 +46,7 @@ def directory_differences(before: Any, after: Any, key: Tuple[bytes, ...]) -> An
     return ["%s has another %s" % (spelled_path(entry.path), one) for one in found]
 
 
-def left_to_do(after: Any) -> Any:
+def left_to_do(after: State) -> List[str]:
     """Holes that touch, or that an object follows."""
     starts = {entry.sectors[0]: entry for entry in after.objects.values() if entry.sectors and entry is not after.disc.root}
     holes = after.old_holes()
@@ -54,7 +54,7 @@ def left_to_do(after: Any) -> Any:
     return found + ["two holes touch at %d" % sum(one) for one, other in zip(holes, holes[1:]) if sum(one) == other[0]]
 
 
-def differences(before: Any, after: Any) -> Any:
+def differences(before: State, after: State) -> List[str]:
     found = tree_differences(before, after)
     if found:
         return found

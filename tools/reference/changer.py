@@ -6,7 +6,8 @@ tools/reference/change_answer.py. With the name of a fault it does one thing wro
 """
 from __future__ import annotations
 
-from typing import Any, Dict, List, Optional, Set, Tuple, Union
+import random
+from typing import Dict, List, Optional, Set, Tuple, Union
 
 from tools.reference.change_answer import WORDS, Command, Needs, low_byte, owed_refusal
 from tools.reference.change_state import State, size_for
@@ -88,7 +89,7 @@ class Folder:
         block[-1] = small_directory_check(block, 5 + len(items)) if is_d else 0
         return block
 
-    def heap(self, chance: Any) -> Tuple[bytearray, Dict[bytes, int]]:
+    def heap(self, chance: random.Random) -> Tuple[bytearray, Dict[bytes, int]]:
         """The heap and the names' places in it: appended to, or packed."""
         packed, at = bytearray(), {}
         for item in self.items:
@@ -104,7 +105,7 @@ class Folder:
             return packed, at
         return kept, places
 
-    def big(self, parent: int, sequence: int, chance: Any, form: int, fault: Optional[str]) -> bytearray:
+    def big(self, parent: int, sequence: int, chance: random.Random, form: int, fault: Optional[str]) -> bytearray:
         heap, places = self.heap(chance)
         block, first = bytearray(self.size), 28 + head_space(form, self.name)
         names = first + 28 * len(self.items)
@@ -124,7 +125,7 @@ class Folder:
             block[end] = 1  # else it would be read in the first form
         return block
 
-    def written(self, parent: int, fault: Optional[str], chance: Any) -> bytearray:
+    def written(self, parent: int, fault: Optional[str], chance: random.Random) -> bytearray:
         sequence = (self.head.sequence + (fault != "sequence kept")) % 256
         if fault == "entries sorted":
             self.items.sort(key=lambda item: folded(item.name))
@@ -165,7 +166,7 @@ def empty_folder(form: str, name: bytes, parent: int) -> bytearray:
 class NewSpace:
     """The runs of a new map, and their change."""
 
-    def __init__(self, state: State, fault: Optional[str], chance: Any) -> None:
+    def __init__(self, state: State, fault: Optional[str], chance: random.Random) -> None:
         self.state, self.shape, self.fault, self.chance = state, state.map.shape, fault, chance
         self.runs = {tuple(run[:2]): [run[2], run[3]] for run in state.map.runs}  # zone and start: bits and identifier
         self.free = state.free_identifiers()
@@ -203,7 +204,7 @@ class NewSpace:
                 self.runs[zone, start + length] = [rest, None]
         return identifier, sum(length for place, length in parts), {place for place, length in parts}
 
-    def extents(self, identifier: int, only: Any = None) -> List[Tuple[int, int]]:
+    def extents(self, identifier: int, only: Optional[Set[Tuple[int, int]]] = None) -> List[Tuple[int, int]]:
         """The places of an identifier's bytes and their lengths, in order."""
         home, bit = self.shape.home(identifier), self.shape.bit_bytes
         found = sorted(((zone - home) % self.shape.zones, start, length) for (zone, start), (length, owner) in self.runs.items()
@@ -257,7 +258,7 @@ class NewSpace:
 class Edit:
     """One accepted command, made on a copy of the image."""
 
-    def __init__(self, state: State, c: Command, needs: Needs, fault: Optional[str], chance: Any) -> None:
+    def __init__(self, state: State, c: Command, needs: Needs, fault: Optional[str], chance: random.Random) -> None:
         self.state, self.c, self.needs, self.fault, self.chance = state, c, needs, fault, chance
         self.image = bytearray(state.data)
         self.folders, self.root = {}, (state.disc.root.address, None)
@@ -323,7 +324,7 @@ class Edit:
     def is_left_unwritten(self) -> bool:
         return self.fault == "zeros not written" and self.c.word == "create"
 
-    def old_object(self, content: bytes) -> Any:
+    def old_object(self, content: bytes) -> int:
         sector = self.state.sector
         wanted = -(-len(content) // sector)
         place = self.needs.old_place()
@@ -333,7 +334,7 @@ class Edit:
             self.write([(place * sector, wanted * sector)], content)
         return place * sector // 256
 
-    def grow(self) -> Set[Any]:
+    def grow(self) -> Set[Tuple[int, int]]:
         """The grown directory's new space or size."""
         needs, key = self.needs, self.needs.grown
         if key is None:
@@ -450,7 +451,7 @@ class Edit:
         if self.state.is_directory(source):
             self.rename_folder(source, name)
 
-    def rename_folder(self, source: Any, name: bytes) -> None:
+    def rename_folder(self, source: Tuple[bytes, ...], name: bytes) -> None:
         folder = self.folder(source)
         if self.state.form != "big":
             folder.name = padded(name, 10)
@@ -505,7 +506,7 @@ class Edit:
                     self.image[place:place + sector] = new
 
 
-def repaired(state: State) -> Any:
+def repaired(state: State) -> bytes:
     """The image with two equal copies of the map."""
     if not state.is_new or len(set(state.copies())) == 1:
         return state.data
@@ -513,7 +514,7 @@ def repaired(state: State) -> Any:
     return state.data[:start] + chosen + chosen + state.data[start + 2 * len(chosen):]
 
 
-def changed(state: State, c: Command, fault: Optional[str], chance: Any) -> Tuple[str, bytes]:
+def changed(state: State, c: Command, fault: Optional[str], chance: random.Random) -> Tuple[str, bytes]:
     """The reply to a changing command, and the image afterwards: the same one, if it is refused."""
     number, needs = owed_refusal(state, c)
     if number == 14 and needs and fault == "space given back first" and Edit(state, c, needs, fault, chance).gone():
@@ -561,7 +562,7 @@ def squashed(state: State, fault: Optional[str]) -> bytes:
     return bytes(image)
 
 
-def moved_folder(state: State, key: Tuple[bytes, ...], children: Any, parent: int) -> Any:
+def moved_folder(state: State, key: Tuple[bytes, ...], children: Dict[Entry, int], parent: int) -> bytearray:
     """The bytes of a directory with its entries' new addresses."""
     folder = Folder(state, key)
     for item, place in zip(folder.items, children.values()):
@@ -570,7 +571,7 @@ def moved_folder(state: State, key: Tuple[bytes, ...], children: Any, parent: in
     return folder.small(parent, (folder.head.sequence + 1) % 256)
 
 
-def write_holes(image: Any, state: State, holes: Any, keeps_unused: bool = False) -> None:
+def write_holes(image: bytearray, state: State, holes: List[Tuple[int, int]], keeps_unused: bool = False) -> None:
     """An old map with these holes, each a first sector and sectors."""
     step, block = state.sector // 256, image[0:512]
     if holes == state.old_holes():

@@ -13,9 +13,11 @@ from __future__ import annotations
 import hashlib
 import signal
 import sys
-from typing import Any, Dict, List, Optional, Set, Tuple, Union
+from typing import List, Optional, Set, Tuple, TypedDict, Union
 
-Fields = Dict[str, Any]  # of an entry, by their names
+Fields = TypedDict("Fields", {
+    "name": bytes, "load": int, "exec": int, "length": int, "address": int, "attributes": int, "path": str,
+    "sectors": Optional[List[int]], "entries": List["Fields"], "parent": "Fields", "parent field": int}, total=False)
 
 
 class Bad(Exception):
@@ -143,7 +145,7 @@ def valid(raw: bytes) -> Optional[Record]:
 # ---- kinds
 
 
-def kind_of(data: bytes) -> Optional[Tuple[str, Union[int, Record]]]:  # Kinds, table, row by row
+def kind_of(data: bytes) -> Tuple[str, Union[int, Record]]:  # Kinds, table, row by row
     if len(data) >= 0xE00:
         block = data[0xC00:0xE00]
         if block[511] == boot_check(block) and valid(block[0x1C0:0x1FC]):
@@ -183,7 +185,7 @@ class NewMap:
         self.boot, self.copies = set(boot), set(copies)
         self.claimed = self.boot | self.copies  # Walk, what is claimed at the beginning
 
-    def choose(self, data: bytes) -> Optional[List[bytes]]:  # Two copies
+    def choose(self, data: bytes) -> List[bytes]:  # Two copies
         g, wrong = self.g, []
         for first in (g.map_sector(), g.map_sector() + g.zones):  # New map, second sentence
             zones = [data[self.sector * at:self.sector * (at + 1)] for at in range(first, first + g.zones)]
@@ -196,7 +198,7 @@ class NewMap:
             wrong.append(bad[0] if bad else g.zones)
         raise Bad("Copies", *wrong)
 
-    def own_record(self, zone: bytes) -> Optional[Record]:  # Two copies, the map's record
+    def own_record(self, zone: bytes) -> Record:  # Two copies, the map's record
         for at in [0, 4, 5, 9, 10, 11, *range(16, 20), *range(36, 40), 40, 42, *range(44, 48)]:
             if (zone[4 + at] ^ self.g.raw[at]) & (15 if at == 40 else 255):
                 raise Bad("Differs", at)
@@ -240,7 +242,7 @@ class NewMap:
         home = self.g.home(identifier)
         return self.sectors_of_runs([run for z, run in runs if z >= home] + [run for z, run in runs if z < home])
 
-    def sectors(self, address: int, length: int) -> List[int]:  # Addresses on new maps, sharing
+    def sectors(self, address: int, length: int) -> Optional[List[int]]:  # Addresses on new maps, sharing
         if length == 0:
             return []
         identifier, low = address // 256, address % 256
@@ -304,7 +306,7 @@ def upper(name: bytes) -> bytes:  # Small directories, last sentence
     return bytes(byte - 32 if 97 <= byte <= 122 else byte for byte in name)
 
 
-def check_names(entries: List[Fields]) -> Optional[List[Fields]]:  # the last two rows of either table of faults
+def check_names(entries: List[Fields]) -> List[Fields]:  # the last two rows of either table of faults
     for at, entry in enumerate(entries):
         if not entry["name"]:
             raise Bad("BadEntry", at)
@@ -332,7 +334,7 @@ def small_entry(raw: bytes, form: str) -> Fields:  # Small directories, table of
                 attributes=attributes)
 
 
-def read_small(data: bytes, form: str) -> Optional[Tuple[List[Fields], int]]:  # Small directories
+def read_small(data: bytes, form: str) -> Tuple[List[Fields], int]:  # Small directories
     size, places, parent = (2048, 77, 2010) if form == "2048" else (1280, 47, 1238)
     if data[1:5] not in (b"Hugo", b"Nick") or data[size - 5:size - 1] != data[1:5]:
         raise Bad("Magic")
@@ -349,7 +351,7 @@ def read_small(data: bytes, form: str) -> Optional[Tuple[List[Fields], int]]:  #
     return check_names([small_entry(raw, form) for raw in raws[:count]]), num(data, parent, 3)
 
 
-def read_big(data: bytes) -> Optional[Tuple[List[Fields], int]]:  # Big directories; the tables of fields, then that of faults, row by row
+def read_big(data: bytes) -> Tuple[List[Fields], int]:  # Big directories; the tables of fields, then that of faults, row by row
     size = len(data)
     if not is_big_size(size):
         raise Bad("Size")
@@ -446,7 +448,7 @@ def line(entry: Fields) -> str:
     return "%s %08x %08x %08x %s" % (entry["path"], entry["attributes"], entry["load"], entry["exec"], length)
 
 
-def main(image: str, path: Any = None) -> int:
+def main(image: str, path: Optional[str] = None) -> int:
     """The status: 3 for an image that isn't accepted, 1 for a path that is no file."""
     with open(image, "rb") as file:
         data = file.read()

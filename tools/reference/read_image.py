@@ -61,7 +61,7 @@ def old_units(data: bytes) -> Optional[int]:
     return number(data, 252, 3)
 
 
-def kind_of(data: bytes) -> Optional[Tuple[str, Union[int, Record]]]:
+def kind_of(data: bytes) -> Tuple[str, Union[int, Record]]:
     """The kind, and its record or its units."""
     record = boot_record(data)
     if record:
@@ -94,7 +94,7 @@ class OldMap:
         self.taken = self.reserved | {sector for first, end in self.holes for sector in range(first, end)}
         self.free = [(end - first) * self.sector for first, end in self.holes]
 
-    def read_holes(self, data: bytes) -> Optional[List[Tuple[int, int]]]:
+    def read_holes(self, data: bytes) -> List[Tuple[int, int]]:
         free_end = data[510]
         if free_end % 3 or free_end > 246:
             raise Fault("Hole", free_end // 3)
@@ -123,7 +123,7 @@ class OldMap:
         return (self.units * UNIT // self.sector - len(claimed)) * self.sector
 
 
-def runs_of(sector: bytes, zone: int, shape: Geometry) -> Optional[List[Tuple[int, int, int]]]:
+def runs_of(sector: bytes, zone: int, shape: Geometry) -> List[Tuple[int, int, int]]:
     """The runs of a zone, as start, length and field; a fault where the bits don't spell runs."""
     bits = int.from_bytes(sector, "little")
     start, end, runs = shape.first(zone), shape.end(zone), []
@@ -141,7 +141,7 @@ def runs_of(sector: bytes, zone: int, shape: Geometry) -> Optional[List[Tuple[in
     return runs
 
 
-def hole_starts(sector: bytes, zone: int, runs: List[Tuple[int, int, int]]) -> Optional[Set[int]]:
+def hole_starts(sector: bytes, zone: int, runs: List[Tuple[int, int, int]]) -> Set[int]:
     fields = {start: field for start, length, field in runs}
     place, distance, holes = 8, number(sector, 1, 2) & 0x7FFF, set()
     while distance:
@@ -175,7 +175,7 @@ class NewMap:
         self.free = [length * shape.bit_bytes for zone, start, length, identifier in self.runs if identifier is None]
         self.holes = self.free
 
-    def chosen_copy(self, data: bytes) -> Optional[List[bytes]]:
+    def chosen_copy(self, data: bytes) -> List[bytes]:
         wrong = []
         for copy in (0, 1):
             first = self.shape.map_sector + copy * self.shape.zones
@@ -198,7 +198,7 @@ class NewMap:
         if own.root_fault() is not None:
             raise Fault("Bad", own.root_fault())
 
-    def read_runs(self, zones: List[bytes]) -> Optional[List[Tuple[int, int, int, Optional[int]]]]:
+    def read_runs(self, zones: List[bytes]) -> List[Tuple[int, int, int, Optional[int]]]:
         """All runs, as zone, disc map bit, length and identifier; None stands for a hole."""
         found = []
         for zone, sector in enumerate(zones):
@@ -272,7 +272,7 @@ def small_entry(raw: bytes, form: str) -> Entry:
     return Entry(cut_name(name), attributes, number(raw, 10, 4), number(raw, 14, 4), number(raw, 18, 4), number(raw, 22, 3))
 
 
-def read_small(block: bytes, form: str) -> Optional[Tuple[List[Entry], int]]:
+def read_small(block: bytes, form: str) -> Tuple[List[Entry], int]:
     """The entries and the parent of a directory of 2048 or 1280 bytes."""
     size = len(block)
     if block[1:5] not in (b"Hugo", b"Nick") or block[1:5] != block[size - 5:size - 1]:
@@ -313,7 +313,7 @@ def words_at(block: bytes, at: int, count: int) -> List[int]:
     return [number(block, at + 4 * n, 4) for n in range(count)]
 
 
-def read_big(block: bytes) -> Optional[Tuple[List[Entry], int]]:
+def read_big(block: bytes) -> Tuple[List[Entry], int]:
     if len(block) % 2048 or not 2048 <= len(block) <= BIG_LIMIT:
         raise DirectoryFault("Size")
     if block[4:8] != b"SBPr" or block[-8:-4] != b"oven" or block[1:4] != bytes(3):

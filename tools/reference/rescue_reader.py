@@ -7,24 +7,24 @@ what it doesn't do (`Beyond`): discs that have to be guessed, short images, dire
 from __future__ import annotations
 
 import hashlib
-from typing import Any, Iterator
+from typing import Dict, Iterator, List, Set, Tuple, Union
 
 from tools.reference import format_reader
-from tools.reference.format_reader import Bad, Record, cut, num, small_entry, spelled, zone_check
+from tools.reference.format_reader import Bad, Fields, Record, cut, num, small_entry, spelled, zone_check
 
 
 class Beyond(Exception):
     """What this reading doesn't do."""
 
 
-def sectors_of(start: int, size: int, sector: Any) -> Any:
+def sectors_of(start: int, size: int, sector: int) -> range:
     return range(start // sector, (start + size) // sector)
 
 
 class Zones:
     """A new map, each zone from a copy where it is right."""
 
-    def __init__(self, data: bytes, record: Any, has_boot: bool) -> None:
+    def __init__(self, data: bytes, record: Record, has_boot: bool) -> None:
         self.g, self.sector, self.form = record, record.sector, "big" if record.version else "2048"
         self.runs, self.holes, self.doubted = {}, [], set()
         copies = [[data[self.sector * at:self.sector * (at + 1)] for at in range(first, first + record.zones)]
@@ -49,7 +49,7 @@ class Zones:
         if has_boot:
             self.reserved |= set(range(0xC00 // self.sector, -(-0xE00 // self.sector)))
 
-    def read_zone(self, z: Any, zone: int) -> None:
+    def read_zone(self, z: int, zone: bytes) -> None:
         reader = format_reader.NewMap.__new__(format_reader.NewMap)
         reader.g, reader.sector, reader.runs, reader.holes = self.g, self.sector, {}, []
         try:
@@ -59,7 +59,7 @@ class Zones:
         for identifier, runs in reader.runs.items():
             self.runs.setdefault(identifier, []).extend(runs)
 
-    def place(self, address: Any, length: int) -> Any:
+    def place(self, address: int, length: int) -> Tuple[List[int], bool]:
         """The sectors of an object, as many as there are, and whether a doubtful zone has a part in it."""
         identifier, low = address // 256, address % 256
         if identifier < 2:
@@ -70,16 +70,16 @@ class Zones:
         skipped = (low - 1) * self.g.share // self.sector if low else 0
         return sectors[skipped:skipped + -(-length // self.sector)], bool(self.doubted) or identifier >= self.g.id_bound
 
-    def is_free(self, sectors: Any) -> bool:
+    def is_free(self, sectors: List[int]) -> bool:
         return False
 
 
-def is_zone(sector: Any) -> Any:
+def is_zone(sector: bytes) -> bool:
     """A zone of zeros has a right check too, but is one that was never read."""
     return any(sector) and sector[0] == zone_check(sector)
 
 
-def is_sound(copy: Any) -> Any:
+def is_sound(copy: List[bytes]) -> bool:
     cross = 0
     for zone in copy:
         cross ^= zone[3]
@@ -99,18 +99,18 @@ class Places:
             if length and start + length <= units * 256 and start % self.sector == length % self.sector == 0:
                 self.free |= set(sectors_of(start, length, self.sector))
 
-    def place(self, address: Any, length: int) -> Any:
+    def place(self, address: int, length: int) -> Tuple[List[int], bool]:
         start = address * 256
         if start % self.sector or start >= self.units * 256:
             return [], False
         end = min(start + length, self.units * 256)
         return list(range(start // self.sector, -(-end // self.sector))), False
 
-    def is_free(self, sectors: Any) -> bool:
+    def is_free(self, sectors: List[int]) -> bool:
         return not self.free.isdisjoint(sectors)
 
 
-def map_of(data: bytes) -> Any:
+def map_of(data: bytes) -> Union[Zones, Places]:
     """The map by the first description that has no guess in it."""
     kind, found = format_reader.kind_of(data)
     need = found.size if kind in ("Boot", "OneZone") else found * 256
@@ -147,18 +147,18 @@ class Reading:
                     self.files.append((inner, entry, is_right))
         self.rows = self.judged()
 
-    def bytes_of(self, sectors: Any, length: int) -> Any:
+    def bytes_of(self, sectors: List[int], length: int) -> bytes:
         size = self.map.sector
         return b"".join(self.data[size * at:size * (at + 1)] for at in sectors)[:length]
 
-    def claim(self, path: Any, sectors: Any, is_sure: Any) -> Any:
+    def claim(self, path: str, sectors: List[int], is_sure: bool) -> Set[Tuple[str, bool]]:
         """The doubt that comes from what else has these sectors."""
         others = {self.claims[at] for at in sectors if at in self.claims}
         for at in sectors:
             self.claims.setdefault(at, (path, is_sure))
         return others
 
-    def entries(self, data: bytes) -> Any:
+    def entries(self, data: bytes) -> Tuple[List[Fields], bool]:
         """The entries, and whether the directory is right."""
         read = format_reader.read_big if self.map.form == "big" else format_reader.read_small
         try:
@@ -174,7 +174,7 @@ class Reading:
             raise Beyond("a directory that is lost")
         return [entry for entry in self.remains(data) if self.can_be(entry)], False
 
-    def remains(self, data: bytes) -> Iterator[Any]:
+    def remains(self, data: bytes) -> Iterator[Fields]:
         for at in range(5, 5 + 26 * (77 if self.map.form == "2048" else 47), 26):
             raw = data[at:at + 26]
             if raw[0]:
@@ -182,7 +182,7 @@ class Reading:
             elif any(raw):
                 return
 
-    def can_be(self, entry: Any) -> Any:
+    def can_be(self, entry: Fields) -> bool:
         """Whether an entry of a damaged directory looks right."""
         name, length = cut(entry["name"]), entry["length"]
         is_directory = entry["attributes"] & 8
@@ -196,10 +196,10 @@ class Reading:
         plain = all(byte > 32 and not 127 <= byte < 160 and byte not in b'$&%@\\^:.#*"|' for byte in name)
         return has_place or plain if 127 not in name else has_place and False
 
-    def size(self) -> Any:
+    def size(self) -> int:
         return self.map.g.size if isinstance(self.map, Zones) else self.map.units * 256
 
-    def judged(self) -> Any:
+    def judged(self) -> Dict[str, Tuple[bool, str]]:
         """Path, whether it is sound, and the digest; the files of right directories have the first claim."""
         rows = {}
         for path, entry, is_right in sorted(self.files, key=lambda file: not file[2]):

@@ -3,10 +3,10 @@
 from __future__ import annotations
 
 import json
-from typing import Any, Dict, Iterator, List
+from typing import Dict, Iterator, List
 
 from ..names import spelled_path, type_of
-from ..listing import counted
+from ..listing import Row, counted
 from .reading import Reading
 from .walk import Found
 
@@ -101,7 +101,7 @@ def reasons_of(found: Found) -> List[str]:
     return cut + found.doubts
 
 
-def tree(reading: Reading, image: str) -> Dict[str, Any]:
+def tree(reading: Reading, image: str) -> Row:
     """The report for programs, with the same fields."""
     return {
         "image": image, "format": reading.disc.form, "size": reading.disc.size, "summary": summary(reading),

@@ -3,14 +3,17 @@
 from __future__ import annotations
 
 from argparse import ArgumentParser, Namespace
-from typing import Any, Callable
+from typing import TYPE_CHECKING, Callable
 
 from .discs import FORMATS
 
-AddJob = Callable[[Any, str, Callable[[Namespace], int], str], ArgumentParser]
+if TYPE_CHECKING:
+    from ..common_words import Jobs
+
+AddJob = Callable[["Jobs", str, Callable[[Namespace], int], str], ArgumentParser]
 
 
-def add_rescuing(added: Any, add_job: AddJob, add_order: Callable[[ArgumentParser], None]) -> None:
+def add_rescuing(added: Jobs, add_job: AddJob, add_order: Callable[[ArgumentParser], None]) -> None:
     job = add_job(added, "rescue", run_rescue, "Take out what can be read of a damaged disc. The image is only read. Files that "
                   "nothing speaks against come into FOLDER/sound, others into FOLDER/doubtful; FOLDER/report.txt says why.")
     add_order(job)
