@@ -4,7 +4,7 @@
 
 usage: tools/run checks/rooms [SECTION]    a part of a section's heading
 The search is the section's line that begins with `$ grep`. Every crate, and every file of tools, scripts and man, that it finds has to be
-named in the section; and each that is named has to be among those, unless the paragraph that begins with `Besides:` names it.
+named in the section; and each that is named has to be among those, unless it is named with a `+` after it, as `fc_image+`.
 """
 import fnmatch
 import os
@@ -59,8 +59,7 @@ def rooms_named(text: str, files: List[str]) -> Dict[str, Set[str]]:
 
 def differences(search: str, text: str, files: List[str]) -> Iterator[str]:
     found, named = rooms_found(search), rooms_named(text, files)
-    told = "".join(re.findall(r"^Besides:.*?(?=\n\n|\Z)", text, re.MULTILINE | re.DOTALL))
-    besides: Set[str] = set().union(*rooms_named(told, files).values())
+    besides: Set[str] = set().union(*rooms_named(" ".join(re.findall(r"([\w/.]+)\+", text)), files).values())
     if not found:
         yield "the search finds nothing: " + search
     for missing in sorted(found - set().union(*named.values())):
