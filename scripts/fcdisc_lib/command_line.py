@@ -25,7 +25,7 @@ DESCRIPTION = "Daily jobs with images of Acorn discs (RISC OS, ADFS), by the pro
 
 def parser() -> argparse.ArgumentParser:
     made = argparse.ArgumentParser(prog="fcdisc", description=DESCRIPTION, epilog=EPILOG, allow_abbrev=False)
-    made.add_argument("--version", action="version", version="fcdisc " + version())
+    made.add_argument("--version", action="version", version="fcdisc %s, for fcore %s" % (version(), version()))
     added = made.add_subparsers(metavar="JOB", required=True, dest="job")
     add_reading(added)
     add_making(added)

@@ -112,7 +112,8 @@ def words(c: Changes) -> None:
     c.start("f-user.adf")
     c.checks.expect("ls", same=(c.run("list", "a.adf"), c.run("ls", "a.adf")))
     out, err, status = c.run("--version")
-    c.checks.expect("--version", told=(True, re.fullmatch(r"fcdisc \S.*\n", out) is not None), status=(0, status))
+    number = read(os.path.join(TOP, "VERSION")).decode().strip()
+    c.checks.expect("--version", told=("fcdisc %s, for fcore %s\n" % (number, number), out), status=(0, status))
     out, err, status = c.run("list", "--json", "a.adf")
     row = json.loads(out)
     c.checks.expect("list --json", status=(0, status), disc=(("a.adf", "F", 43), (row["image"], row["format"], len(row["objects"]))), run=(
