@@ -3,13 +3,16 @@
 from __future__ import annotations
 
 import random
-from typing import List, Sequence
+from typing import TYPE_CHECKING, List, Optional, Sequence, Tuple, Union
 
 from tools.images.drawn_discs import random_name
 from tools.reference.change_answer import CHANGING, Command
 from tools.reference.change_state import State
 from tools.reference.filecore import NOT_SPELLED
 from tools.reference.read_image import READING, Entry
+
+if TYPE_CHECKING:
+    from tools.reference.change_batch import TreeState
 
 MOODS = {  # how often each command is drawn
     "all": dict(save=5, create=5, cdir=3, delete=4, rename=6, set=2),
@@ -37,13 +40,14 @@ class Drawer:
         self.compacts = "compact" in words
         self.lines = [line for line in LINES if not line or Command(line).fault or Command(line).word in words]
         self.mood = chance.choice(sorted(MOODS))
-        self.favourite = None  # a directory in which names are often made
-        self.state = None
+        self.favourite: Optional[Tuple[bytes, ...]] = None  # a directory in which names are often made
+        self.is_begun = False
+        self.state: Union[State, TreeState]  # since the first line
 
-    def line(self, state: State) -> bytes:
-        if state.form == "big" and self.state is None and self.chance.random() < 0.6:
+    def line(self, state: Union[State, TreeState]) -> bytes:
+        if state.form == "big" and not self.is_begun and self.chance.random() < 0.6:
             self.mood = "grow"
-        self.state = state
+        self.state, self.is_begun = state, True
         draw = self.chance.random()
         if draw < 0.5 and isinstance(state, State) and state.is_new and len(set(state.copies())) > 1:
             return self.chance.choice([line for line in REFUSED if line.split()[0].decode() in self.drawn])
@@ -191,13 +195,13 @@ class Drawer:
 
     def holes(self) -> List[int]:
         if self.state.is_new:
-            return [length * self.state.map.shape.bit_bytes for zone, start, length in self.state.holes()]
+            return [length * self.state.new_map.shape.bit_bytes for zone, start, length in self.state.holes()]
         return [length * self.state.sector for start, length in self.state.old_holes()]
 
     def length(self) -> int:
         """A length in bytes, often at the edge of holes, sectors, share units or of all that is free."""
         holes, chance = self.holes(), self.chance
-        unit = self.state.map.shape.share if self.state.is_new else self.state.sector
+        unit = self.state.new_map.shape.share if self.state.is_new else self.state.sector
         draw = chance.random()
         if draw < (0.06 if self.mood != "fill" else 0.15):
             size = sum(holes)
@@ -211,5 +215,5 @@ class Drawer:
             size = chance.randint(1, max(1, sum(holes) // 3))
         else:
             return chance.randint(1, 3000)
-        least = self.state.map.shape.least * self.state.map.shape.bit_bytes if self.state.is_new else self.state.sector
+        least = self.state.new_map.shape.least * self.state.new_map.shape.bit_bytes if self.state.is_new else self.state.sector
         return max(0, size - chance.choice((0, 0, 0, 1, -1, least, -least, 2 * least, self.state.sector)))

@@ -308,7 +308,7 @@ def left_differences(image: bytes, end: bytes) -> List[str]:
 
 def after_zones(state: State) -> List[int]:
     """The bits after the last bit of each zone, in the copy of the map that counts."""
-    return [int.from_bytes(sector, "little") >> state.map.shape.end(zone) for zone, sector in enumerate(state.map.chosen_copy(state.data))]
+    return [int.from_bytes(sector, "little") >> state.new_map.shape.end(zone) for zone, sector in enumerate(state.new_map.chosen_copy(state.data))]
 
 
 def check(actor: Program, options: argparse.Namespace) -> bool:

@@ -48,9 +48,9 @@ def objects(data: bytes) -> Held:
 def layout(disc: Disc) -> List[List[Tuple[int, int, Optional[int]]]]:
     """For each zone its runs in order: start and length in bytes, and the identifier, or None for a hole."""
     zones = {}
-    for start, size in disc.map.holes:
-        zones.setdefault(zone_of(disc.map.g, start), []).append((start, size, None))
-    for identifier, runs in disc.map.runs.items():
+    for start, size in disc.new_map.holes:
+        zones.setdefault(zone_of(disc.new_map.g, start), []).append((start, size, None))
+    for identifier, runs in disc.new_map.runs.items():
         for zone, (start, size) in runs:
             zones.setdefault(zone, []).append((start, size, identifier))
     return [sorted(runs) for zone, runs in sorted(zones.items())]
@@ -63,10 +63,10 @@ def zone_of(g: Record, start: int) -> int:
 
 def left_to_do(disc: Disc) -> List[str]:
     """What compaction could still do, in words."""
-    g = disc.map.g
+    g = disc.new_map.g
     movable = {identifier for identifier in disc.owned if identifier > 2}
     least = g.least * g.bit_bytes
-    longest = max([size for start, size in disc.map.holes], default=0)
+    longest = max([size for start, size in disc.new_map.holes], default=0)
     found = []
     for runs in layout(disc):
         for (start, size, one), (after, length, other) in zip(runs, runs[1:]):
@@ -77,18 +77,18 @@ def left_to_do(disc: Disc) -> List[str]:
             if one == other and one in movable:
                 found.append("two runs of identifier %d touch at %d" % (one, after))
     for identifier in sorted(movable):
-        runs = disc.map.runs.get(identifier, [])
+        runs = disc.new_map.runs.get(identifier, [])
         if len(runs) > 1 and len({zone for zone, run in runs}) <= 8 and sum(size for zone, (start, size) in runs) <= longest:
             found.append("the runs of identifier %d could be joined" % identifier)
     return found
 
 
 def fixed_runs(disc: Disc) -> Dict[int, List[Tuple[int, Tuple[int, int]]]]:
-    return {identifier: runs for identifier, runs in disc.map.runs.items() if identifier < 3 or identifier not in disc.owned}
+    return {identifier: runs for identifier, runs in disc.new_map.runs.items() if identifier < 3 or identifier not in disc.owned}
 
 
 def copies(disc: Disc, data: bytes) -> Tuple[bytes, bytes]:
-    g = disc.map.g
+    g = disc.new_map.g
     start, size = g.map_sector() * g.sector, g.zones * g.sector
     return data[start:start + size], data[start + size:start + 2 * size]
 
@@ -190,7 +190,7 @@ def with_torn_copy(image: bytearray, seed: int) -> bytes:
     if seed % 3:
         return bytes(image)
     disc = Disc(image)
-    g, torn = disc.map.g, bytearray(image)
+    g, torn = disc.new_map.g, bytearray(image)
     torn[g.map_sector() * g.sector + (g.zones * g.sector if seed % 6 else 0)] ^= 1
     return bytes(torn)
 

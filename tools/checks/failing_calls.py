@@ -209,8 +209,8 @@ def boot_sectors(state: State) -> Set[int]:
 def map_sectors(state: State) -> Set[int]:
     if not state.is_new:
         return set()
-    start = state.map.shape.map_sector
-    return set(range(start, start + 2 * state.map.shape.zones))
+    start = state.new_map.shape.map_sector
+    return set(range(start, start + 2 * state.new_map.shape.zones))
 
 
 def spared_sectors(state: State, c: Command) -> Dict[str, Union[List[int], Set[int]]]:

@@ -44,7 +44,7 @@ def has_boot_block(data: bytes) -> bool:
 
 def reserved_bytes(disc: Disc, data: bytes) -> List[Tuple[int, int]]:
     """What a run that goes back may not hold, as rows of bytes."""
-    g = disc.map.g
+    g = disc.new_map.g
     start = g.map_sector() * g.sector
     found = [(start, start + 2 * g.zones * g.sector)]
     if has_boot_block(data):
@@ -87,12 +87,12 @@ def expected(data: bytes) -> Tuple[List[List[Run]], int]:
 def kept_runs(data: bytes) -> Dict[int, List[Tuple[int, Tuple[int, int]]]]:
     """The runs of identifiers that stay."""
     disc = Disc(data)
-    return {identifier: runs for identifier, runs in disc.map.runs.items() if identifier in KEPT or identifier in disc.owned}
+    return {identifier: runs for identifier, runs in disc.new_map.runs.items() if identifier in KEPT or identifier in disc.owned}
 
 
 def outside_map(data: bytes) -> bytes:
     disc = Disc(data)
-    g = disc.map.g
+    g = disc.new_map.g
     start = g.map_sector() * g.sector
     return data[:start] + data[start + 2 * g.zones * g.sector:]
 

@@ -366,8 +366,8 @@ def noisy(image: bytearray, chance: random.Random) -> bytearray:
 def torn(image: bytearray, chance: random.Random) -> bytearray:
     """Copies that differ: the second is worn, or the first, or the first one's checks are right but another total stands in it."""
     state = State(image)
-    sector, zones = state.sector, state.map.shape.zones
-    start = state.map.shape.map_sector * sector
+    sector, zones = state.sector, state.new_map.shape.zones
+    start = state.new_map.shape.map_sector * sector
     zone = chance.randrange(zones)
     copy = chance.choice((0, 1, 1))
     place = start + (copy * zones + zone) * sector

@@ -7,7 +7,7 @@ from __future__ import annotations
 
 from typing import TYPE_CHECKING, Dict, List, Optional, Set, Tuple, Union
 
-from tools.reference.change_state import MAP_OWNER, State, key_of, same_name, size_for
+from tools.reference.change_state import Key, State, key_of, same_name, size_for
 from tools.reference.filecore import BIG_LIMIT, Geometry, head_space, name_space
 from tools.reference.read_image import Entry, read_line
 
@@ -28,14 +28,13 @@ class Command:
     """A line in parts. `fault` is the number of a refusal that the line alone owes."""
 
     def __init__(self, line: bytes) -> None:
-        word, found = read_line(line)
+        word, self.paths, refused = read_line(line)
         self.line = line
-        self.fault = 0 if word else int(found.split()[1])
+        self.fault = 0 if word else int(refused.split()[1])
         self.word = word or line.decode("latin-1").split(" ")[0]
         if self.fault:
             return
-        self.paths = found
-        rest = line.decode().split(" ")[1 + len(found):]
+        rest = line.decode().split(" ")[1 + len(self.paths):]
         self.load, self.execution = (int(text, 16) for text in rest[:2]) if len(rest) == 3 else (0, 0)
         if word == "save":
             self.bytes = b"" if rest[2] == "-" else bytes.fromhex(rest[2])
@@ -50,10 +49,10 @@ class Command:
     def file_length(self) -> int:
         return len(self.bytes) if self.word == "save" else self.length
 
-    def key(self) -> Tuple[bytes, ...]:
+    def key(self) -> Key:
         return key_of(self.paths[0])
 
-    def target(self) -> Tuple[bytes, ...]:
+    def target(self) -> Key:
         """The key of the object afterwards."""
         return key_of(self.paths[-1])
 
@@ -61,7 +60,7 @@ class Command:
 # ---- refusals 1 to 11
 
 
-def absence(state: Union[TreeState, State], key: Tuple[bytes, ...], whole: bool) -> Set[int]:
+def absence(state: Union[TreeState, State], key: Key, whole: bool) -> Set[int]:
     """3 or 4 for a path that has to be there; of a path that isn't whole only the proper prefixes count."""
     for size in range(len(key) + 1 if whole else len(key)):
         if not state.is_directory(key[:size]):
@@ -87,7 +86,8 @@ def name_refusals(state: Union[TreeState, State], c: Command) -> Set[int]:
 
 def object_refusals(state: Union[TreeState, State], c: Command) -> Set[int]:
     """The refusals 4 to 10 that hang on what is at the paths."""
-    key, target, found = c.key(), c.target(), set()
+    key, target = c.key(), c.target()
+    found: Set[int] = set()
     there = state.objects.get(key)
     if c.word == "cat" and there and not there.is_directory():
         found.add(4)
@@ -119,7 +119,7 @@ def refusal_of(state: Union[TreeState, State], c: Command, read_only: bool = Fal
 # ---- the tree
 
 
-def spelled_target(state: Union[TreeState, State], c: Command) -> Tuple[bytes, ...]:
+def spelled_target(state: Union[TreeState, State], c: Command) -> Key:
     """The path of the object afterwards: the names of its holder as they are, and the last name as the command spells it."""
     key = c.target()
     if c.word in ("save", "create", "set") and key in state.objects:
@@ -128,7 +128,7 @@ def spelled_target(state: Union[TreeState, State], c: Command) -> Tuple[bytes, .
 
 
 def tree_after(state: Union[TreeState, State],
-               c: Command) -> Dict[Tuple[bytes, ...], Tuple[int, int, int, Optional[Union[bytes, Entry]]]]:
+               c: Command) -> Dict[Key, Tuple[int, int, int, Optional[Union[bytes, Entry]]]]:
     """The tree by `answer`, for a command that isn't refused. A file's content is its bytes, or its entry before the command."""
     tree = state.tree()
     path = spelled_target(state, c) if c.word != "delete" else tuple(state.objects[c.key()].path)
@@ -165,7 +165,8 @@ class Needs:
         self.copied = self.is_copied()
         self.length = self.new_length()
         self.slack = self.find_slack() if state.is_new and c.is_making_file() else None
-        self.grown, self.size = None, 0  # the key of the directory that grows, and its new size
+        self.grown: Optional[Key] = None  # the directory that grows
+        self.size = 0  # its new one
         self.alone, self.growth = False, 0  # `growth`: bytes of new space for it
         self.full = False
         self.judge_directory()
@@ -187,20 +188,20 @@ class Needs:
 
     # slack
 
-    def may_share(self, owners: List[Union[Tuple[bytes, ...], str]], holder: Tuple[bytes, ...]) -> bool:
-        return all(key != MAP_OWNER and key[:-1] == holder and not self.state.is_directory(key) and self.state.objects[key].address % 256
+    def may_share(self, owners: List[Union[Key, str]], holder: Key) -> bool:
+        return all(not isinstance(key, str) and key[:-1] == holder and not self.state.is_directory(key) and self.state.objects[key].address % 256
                    for key in owners)
 
     def find_slack(self) -> Optional[Tuple[int, int]]:
         """The least identifier, and the least low byte in it, at which the file fits; None if there is none."""
         if self.length == 0:
             return None
-        shape, wanted = self.state.map.shape, -(-self.length // self.state.sector)
+        shape, wanted = self.state.new_map.shape, -(-self.length // self.state.sector)
         for identifier, owners in sorted(self.state.owners.items()):
             if not self.may_share(owners, self.c.target()[:-1]):
                 continue
-            sectors = self.state.map.sectors_of[identifier]
-            owned = {sector for key in owners for sector in self.state.objects[key].sectors}
+            sectors = self.state.new_map.sectors_of[identifier]
+            owned = {sector for key in owners if not isinstance(key, str) for sector in self.state.objects[key].sectors}
             for low in range(1, 256):
                 skipped = (low - 1) * shape.share // self.state.sector
                 part = sectors[skipped:skipped + wanted]
@@ -212,7 +213,7 @@ class Needs:
 
     # directories
 
-    def gaining(self) -> Optional[Tuple[Tuple[bytes, ...], List[bytes]]]:
+    def gaining(self) -> Optional[Tuple[Key, List[bytes]]]:
         """The key of the directory that gets a name, and the names that it then has; None if none gets one."""
         c, objects = self.c, self.state.objects
         holder = c.target()[:-1]
@@ -238,25 +239,25 @@ class Needs:
         self.full = size > BIG_LIMIT
         if size > head.size:
             self.grown, self.size = key, size
-            self.judge_growth()
+            self.judge_growth(key)
 
-    def judge_growth(self) -> None:
-        entry = self.state.objects[self.grown]
+    def judge_growth(self, grown: Key) -> None:
+        entry = self.state.objects[grown]
         identifier, low = divmod(entry.address, 256)
         owners = self.state.owners[identifier]
         self.alone = len(owners) == 1 and low <= 1
         sectors = self.state.map.sectors_at(entry.address, self.size)
-        others = {sector for key in owners if key not in (MAP_OWNER, self.grown) for sector in self.state.objects[key].sectors}
+        others = {sector for key in owners if key != grown and not isinstance(key, str) for sector in self.state.objects[key].sectors}
         has_room = identifier != 2 and sectors is not None and others.isdisjoint(sectors)
         self.growth = 0 if has_room else self.size
 
     # refusals 13 to 16
 
     def object_bits(self) -> int:
-        return self.state.map.shape.units(self.length) if self.length and not self.slack else 0
+        return self.state.new_map.shape.units(self.length) if self.length and not self.slack else 0
 
     def growth_bits(self) -> int:
-        return self.state.map.shape.units(self.growth) if self.growth else 0
+        return self.state.new_map.shape.units(self.growth) if self.growth else 0
 
     def space_refusal(self) -> int:
         if not self.state.is_new:
@@ -265,7 +266,7 @@ class Needs:
         if len(self.state.free_identifiers()) < identifiers:
             return 13
         both = self.object_bits() and self.growth_bits()
-        need = self.object_bits() + self.growth_bits() + (2 * self.state.map.shape.least if both else 0)
+        need = self.object_bits() + self.growth_bits() + (2 * self.state.new_map.shape.least if both else 0)
         return 14 if sum(length for zone, start, length in self.state.holes()) < need else 0
 
     def old_refusal(self) -> int:

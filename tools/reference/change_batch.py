@@ -11,7 +11,7 @@ import re
 from typing import Dict, List, Optional, Tuple
 
 from tools.reference.change_answer import CHANGING, WORDS, Command, refusal_of, tree_after
-from tools.reference.change_state import State, changed_sectors, key_of
+from tools.reference.change_state import Key, State, changed_sectors, key_of
 from tools.reference.filecore import spelled_path
 from tools.reference.read_image import Disc, lines_of, reply
 
@@ -19,8 +19,9 @@ from tools.reference.read_image import Disc, lines_of, reply
 class Node:
     """An object of a tree."""
 
-    def __init__(self, path: Tuple[bytes, ...], node: Tuple[int, int, int, Optional[bytes]]) -> None:
-        self.path, self.entries = list(path), []
+    def __init__(self, path: Key, node: Tuple[int, int, int, Optional[bytes]]) -> None:
+        self.path = list(path)
+        self.entries: List[Node] = []
         self.name = path[-1] if path else b"$"
         self.attributes, self.load, self.execution, self.content = node
         self.length = len(self.content) if self.content is not None else 0
@@ -47,7 +48,7 @@ class TreeState:
 
     is_directory, is_writable, new_directory_size = State.is_directory, State.is_writable, State.new_directory_size
 
-    def __init__(self, first: State, tree: Dict[Tuple[bytes, ...], Tuple[int, int, int, Optional[bytes]]]) -> None:
+    def __init__(self, first: State, tree: Dict[Key, Tuple[int, int, int, Optional[bytes]]]) -> None:
         self.first, self.form, self.is_new, self.map, self.sector = first, first.form, first.is_new, first.map, first.sector
         self.nodes = tree
         self.objects = {key_of(path): Node(path, tree[path]) for path in sorted(tree, key=len)}
@@ -62,10 +63,12 @@ class TreeState:
         nodes = state.tree().items()
         return TreeState(state, {path: (*node[:3], None if node[3] is None else state.content(node[3])) for path, node in nodes})
 
-    def with_tree(self, tree: Dict[Tuple[bytes, ...], Tuple[int, int, int, Optional[bytes]]]) -> TreeState:
+    new_map, old_map = State.new_map, State.old_map
+
+    def with_tree(self, tree: Dict[Key, Tuple[int, int, int, Optional[bytes]]]) -> TreeState:
         return TreeState(self.first, tree)
 
-    def tree(self) -> Dict[Tuple[bytes, ...], Tuple[int, int, int, Optional[bytes]]]:
+    def tree(self) -> Dict[Key, Tuple[int, int, int, Optional[bytes]]]:
         return dict(self.nodes)
 
     def holes(self) -> List[Tuple[int, int, int]]:

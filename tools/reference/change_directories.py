@@ -9,7 +9,7 @@ from __future__ import annotations
 
 from typing import TYPE_CHECKING, List, Optional, Tuple
 
-from tools.reference.change_state import BigHead, SmallHead, State, name_in, same_name, size_for
+from tools.reference.change_state import Head, Key, State, name_in, same_name, size_for
 from tools.reference.filecore import folded, head_space, name_space, padded, spelled_path
 from tools.reference.read_image import Entry
 
@@ -22,25 +22,21 @@ NEW_WORDS = {"D": b"Nick", "L": b"Hugo", "big": b"SBPr"}
 class Line:
     """An entry with all its fields. `lengths`: those that it may have, if there is a choice; `lasts` likewise."""
 
-    def __init__(self, entry: Entry, last: int, raw: Optional[bytes] = None) -> None:
+    def __init__(self, entry: Entry, last: int) -> None:
         self.name, self.attributes, self.load, self.execution = entry.name, entry.attributes, entry.load, entry.execution
         self.address, self.lengths, self.lasts = entry.address, {entry.length}, {last}
-        self.raw = raw
 
     def differences(self, other: Line) -> List[str]:
         """The fields in which the entry that is there, `other`, isn't this one."""
-        fields = ("name", "attributes", "load", "execution", "address")
-        fields = [field for field in fields if getattr(self, field) != getattr(other, field)]
+        fields = [field for field in ("name", "attributes", "load", "execution", "address") if getattr(self, field) != getattr(other, field)]
         fields += ["length"] if not other.lengths <= self.lengths else []
         fields += ["last byte"] if not other.lasts <= self.lasts else []
         return fields
 
 
-def lines_of(state: State, key: Tuple[bytes, ...]) -> List[Line]:
+def lines_of(state: State, key: Key) -> List[Line]:
     """The entries of a directory as lines."""
-    head = state.heads[key]
-    raws = head.raw_names if state.form != "big" else head.places
-    return [Line(*one) for one in zip(state.objects[key].entries, head.lasts, raws)]
+    return [Line(*one) for one in zip(state.objects[key].entries, state.heads[key].lasts)]
 
 
 # ---- entries
@@ -65,7 +61,7 @@ def place_for(lines: List[Line], name: bytes) -> int:
     return next((at for at, line in enumerate(lines) if folded(line.name) > folded(name)), len(lines))
 
 
-def wanted_lines(change: Change, key: Tuple[bytes, ...]) -> List[Line]:
+def wanted_lines(change: Change, key: Key) -> List[Line]:
     """The entries that the directory has to have; `key` is its place before the command."""
     c, lines = change.c, lines_of(change.before, key)
     grown = change.needs.grown
@@ -86,7 +82,7 @@ def wanted_lines(change: Change, key: Tuple[bytes, ...]) -> List[Line]:
     return lines
 
 
-def entry_differences(change: Change, key: Tuple[bytes, ...], now: Tuple[bytes, ...]) -> List[str]:
+def entry_differences(change: Change, key: Key, now: Key) -> List[str]:
     wanted, there = wanted_lines(change, key), lines_of(change.after, now)
     path = spelled_path(now)
     if [line.name for line in wanted] != [line.name for line in there]:
@@ -100,7 +96,7 @@ def entry_differences(change: Change, key: Tuple[bytes, ...], now: Tuple[bytes, 
 # ---- which directories may change
 
 
-def may_change(change: Change, key: Tuple[bytes, ...]) -> bool:
+def may_change(change: Change, key: Key) -> bool:
     """The directory holds a named path's last name, is named, holds a grown directory, or lies in one with a new address."""
     c, grown = change.c, change.needs.grown
     holders = {path[:-1] for path in (c.key(), c.target()) if path}
@@ -109,7 +105,7 @@ def may_change(change: Change, key: Tuple[bytes, ...]) -> bool:
     return grown is not None and (grown[:-1] == key and grown != () or key[:-1] == grown and key != () and change.has_new_address())
 
 
-def has_to_name_holder(change: Change, key: Tuple[bytes, ...]) -> bool:
+def has_to_name_holder(change: Change, key: Key) -> bool:
     """A renamed directory, and one in a directory with a new address, has its holder's address as its parent."""
     grown = change.needs.grown
     return (change.c.word == "rename" and key == change.c.key()
@@ -119,19 +115,19 @@ def has_to_name_holder(change: Change, key: Tuple[bytes, ...]) -> bool:
 # ---- heads
 
 
-def new_name(change: Change, key: Tuple[bytes, ...]) -> Optional[bytes]:
+def new_name(change: Change, key: Key) -> Optional[bytes]:
     """The name that a renamed directory gets, or None."""
     return change.c.paths[1][-1] if change.c.word == "rename" and key == change.c.key() else None
 
 
-def small_name_fault(change: Change, key: Tuple[bytes, ...], old: SmallHead, new: SmallHead) -> List[str]:
+def small_name_fault(change: Change, key: Key, old: Head, new: Head) -> List[str]:
     """A renamed directory has its new name; another keeps its field, or has the same name padded anew."""
     name = new_name(change, key)
     allowed = [padded(name, 10)] if name else [old.name, padded(name_in(old.name), 10)]
     return [] if new.name in allowed else ["the name in its head is %s" % new.name]
 
 
-def small_differences(change: Change, key: Tuple[bytes, ...], old: SmallHead, new: SmallHead) -> List[str]:
+def small_differences(change: Change, key: Key, old: Head, new: Head) -> List[str]:
     found = [field for field in ("word", "title", "reserved") if getattr(old, field) != getattr(new, field)]
     found = ["its %s has changed" % field for field in found] + small_name_fault(change, key, old, new)
     if new.mark not in (0, old.mark):
@@ -141,7 +137,7 @@ def small_differences(change: Change, key: Tuple[bytes, ...], old: SmallHead, ne
     return found
 
 
-def heap_sizes(change: Change, key: Tuple[bytes, ...], old: BigHead, count: int) -> Tuple[int, int, bool]:
+def heap_sizes(change: Change, key: Key, old: Head, count: int) -> Tuple[int, int, bool]:
     """The least and the greatest heap, and whether only these two will do."""
     names = [entry.name for entry in change.after.objects[change.key_after(key)].entries]
     packed, kept = sum(name_space(name) for name in names), len(old.heap)
@@ -151,7 +147,7 @@ def heap_sizes(change: Change, key: Tuple[bytes, ...], old: BigHead, count: int)
     return packed, kept, count == len(names)
 
 
-def heap_fault(change: Change, key: Tuple[bytes, ...], old: BigHead, new: BigHead, count: int) -> List[str]:
+def heap_fault(change: Change, key: Key, old: Head, new: Head, count: int) -> List[str]:
     least, most, only = heap_sizes(change, key, old, count)
     size = len(new.heap)
     if size in (least, most) or not only and min(least, most) <= size <= max(least, most):
@@ -159,7 +155,7 @@ def heap_fault(change: Change, key: Tuple[bytes, ...], old: BigHead, new: BigHea
     return ["its heap has %d bytes, and not %d or %d" % (size, least, most)]
 
 
-def head_name_fault(change: Change, key: Tuple[bytes, ...], old: BigHead, new: BigHead, entries: List[Entry]) -> List[str]:
+def head_name_fault(change: Change, key: Key, old: Head, new: Head, entries: List[Entry]) -> List[str]:
     """A renamed directory has its new name in its head if there is space for it beside its heap, whichever heap is written."""
     name, kept = new_name(change, key), [old.name]
     if name:
@@ -175,7 +171,7 @@ def head_name_fault(change: Change, key: Tuple[bytes, ...], old: BigHead, new: B
     return found
 
 
-def big_differences(change: Change, key: Tuple[bytes, ...], old: BigHead, new: BigHead) -> List[str]:
+def big_differences(change: Change, key: Key, old: Head, new: Head) -> List[str]:
     size = change.needs.size if key == change.needs.grown else old.size
     found = [] if new.size == size else ["it has %d bytes instead of %d" % (new.size, size)]
     found += [] if new.reserved == old.reserved else ["its reserved bytes have changed"]
@@ -183,7 +179,7 @@ def big_differences(change: Change, key: Tuple[bytes, ...], old: BigHead, new: B
     return found + head_name_fault(change, key, old, new, change.before.objects[key].entries)
 
 
-def rewritten_differences(change: Change, key: Tuple[bytes, ...], now: Tuple[bytes, ...]) -> List[str]:
+def rewritten_differences(change: Change, key: Key, now: Key) -> List[str]:
     """What a directory owes whose bytes have changed."""
     old, new = change.before.heads[key], change.after.heads[now]
     holder = change.after.objects[now].holder
@@ -196,7 +192,7 @@ def rewritten_differences(change: Change, key: Tuple[bytes, ...], now: Tuple[byt
     return ["%s: %s" % (spelled_path(now), one) for one in found]
 
 
-def kept_differences(change: Change, key: Tuple[bytes, ...], now: Tuple[bytes, ...]) -> List[str]:
+def kept_differences(change: Change, key: Key, now: Key) -> List[str]:
     """What a directory owes whose bytes are as they were."""
     old, found = change.before.heads[key], []
     if has_to_name_holder(change, key):

@@ -6,11 +6,11 @@ Each function answers a list of differences in words; the list is empty if all i
 """
 from __future__ import annotations
 
-from typing import Iterable, List, Optional, Set, Tuple, Union
+from typing import Dict, Iterable, List, Optional, Set, Tuple, Union
 
 from tools.reference import change_directories
 from tools.reference.change_answer import OLD_HOLES, Command, Needs, given, low_byte, tree_after
-from tools.reference.change_state import State, changed_sectors
+from tools.reference.change_state import Key, State, changed_sectors
 from tools.reference.filecore import BOOT_BLOCK, BOOT_SIZE, old_map_check, spelled_path
 from tools.reference.read_image import Entry
 
@@ -24,7 +24,7 @@ class Change:
         self.before, self.after, self.c, self.needs = before, after, c, needs
         self.changed = changed_sectors(before, after)
 
-    def key_after(self, key: Tuple[bytes, ...]) -> Optional[Tuple[bytes, ...]]:
+    def key_after(self, key: Key) -> Optional[Key]:
         """The key afterwards of an object of before; None if it is deleted."""
         source, target = self.c.key(), self.c.target()
         if self.c.word == "delete" and key == source:
@@ -97,7 +97,7 @@ def fewest(holes: List[Tuple[int, int, int]], bits: int) -> int:
 def taken(change: Change, holes: List[Tuple[int, int, int]], parts: List[Tuple[int, int, int]], bits: int,
           who: str) -> Tuple[List[Tuple[int, int, int]], List[str]]:
     """The holes that are left when the parts are taken, and the differences from what may be taken."""
-    least, found, left = change.before.map.shape.least, [], list(holes)
+    least, found, left = change.before.new_map.shape.least, [], list(holes)
     total = sum(length for zone, start, length in parts)
     if len(parts) != fewest(holes, bits):
         found.append("%s has %d runs, and %d would do" % (who, len(parts), fewest(holes, bits)))
@@ -144,7 +144,7 @@ def object_placed(change: Change) -> Tuple[List[Tuple[int, int, int]], List[str]
     parts = change.after.runs_of(made.address // 256)
     found = fresh_identifier(change, made.address // 256, "the new object")
     left, wrong = taken(change, holes, parts, needs.object_bits(), "the new object")
-    shape = change.before.map.shape
+    shape = change.before.new_map.shape
     room = sum(bits for zone, start, bits in parts) * shape.bit_bytes
     low = 0 if made.is_directory() else low_byte(shape, room, needs.length)
     if made.address % 256 != low:
@@ -190,13 +190,13 @@ def given_back(change: Change) -> Set[int]:
 def runs_after(change: Change, left: List[Tuple[int, int, int]], gone: Set[int]) -> List[Tuple[int, int, int, Optional[int]]]:
     """All runs as they have to be: zone, start, bits, identifier."""
     before, after = change.before, change.after
-    kept = [run for run in before.map.runs if run[3] is not None and run[3] not in gone]
+    kept = [run for run in before.new_map.runs if run[3] is not None and run[3] not in gone]
     new = [change.new_identifier()] + ([change.grown().address // 256] if change.needs.growth else [])
     kept += [(*run, identifier) for identifier in set(new) - {None} for run in after.runs_of(identifier)]
-    holes = {}
+    holes: Dict[int, List[Tuple[int, int]]] = {}
     for zone, start, length in left:
         holes.setdefault(zone, []).append((start, length))
-    for zone, start, length, identifier in before.map.runs:
+    for zone, start, length, identifier in before.new_map.runs:
         if identifier in gone:
             holes[zone] = given(holes.get(zone, []), (start, length))
     return sorted(kept + [(zone, *hole, None) for zone, found in holes.items() for hole in found], key=lambda run: run[:3])
@@ -210,7 +210,7 @@ def map_differences(change: Change) -> List[str]:
     left, found = object_placed(change)
     left, wrong = growth_placed(change, left)
     found += wrong
-    wanted, there = runs_after(change, left, given_back(change)), sorted(change.after.map.runs, key=lambda run: run[:3])
+    wanted, there = runs_after(change, left, given_back(change)), sorted(change.after.new_map.runs, key=lambda run: run[:3])
     missing, extra = (sorted(set(one) - set(other), key=lambda run: run[:3]) for one, other in ((wanted, there), (there, wanted)))
     found += ["no run: " + run_text(run) for run in missing[:3]] + ["a run that should not be: " + run_text(run) for run in extra[:3]]
     return found
@@ -218,7 +218,7 @@ def map_differences(change: Change) -> List[str]:
 
 def zone_differences(change: Change) -> List[str]:
     """Bits outside the allocation bits, links, and the record."""
-    shape, found = change.before.map.shape, []
+    shape, found = change.before.new_map.shape, []
     copies = chosen_copy(change.before), change.after.copies()[0]
     for zone in range(shape.zones):
         old, new = (copy[zone * shape.sector:(zone + 1) * shape.sector] for copy in copies)
@@ -235,15 +235,15 @@ def zone_differences(change: Change) -> List[str]:
 
 def chosen_copy(state: State) -> bytes:
     """The copy of the map that the image opens by."""
-    shape, sector = state.map.shape, state.sector
-    chosen = b"".join(state.map.chosen_copy(state.data))
+    shape, sector = state.new_map.shape, state.sector
+    chosen = b"".join(state.new_map.chosen_copy(state.data))
     assert len(chosen) == shape.zones * sector
     return chosen
 
 
 def high_bits(change: Change, zone: int, old: bytes, new: bytes) -> List[str]:
     """Bits of a hole's field above the link are 0, or as they were."""
-    shape = change.before.map.shape
+    shape = change.before.new_map.shape
     if shape.idlen <= 15:
         return []
     mask = (1 << shape.idlen) - 1

@@ -2,11 +2,11 @@
 """What `compact` may do to a disc with an old map: the differences from `Compacts` of fc_image::effects."""
 from __future__ import annotations
 
-from typing import List, Tuple
+from typing import List
 
 from tools.reference.change_directories import lines_of
 from tools.reference.change_effects import old_map_bytes, outside_differences
-from tools.reference.change_state import State, changed_sectors
+from tools.reference.change_state import Key, State, changed_sectors
 from tools.reference.filecore import spelled_path
 
 
@@ -31,7 +31,7 @@ def tree_differences(before: State, after: State) -> List[str]:
     return found
 
 
-def directory_differences(before: State, after: State, key: Tuple[bytes, ...]) -> List[str]:
+def directory_differences(before: State, after: State, key: Key) -> List[str]:
     """A directory keeps all but addresses, its parent field if its holder moved, and its sequence if it is rewritten."""
     old, new, entry = before.heads[key], after.heads[key], before.objects[key]
     found = [field for field in ("word", "name", "title", "reserved") if getattr(old, field) != getattr(new, field)]

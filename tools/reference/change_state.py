@@ -5,19 +5,30 @@ Written from docs/FORMAT.md with Python's standard library alone; no code is sha
 """
 from __future__ import annotations
 
-from typing import TYPE_CHECKING, Dict, List, Optional, Set, Tuple, Union
+from typing import TYPE_CHECKING, Dict, List, NamedTuple, Optional, Set, Tuple, Union
 
 from tools.reference.filecore import SMALL_SIZE, big_directory_check, folded, head_space, number
-from tools.reference.read_image import Disc, Entry, NewMap, cut_name, kind_of
+from tools.reference.read_image import Disc, Entry, NewMap, OldMap, cut_name, kind_of
 
 if TYPE_CHECKING:
     from tools.checks.failing_calls import Bytes
 
 MAP_OWNER = "the map"  # identifier 2 has it as an owner that no entry shows
-TAILS = {  # of small directories: the places of last mark, reserved bytes, parent, title and name
-    "D": dict(mark=2007, reserved=(2008, 2010), parent=2010, title=(2013, 2032), name=(2032, 2042)),
-    "L": dict(mark=1227, reserved=(1260, 1274), parent=1238, title=(1241, 1260), name=(1228, 1238)),
-}
+Key = Tuple[bytes, ...]  # of an object: the folded names of its path
+
+
+class Tail(NamedTuple):
+    """Where small directories have their last mark, reserved bytes, parent, title and name."""
+
+    mark: int
+    reserved: slice
+    parent: int
+    title: slice
+    name: slice
+
+
+TAILS = {"D": Tail(2007, slice(2008, 2010), 2010, slice(2013, 2032), slice(2032, 2042)),
+         "L": Tail(1227, slice(1260, 1274), 1238, slice(1241, 1260), slice(1228, 1238))}
 
 
 def size_for(head: int, entries: int, heap: int) -> int:
@@ -25,22 +36,44 @@ def size_for(head: int, entries: int, heap: int) -> int:
     return -(-(28 + head + 28 * entries + heap + 8) // 2048) * 2048
 
 
-class SmallHead:
-    """What a directory of 2048 or 1280 bytes says beside its entries."""
+class Head:
+    """What a directory says beside its entries."""
+
+    size: int
+    sequence: int
+    word: bytes
+    parent: int
+    name: bytes
+    reserved: bytes
+    lasts: List[int]
+    # of a small directory
+    mark: int
+    title: bytes
+    check: int
+    raw_names: List[bytes]
+    # of a big one
+    form: int
+    padding: bytes
+    heap: bytes
+    places: List[int]
+
+
+class SmallHead(Head):
+    """Of a directory of 2048 or 1280 bytes."""
 
     def __init__(self, block: bytes, form: str, count: int) -> None:
         tail = TAILS[form]
         self.size = len(block)
         self.sequence, self.word = block[0], block[1:5]
-        self.mark, self.parent = block[tail["mark"]], number(block, tail["parent"], 3)
-        self.reserved, self.title, self.name = (block[slice(*tail[field])] for field in ("reserved", "title", "name"))
+        self.mark, self.parent = block[tail.mark], number(block, tail.parent, 3)
+        self.reserved, self.title, self.name = block[tail.reserved], block[tail.title], block[tail.name]
         self.check = block[-1]
         self.raw_names = [block[5 + 26 * at:15 + 26 * at] for at in range(count)]
         self.lasts = [block[30 + 26 * at] if form == "L" else 0 for at in range(count)]
 
 
-class BigHead:
-    """What a big directory says beside its entries."""
+class BigHead(Head):
+    """Of a big directory."""
 
     def __init__(self, block: bytes, count: int) -> None:
         length, heap = number(block, 8, 4), number(block, 20, 4)
@@ -69,8 +102,8 @@ class State:
         self.map, self.form = self.disc.map, self.disc.map.form
         self.is_new = isinstance(self.map, NewMap)
         self.sector = self.map.sector
-        self.objects = {(): self.disc.root}
-        self.heads = {}
+        self.objects: Dict[Key, Entry] = {(): self.disc.root}
+        self.heads: Dict[Key, Head] = {}
         for directory in self.disc.directories:
             self.objects.update({key_of(entry.path): entry for entry in directory.entries})
             block = self.disc.content(directory)
@@ -78,11 +111,21 @@ class State:
             self.heads[key_of(directory.path)] = BigHead(block, count) if self.form == "big" else SmallHead(block, self.form, count)
         self.owners = self.read_owners()
 
-    def read_owners(self) -> Dict[int, List[Union[Tuple[bytes, ...], str]]]:
+    @property
+    def new_map(self) -> NewMap:
+        assert isinstance(self.map, NewMap)
+        return self.map
+
+    @property
+    def old_map(self) -> OldMap:
+        assert isinstance(self.map, OldMap)
+        return self.map
+
+    def read_owners(self) -> Dict[int, List[Union[Key, str]]]:
         """For each identifier the keys of the objects that have sectors in it."""
         if not self.is_new:
             return {}
-        found = {2: [MAP_OWNER]}
+        found: Dict[int, List[Union[Key, str]]] = {2: [MAP_OWNER]}
         for key, entry in self.objects.items():
             if entry.sectors:
                 found.setdefault(entry.address // 256, []).append(key)
@@ -98,19 +141,19 @@ class State:
         return SMALL_SIZE.get(self.form, 2048)
 
     def free_identifiers(self) -> List[int]:
-        used = {identifier for zone, start, length, identifier in self.map.runs}
-        return [identifier for identifier in range(3, self.map.shape.id_limit) if identifier not in used]
+        used = {identifier for zone, start, length, identifier in self.new_map.runs}
+        return [identifier for identifier in range(3, self.new_map.shape.id_limit) if identifier not in used]
 
     def holes(self) -> List[Tuple[int, int, int]]:
         """On a new map zone, disc map bit and bits of each hole."""
-        return [(zone, start, length) for zone, start, length, identifier in self.map.runs if identifier is None]
+        return [(zone, start, length) for zone, start, length, identifier in self.new_map.runs if identifier is None]
 
     def runs_of(self, identifier: int) -> List[Tuple[int, int, int]]:
-        return [(zone, start, length) for zone, start, length, other in self.map.runs if other == identifier]
+        return [(zone, start, length) for zone, start, length, other in self.new_map.runs if other == identifier]
 
     def old_holes(self) -> List[Tuple[int, int]]:
         """On an old map first sector and sectors of each hole, as stored."""
-        return [(first, end - first) for first, end in self.map.holes]
+        return [(first, end - first) for first, end in self.old_map.holes]
 
     def is_writable(self, name: bytes) -> bool:
         """Whether a new object may have this name here."""
@@ -118,24 +161,24 @@ class State:
         return 1 <= len(name) <= most and all(33 <= byte <= last and byte != 127 and byte not in b'$&%@\\^:.#*"|' for byte in name)
 
     def disc_bytes(self) -> int:
-        return self.map.shape.record.size if self.is_new else self.map.units * 256
+        return self.new_map.shape.record.size if self.is_new else self.old_map.units * 256
 
     def copies(self) -> Tuple[bytes, bytes]:
         """The two copies of a new map."""
-        size = self.map.shape.zones * self.sector
-        start = self.map.shape.map_sector * self.sector
+        size = self.new_map.shape.zones * self.sector
+        start = self.new_map.shape.map_sector * self.sector
         return self.data[start:start + size], self.data[start + size:start + 2 * size]
 
     def idle_sectors(self) -> Set[int]:
         """The sectors of identifier 1 and of lost space, outside the map's."""
         if self.is_new:
             owned = self.disc.owned | {2}
-            runs = [run for run in self.map.runs if run[3] is not None and (run[3] == 1 or run[3] not in owned)]
-            copies = range(self.map.shape.map_sector, self.map.shape.map_sector + 2 * self.map.shape.zones)
-            return {sector for zone, start, length, identifier in runs for sector in self.map.sectors_in(start, length)} - set(copies)
-        return set(range(self.map.units * 256 // self.sector)) - self.disc.claimed
+            runs = [run for run in self.new_map.runs if run[3] is not None and (run[3] == 1 or run[3] not in owned)]
+            copies = range(self.new_map.shape.map_sector, self.new_map.shape.map_sector + 2 * self.new_map.shape.zones)
+            return {sector for zone, start, length, identifier in runs for sector in self.new_map.sectors_in(start, length)} - set(copies)
+        return set(range(self.old_map.units * 256 // self.sector)) - self.disc.claimed
 
-    def tree(self) -> Dict[Tuple[bytes, ...], Tuple[int, int, int, Optional[Entry]]]:
+    def tree(self) -> Dict[Key, Tuple[int, int, int, Optional[Entry]]]:
         """Each path with its attributes, words and the bytes of a file; None for a directory."""
         return {tuple(entry.path): (entry.attributes, entry.load, entry.execution, None if entry.is_directory() else entry)
                 for entry in self.objects.values()}

@@ -10,7 +10,7 @@ import random
 from typing import Dict, List, Optional, Set, Tuple, Union
 
 from tools.reference.change_answer import WORDS, Command, Needs, low_byte, owed_refusal
-from tools.reference.change_state import State, size_for
+from tools.reference.change_state import Key, State, size_for
 from tools.reference.filecore import (big_directory_check, folded, head_space, name_space, old_map_check, padded, put,
                                       small_directory_check, zone_check)
 from tools.reference.read_image import Entry
@@ -49,11 +49,11 @@ class New:
 class Folder:
     """A directory that is edited."""
 
-    def __init__(self, state: State, key: Tuple[bytes, ...]) -> None:
+    def __init__(self, state: State, key: Key) -> None:
         self.state, self.head, self.entry = state, state.heads[key], state.objects[key]
         self.block = bytearray(state.content(self.entry))
         self.size, self.name, self.parent = len(self.block), self.head.name, None
-        self.gained = None  # a name that is new in a big directory
+        self.gained: Optional[bytes] = None  # a name that is new in a big directory
         raws = [bytes(self.block[5 + 26 * at:31 + 26 * at]) for at in range(len(self.entry.entries))] if state.form != "big" else None
         self.items = [Item(entry, raws and raws[at], self.head.lasts[at]) for at, entry in enumerate(self.entry.entries)]
 
@@ -167,8 +167,8 @@ class NewSpace:
     """The runs of a new map, and their change."""
 
     def __init__(self, state: State, fault: Optional[str], chance: random.Random) -> None:
-        self.state, self.shape, self.fault, self.chance = state, state.map.shape, fault, chance
-        self.runs = {tuple(run[:2]): [run[2], run[3]] for run in state.map.runs}  # zone and start: bits and identifier
+        self.state, self.shape, self.fault, self.chance = state, state.new_map.shape, fault, chance
+        self.runs = {tuple(run[:2]): [run[2], run[3]] for run in state.new_map.runs}  # zone and start: bits and identifier
         self.free = state.free_identifiers()
 
     def fronts(self, bits: int) -> List[Tuple[Tuple[int, int], int]]:
@@ -267,7 +267,7 @@ class Edit:
         self.holes = None if state.is_new else needs.old_holes_after()
         self.blocks = []  # what is written at the end: places with lengths, and bytes
 
-    def folder(self, key: Tuple[bytes, ...]) -> Folder:
+    def folder(self, key: Key) -> Folder:
         if key not in self.folders:
             self.folders[key] = Folder(self.state, key)
         return self.folders[key]
@@ -299,7 +299,7 @@ class Edit:
         shared = len(state.owners[identifier]) > 1 or self.needs.slack and self.needs.slack[0] == identifier
         if shared and self.fault != "shared identifier given back":
             return set()
-        return {run[:2] for run in state.map.runs if run[3] == identifier}
+        return {run[:2] for run in state.new_map.runs if run[3] == identifier}
 
     def new_object(self, content: bytes, is_directory: bool) -> int:
         """Space with the content in it: the address."""
@@ -314,11 +314,11 @@ class Edit:
             if not self.is_left_unwritten():
                 self.write([(sector * state.sector, state.sector) for sector in sectors], content)
             return identifier * 256 + low
-        identifier, bits, places = self.space.take(state.map.shape.units(len(content)))
+        identifier, bits, places = self.space.take(state.new_map.shape.units(len(content)))
         if not self.is_left_unwritten():
             self.write(self.space.extents(identifier), content)
-        room = bits * state.map.shape.bit_bytes
-        low = 0 if is_directory or self.fault == "low byte 0" else low_byte(state.map.shape, room, len(content))
+        room = bits * state.new_map.shape.bit_bytes
+        low = 0 if is_directory or self.fault == "low byte 0" else low_byte(state.new_map.shape, room, len(content))
         return identifier * 256 + low
 
     def is_left_unwritten(self) -> bool:
@@ -362,7 +362,7 @@ class Edit:
         self.regrown_children(key)
         return gone
 
-    def regrown_children(self, key: Tuple[bytes, ...]) -> None:
+    def regrown_children(self, key: Key) -> None:
         if self.needs.growth and not self.needs.alone and self.fault != "children left":
             for entry in self.state.objects[key].entries:
                 if entry.is_directory():
@@ -387,7 +387,7 @@ class Edit:
         return bytes(self.image)
 
     def release_lost(self) -> None:
-        lost = sorted(run[:2] for run in self.state.map.runs if run[3] and run[3] > 2 and run[3] not in self.state.owners)
+        lost = sorted(run[:2] for run in self.state.new_map.runs if run[3] and run[3] > 2 and run[3] not in self.state.owners)
         self.space.release(lost[:1])
 
     def put_item(self, name: bytes, fields: Dict[str, int]) -> None:
@@ -451,7 +451,7 @@ class Edit:
         if self.state.is_directory(source):
             self.rename_folder(source, name)
 
-    def rename_folder(self, source: Tuple[bytes, ...], name: bytes) -> None:
+    def rename_folder(self, source: Key, name: bytes) -> None:
         folder = self.folder(source)
         if self.state.form != "big":
             folder.name = padded(name, 10)
@@ -465,7 +465,7 @@ class Edit:
 
     # writing
 
-    def holder_address(self, key: Tuple[bytes, ...]) -> int:
+    def holder_address(self, key: Key) -> int:
         """The address of the directory that holds the one that had this key."""
         c, source = self.c, self.c.key()
         if c.word == "rename" and key == source and self.fault != "parent left":
@@ -491,7 +491,7 @@ class Edit:
             return
         shape, sector = self.space.shape, self.state.sector
         start = shape.map_sector * sector
-        for zone, old in enumerate(self.state.map.chosen_copy(self.state.data)):
+        for zone, old in enumerate(self.state.new_map.chosen_copy(self.state.data)):
             new = self.space.zone_sector(zone, old)
             for copy in (0, 1):
                 if zone == 0 and self.root[1] and not (copy and self.fault == "root size in one copy"):
@@ -510,7 +510,7 @@ def repaired(state: State) -> bytes:
     """The image with two equal copies of the map."""
     if not state.is_new or len(set(state.copies())) == 1:
         return state.data
-    chosen, start = b"".join(state.map.chosen_copy(state.data)), state.map.shape.map_sector * state.sector
+    chosen, start = b"".join(state.new_map.chosen_copy(state.data)), state.new_map.shape.map_sector * state.sector
     return state.data[:start] + chosen + chosen + state.data[start + 2 * len(chosen):]
 
 
@@ -562,7 +562,7 @@ def squashed(state: State, fault: Optional[str]) -> bytes:
     return bytes(image)
 
 
-def moved_folder(state: State, key: Tuple[bytes, ...], children: Dict[Entry, int], parent: int) -> bytearray:
+def moved_folder(state: State, key: Key, children: Dict[Entry, int], parent: int) -> bytearray:
     """The bytes of a directory with its entries' new addresses."""
     folder = Folder(state, key)
     for item, place in zip(folder.items, children.values()):

@@ -13,7 +13,7 @@ from __future__ import annotations
 import hashlib
 import signal
 import sys
-from typing import List, Optional, Set, Tuple, TypedDict, Union
+from typing import Dict, List, Optional, Set, Tuple, TypedDict, Union
 
 Fields = TypedDict("Fields", {
     "name": bytes, "load": int, "exec": int, "length": int, "address": int, "attributes": int, "path": str,
@@ -149,7 +149,7 @@ def kind_of(data: bytes) -> Tuple[str, Union[int, Record]]:  # Kinds, table, row
     if len(data) >= 0xE00:
         block = data[0xC00:0xE00]
         if block[511] == boot_check(block) and valid(block[0x1C0:0x1FC]):
-            return "Boot", valid(block[0x1C0:0x1FC])
+            return "Boot", Record(block[0x1C0:0x1FC])
     for zone in (data[0:1024], data[1024:2048]):
         if len(zone) == 1024 and zone[0] == zone_check(zone) and zone[3] == 0xFF:
             record = valid(zone[4:64])
@@ -177,7 +177,8 @@ class NewMap:
         self.root = own.root
         self.form = "big" if record.version else "2048"  # Kinds, column Directories
         self.root_size = own.root_size if record.version else 2048
-        self.holes, self.runs = [], {}
+        self.holes: List[Tuple[int, int]] = []
+        self.runs: Dict[int, List[Tuple[int, Tuple[int, int]]]] = {}
         for z in range(record.zones):  # Order of tests: each zone, its runs, then its holes
             self.read_zone(z, zones[z])
         boot = range(0xC00 // self.sector, -(-0xE00 // self.sector)) if kind == "Boot" else ()
@@ -270,7 +271,7 @@ class OldMap:
         self.root_size = int(self.form)
         self.size = units * 256
         map_size = 1024 if kind == "D" else 512
-        self.holes = []
+        self.holes: List[Tuple[int, int]] = []
         free_end, before = data[510], map_size  # Old map, hole faults
         if free_end % 3 or free_end > 246:
             raise Bad("Hole", free_end // 3)
@@ -330,7 +331,7 @@ def small_entry(raw: bytes, form: str) -> Fields:  # Small directories, table of
     if form == "1280":
         attributes = sum(2 ** i for i in range(10) if name[i] >= 128)
         name = bytes(byte % 128 for byte in name)
-    return dict(name=cut(name), load=num(raw, 10, 4), exec=num(raw, 14, 4), length=num(raw, 18, 4), address=num(raw, 22, 3),
+    return Fields(name=cut(name), load=num(raw, 10, 4), exec=num(raw, 14, 4), length=num(raw, 18, 4), address=num(raw, 22, 3),
                 attributes=attributes)
 
 
@@ -373,7 +374,7 @@ def read_big(data: bytes) -> Tuple[List[Fields], int]:  # Big directories; the t
         name = names[offset:offset + name_length]
         if not 1 <= name_length <= 255 or offset + name_length > heap or min(name) < 32:
             name = b""  # check_names calls it a BadEntry
-        entries.append(dict(name=name, load=load, exec=execution, length=length, address=address, attributes=attributes))
+        entries.append(Fields(name=name, load=load, exec=execution, length=length, address=address, attributes=attributes))
     return check_names(entries), num(data, 24, 4)
 
 
@@ -383,20 +384,27 @@ def read_big(data: bytes) -> Tuple[List[Fields], int]:  # Big directories; the t
 class Disc:
     def __init__(self, data: bytes) -> None:
         kind, found = kind_of(data)
-        need = found.size if kind in ("Boot", "OneZone") else found * 256  # Kinds, third column
+        need = found * 256 if isinstance(found, int) else found.size  # Kinds, third column
         if len(data) < need:
             raise Bad("Short", need, len(data))
         self.data = data
-        self.map = (NewMap if kind in ("Boot", "OneZone") else OldMap)(data, kind, found)
-        self.claimed, self.owned = set(self.map.claimed), set()
-        self.root = dict(name=b"$", path="$", attributes=8, address=self.map.root, length=self.map.root_size)
-        self.files, self.directories = [], [self.root]
+        self.map: Union[NewMap, OldMap] = OldMap(data, kind, found) if isinstance(found, int) else NewMap(data, kind, found)
+        self.claimed = set(self.map.claimed)
+        self.owned: Set[int] = set()
+        self.root = Fields(name=b"$", path="$", attributes=8, address=self.map.root, length=self.map.root_size)
+        self.files: List[Fields] = []
+        self.directories = [self.root]
         self.claim(self.root)
         for directory in self.directories:  # Walk, 2: the list grows while it is read
             self.read(directory)
         sector = self.map.misplaced(self.owned)
         if sector is not None:
             raise Bad("MapPlace", sector)
+
+    @property
+    def new_map(self) -> NewMap:
+        assert isinstance(self.map, NewMap)
+        return self.map
 
     def claim(self, entry: Fields) -> None:  # Walk, after the steps
         if entry["attributes"] & 8 and self.map.form != "big":

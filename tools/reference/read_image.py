@@ -213,7 +213,7 @@ class NewMap:
 
     def read_identifiers(self) -> Dict[int, List[int]]:
         """The sectors of each identifier, from its home zone round to the zone before it."""
-        found = {}
+        found: Dict[int, List[Tuple[int, int, int]]] = {}
         for zone, start, length, identifier in self.runs:
             if identifier is not None:
                 turn = (zone - self.shape.home(identifier)) % self.shape.zones
@@ -252,7 +252,10 @@ class Entry:
     def __init__(self, name: bytes, attributes: int, load: int, execution: int, length: int, address: int) -> None:
         self.name, self.attributes, self.load, self.execution = name, attributes, load, execution
         self.length, self.address = length, address
-        self.path, self.sectors, self.entries, self.parent, self.holder = [], [], [], 0, self
+        self.path: List[bytes] = []
+        self.sectors: List[int] = []
+        self.entries: List[Entry] = []
+        self.parent, self.holder = 0, self
 
     def is_directory(self) -> bool:
         return bool(self.attributes & 8)
@@ -350,16 +353,16 @@ class Disc:
 
     def __init__(self, data: bytes) -> None:
         kind, found = kind_of(data)
-        need = found * UNIT if kind in "DL" else found.size
+        need = found * UNIT if isinstance(found, int) else found.size
         if len(data) < need:
             raise Fault("Short", need, len(data))
         self.data = data
-        self.map = OldMap(data, kind, found) if kind in "DL" else NewMap(data, kind, found)
+        self.map: Union[OldMap, NewMap] = OldMap(data, kind, found) if isinstance(found, int) else NewMap(data, kind, found)
         self.claimed = set(self.map.taken)
-        self.owned = set()  # identifiers that objects have
+        self.owned: Set[int] = set()  # identifiers that objects have
         self.files = 0
         self.root = Entry(b"$", 8, 0, 0, self.map.root_size, self.map.root)
-        self.directories = []
+        self.directories: List[Entry] = []
         self.walk()
         sector = self.map.misplaced(self.owned - {1, 2})
         if sector is not None:
@@ -414,9 +417,10 @@ class Disc:
         for name in names:
             if not here.is_directory():
                 return None, NOT_DIRECTORY
-            here = next((entry for entry in here.entries if folded(entry.name) == folded(name)), None)
-            if here is None:
+            found = next((entry for entry in here.entries if folded(entry.name) == folded(name)), None)
+            if found is None:
                 return None, NOT_FOUND
+            here = found
         return here, ""
 
     def counts(self) -> Tuple[int, ...]:
@@ -458,20 +462,20 @@ def read_path(text: str) -> Optional[List[bytes]]:
     return names
 
 
-def read_line(line: bytes) -> Tuple[Optional[str], Union[List[List[bytes]], str]]:
-    """The command's word and its paths, or None and the refusal."""
+def read_line(line: bytes) -> Tuple[str, List[List[bytes]], str]:
+    """The command's word, its paths, and the refusal: empty, or the word is."""
     if any(not 32 <= byte <= 126 for byte in line):
-        return None, BAD_COMMAND
+        return "", [], BAD_COMMAND
     text = line.decode()
     word = text.split(" ")[0]
     if word not in FORMS:
-        return None, BAD_COMMAND
+        return "", [], BAD_COMMAND
     paths, rest = FORMS[word]
     match = re.fullmatch(re.escape(word) + r" ([^ ]+)" * paths + rest, text)
     if not match or word == "create" and int(text.split(" ")[-1]) > 0xFFFFFFFF:
-        return None, BAD_COMMAND
-    names = [read_path(match[1 + at]) for at in range(paths)]
-    return (None, BAD_NAME) if None in names else (word, names)
+        return "", [], BAD_COMMAND
+    names = [name for name in (read_path(match[1 + at]) for at in range(paths)) if name is not None]
+    return (word, names, "") if len(names) == paths else ("", [], BAD_NAME)
 
 
 def lines_of(script: bytes) -> List[bytes]:
@@ -503,10 +507,10 @@ def adding_reply(disc: Disc, word: str, paths: List[List[bytes]], read_only: boo
     if to and (len(to[-1]) > most or any(byte < 33 or byte == 127 or byte in NOT_SPELLED or byte > 127 and form == "L" for byte in to[-1])):
         return BAD_NAME
     entry, refused = disc.find(paths[0])
-    if word == "rename" and refused:
+    if entry is None and word == "rename":
         return refused
     holder, refused = disc.find(to[:-1])
-    if refused or not holder.is_directory():
+    if holder is None or not holder.is_directory():
         return refused or NOT_DIRECTORY
     there = disc.find(to)[0]
     if word in ("save", "create") and there and (there.is_directory() or there.attributes & 4):
@@ -518,7 +522,7 @@ def adding_reply(disc: Disc, word: str, paths: List[List[bytes]], read_only: boo
         return ROOT_REFUSED
     if word == "rename" and not same and [folded(name) for name in to[:len(paths[0])]] == [folded(name) for name in paths[0]]:
         return INTO_ITSELF
-    if word == "rename" and entry.attributes & 4:
+    if word == "rename" and entry and entry.attributes & 4:
         return LOCKED
     return READ_ONLY if read_only else "ok\n"
 
@@ -533,7 +537,7 @@ def reply(disc: Disc, word: str, paths: List[List[bytes]], read_only: bool) -> s
     if word in ADDING:
         return adding_reply(disc, word, paths, read_only)
     entry, refused = disc.find(paths[0])
-    if refused:
+    if entry is None:
         return refused
     if word in ("delete", "set"):
         return change_reply(word, paths[0], entry, read_only)
@@ -550,15 +554,15 @@ def answer(data: bytes, script: bytes, read_only: bool = False) -> Tuple[int, st
     if len(script) > SCRIPT_LIMIT:
         return 8, ""
     commands = [read_line(line) for line in lines_of(script)]
-    if any(word == UNBUILT for word, paths in commands):
+    if any(word == UNBUILT for word, paths, refused in commands):
         return 9, ""
     try:
         disc = Disc(data)
     except Fault as fault:
         return 3, str(fault)
-    replies = [reply(disc, word, paths, read_only) if word else paths for word, paths in commands]
-    refused = any(re.fullmatch(r"error [0-9]+ [A-Za-z]+\n", one) for one in replies)
-    return int(refused), "".join(replies)
+    replies = [refused or reply(disc, word, paths, read_only) for word, paths, refused in commands]
+    is_refused = any(re.fullmatch(r"error [0-9]+ [A-Za-z]+\n", one) for one in replies)
+    return int(is_refused), "".join(replies)
 
 
 if __name__ == "__main__":
