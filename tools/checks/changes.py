@@ -28,7 +28,7 @@ import sys
 import tempfile
 import time
 import traceback
-from typing import Counter, List, Optional, Tuple, Union
+from typing import Counter, Dict, List, Optional, Tuple, Union
 
 from tools.checks import change_rows, change_scripts, crash
 from tools.files import PROGRAM
@@ -148,7 +148,7 @@ def short(replies: List[str]) -> str:
 
 
 def step(actor: Union[Program, Stand], state: State, line: bytes, read_only: bool,
-         counts: Counter[Tuple[str, str]]) -> Optional[State]:
+         counts: Counter[Tuple[str, str]]) -> State:
     """Runs one line: the state afterwards, or a difference."""
     c = Command(line)
     status, text, image = actor.run(state.data, b"\n".join([line] + looks(c)) + b"\n", read_only)
@@ -182,7 +182,7 @@ def compaction_differences(before: State, after: State) -> List[str]:
 
 def count_events(needs: Needs, after: State, counts: Counter[Tuple[str, str]]) -> None:
     """What the accepted commands came to."""
-    events = {"shares": needs.slack, "is copied": needs.copied, "grows": needs.grown is not None, "root grows": needs.grown == (),
+    events: Dict[str, object] = {"shares": needs.slack, "is copied": needs.copied, "grows": needs.grown is not None, "root grows": needs.grown == (),
               "is copied and grows": needs.copied and needs.grown is not None,
               "grows with room": needs.grown is not None and not needs.growth, "grows alone": needs.growth and needs.alone,
               "grows into a new identifier": needs.growth and not needs.alone,
@@ -211,7 +211,8 @@ class Run:
         self.chance = random.Random("%d %d" % (options.seed, number))
         self.drawer = change_scripts.Drawer(self.chance, options.words)
         self.read_only = self.chance.random() < 0.03
-        self.script, self.text, self.last = [], "", self.image
+        self.script: List[bytes] = []
+        self.text, self.last = "", self.image
 
     def go(self, at_once: bool = True) -> str:
         """All differences, as a text; nothing if there are none."""
@@ -275,7 +276,7 @@ class Run:
 # ---- rows
 
 
-def rows_differ(actor: Program, options: argparse.Namespace) -> Optional[bool]:
+def rows_differ(actor: Union[Program, Stand], options: argparse.Namespace) -> bool:
     """The worked rows of the commands that are drawn, compared; prints what differs."""
     wrong, count = [], 0
     for make, script, wanted, *read_only in change_rows.ROWS:
@@ -311,8 +312,9 @@ def after_zones(state: State) -> List[int]:
     return [int.from_bytes(sector, "little") >> state.new_map.shape.end(zone) for zone, sector in enumerate(state.new_map.chosen_copy(state.data))]
 
 
-def check(actor: Program, options: argparse.Namespace) -> bool:
-    counts, failed = collections.Counter(), 0
+def check(actor: Union[Program, Stand], options: argparse.Namespace) -> bool:
+    counts: Counter[Tuple[str, str]] = collections.Counter()
+    failed = 0
     kinds = len(drawn_discs.OLD if options.old else drawn_discs.NEW)
     for at in range(options.images):
         number = options.first + (at * kinds // options.images if options.images < kinds else at)
@@ -332,7 +334,7 @@ def check(actor: Program, options: argparse.Namespace) -> bool:
     return not failed
 
 
-def check_program(options: argparse.Namespace) -> Optional[bool]:
+def check_program(options: argparse.Namespace) -> bool:
     with tempfile.TemporaryDirectory() as folder:
         program = Program(options.program, folder)
         options.words = options.only.split(",") if options.only else ALL
@@ -348,7 +350,7 @@ def words_of(old: bool) -> Tuple[str, ...]:
     return CHANGING + ("compact",) * old
 
 
-def found_after(fault: str, words: str, options: argparse.Namespace) -> Tuple[int, str]:
+def found_after(fault: str, words: str, options: argparse.Namespace) -> Optional[Tuple[int, str]]:
     """Over how many commands a fault was found, and what was found first; None if it wasn't."""
     options.old = "old" in words.split()
     options.words = words_of(options.old)
@@ -384,7 +386,7 @@ def self_test(options: argparse.Namespace) -> bool:
     return good
 
 
-def main(words: List[str]) -> Optional[bool]:
+def main(words: List[str]) -> bool:
     parser = argparse.ArgumentParser(usage=__doc__, add_help=False)
     for name, value in (("--seed", 1), ("--images", 60), ("--commands", 60), ("--first", 0), ("--most", 3)):
         parser.add_argument(name, type=int, default=value)

@@ -25,7 +25,7 @@ from tools.images.fragmented import SHAPES, fragmented
 from tools.images.volumes import NewVolume
 from tools.reference.format_reader import Bad, Disc, Record
 
-Held = Union[List[str], List[Tuple[Union[int, str, None], ...]]]  # a fault's words, or objects
+Held = Union[List[str], List[Tuple[str, int, int, int, Optional[int], Optional[int], str]]]  # a fault's words, or objects
 Steps = List[Optional[Tuple[int, bytes]]]  # a write's place and bytes; None for a sync
 MOMENTS, CHOICES = 24, 2
 SYNC = (1 << 64) - 1
@@ -47,7 +47,7 @@ def objects(data: bytes) -> Held:
 
 def layout(disc: Disc) -> List[List[Tuple[int, int, Optional[int]]]]:
     """For each zone its runs in order: start and length in bytes, and the identifier, or None for a hole."""
-    zones = {}
+    zones: Dict[int, List[Tuple[int, int, Optional[int]]]] = {}
     for start, size in disc.new_map.holes:
         zones.setdefault(zone_of(disc.new_map.g, start), []).append((start, size, None))
     for identifier, runs in disc.new_map.runs.items():
@@ -77,8 +77,8 @@ def left_to_do(disc: Disc) -> List[str]:
             if one == other and one in movable:
                 found.append("two runs of identifier %d touch at %d" % (one, after))
     for identifier in sorted(movable):
-        runs = disc.new_map.runs.get(identifier, [])
-        if len(runs) > 1 and len({zone for zone, run in runs}) <= 8 and sum(size for zone, (start, size) in runs) <= longest:
+        pieces = disc.new_map.runs.get(identifier, [])
+        if len(pieces) > 1 and len({zone for zone, run in pieces}) <= 8 and sum(size for zone, (start, size) in pieces) <= longest:
             found.append("the runs of identifier %d could be joined" % identifier)
     return found
 
@@ -111,7 +111,8 @@ def faults_at_end(before: bytes, after: bytes) -> List[str]:
 
 def steps_of(record: bytes) -> Steps:
     """The steps of a record."""
-    at, found = 0, []
+    at = 0
+    found: Steps = []
     while at < len(record):
         place, count = (int.from_bytes(record[at + n:at + n + 8], "little") for n in (0, 8))
         at += 16
@@ -131,7 +132,7 @@ class Crashes:
 
     def versions(self, pending: List[Tuple[int, bytes]]) -> Dict[int, List[bytes]]:
         """For each sector the versions that it had since the last sync."""
-        found = {}
+        found: Dict[int, List[bytes]] = {}
         for place, content in pending:
             for at in range(place // self.sector, -(-(place + len(content)) // self.sector)):
                 held = found.setdefault(at, [bytes(self.image[self.sector * at:self.sector * (at + 1)])])
@@ -154,7 +155,7 @@ class Crashes:
 
     def each(self, moments: Set[int]) -> Iterator[Tuple[int, bytes]]:
         """Images of crashes at the moments, numbers of calls done."""
-        pending = []
+        pending: List[Tuple[int, bytes]] = []
         for number, step in enumerate(self.steps, 1):
             if step is None:
                 self.apply(pending)
@@ -174,7 +175,7 @@ def crash_faults(image: bytes, steps: Steps, sector: int,
     numbers = range(1, len(steps) + 1)
     moments = set(chance.sample(numbers, min(MOMENTS, len(steps))))
     crashes = Crashes(image, steps, sector, chance)
-    found = []
+    found: List[str] = []
     for number, left in crashes.each(moments):
         held = objects(left)
         if held != wanted and not found:

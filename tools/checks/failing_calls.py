@@ -57,7 +57,7 @@ class Shimmed:
     def __init__(self, program: str, folder: str) -> None:
         self.program, self.image = os.path.realpath(program), os.path.join(folder, "shimmed.adf")
         self.shim, self.log = built_shim(folder), os.path.join(folder, "log")
-        self.left = None  # what the file holds
+        self.left: Optional[bytes] = None  # what the file holds
 
     def run(self, image: bytes, script: bytes, faults: str = "", is_noted: bool = False) -> Ended:
         if image is not self.left:
@@ -69,8 +69,8 @@ class Shimmed:
         ran = subprocess.run([self.program, self.image], input=script, stdout=subprocess.PIPE, stderr=subprocess.STDOUT, check=False,
                              timeout=MOST_SECONDS, env=environment)
         found = read(self.image)
-        self.left = image if found == image else found
-        return Ended(ran.returncode, ran.stdout, self.left, self.noted() if is_noted else [])
+        left = self.left = image if found == image else found
+        return Ended(ran.returncode, ran.stdout, left, self.noted() if is_noted else [])
 
     def noted(self) -> List[List[str]]:
         lines = read(self.log).decode(errors="replace").splitlines()
@@ -93,7 +93,7 @@ class Script:
             kept = next((end.image for end in self.ends if end.image == self.ends[-1].image))
             self.ends[-1].image = kept
         self.whole = self.ends[-1]
-        self.trees = {}
+        self.trees: Dict[int, Dict[Tuple[bytes, ...], Tuple[int, int, int, Optional[bytes]]]] = {}
         calls = self.whole.disk_calls()
         for end in self.ends:
             if end.status not in (0, 1) or calls[:len(end.disk_calls())] != end.disk_calls():

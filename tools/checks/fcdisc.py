@@ -24,7 +24,7 @@ from tools.checks.selection import Suite, shortened
 from tools.checks.work_folders import fill, snapshot, wait_for
 from tools.files import TOP
 from tools.images import damaged, table
-from tools.images.volumes import AnyVolume, Directory, Entry
+from tools.images.volumes import Directory, Entry, Volume
 from tools.reference.filecore import folded, spelled
 
 if TYPE_CHECKING:
@@ -117,12 +117,13 @@ def kind_of(entry: Entry) -> str:
     return "%08x-%08x" % (entry.load, entry.execution)
 
 
-def host_tree(volume: AnyVolume, holder: Directory, place: bytes) -> Tuple[Dict[bytes, Optional[bytes]], Dict[bytes, int]]:
+def host_tree(volume: Volume, holder: Directory, place: bytes) -> Tuple[Dict[bytes, Optional[bytes]], Dict[bytes, int]]:
     """What has to stand in a folder after `extract`, and the times of files with a type."""
-    left, times = {place: None}, {}
+    left: Dict[bytes, Optional[bytes]] = {place: None}
+    times: Dict[bytes, int] = {}
     for entry in holder.entries:
         path = place + b"/" + host_name(entry)
-        if entry.is_directory:
+        if isinstance(entry, Directory):
             inner, inner_times = host_tree(volume, entry, path)
             left.update(inner)
             times.update(inner_times)
@@ -140,7 +141,7 @@ def list_rows(holder: Directory, depth: int = 0) -> Iterator[Row]:
         bits = entry.attributes
         access = "".join(letter for bit, letter in ((4, "L"), (2, "W"), (1, "R")) if bits & bit) + "/"
         access += "".join(letter for bit, letter in ((32, "w"), (16, "r")) if bits & bit)
-        if entry.is_directory:
+        if isinstance(entry, Directory):
             yield "directory", "", access, depth, spelled(entry.name)
             yield from list_rows(entry, depth + 1)
         else:
@@ -152,7 +153,7 @@ def read_row(line: str) -> Union[Row, str]:
     return (found[1].split()[0], found[2].strip(), found[3].strip(), len(found[4]) // 2, found[5]) if found else line
 
 
-def accepted_disc(checks: Checks, name: str, volume: AnyVolume) -> None:
+def accepted_disc(checks: Checks, name: str, volume: Volume) -> None:
     """All jobs over a disc, compared with its description."""
     path = fcdisc_cases.image(name + ".adf")
     long_names = sum(len(entry.name) > 245 for directory in volume.directories() for entry in directory.entries)
@@ -350,7 +351,7 @@ def folding_host(checks: Checks) -> None:
         volume.root.insert(volume.directory(volume.root, name)).insert(volume.file(b"in", b"in " + name, load=0xFFFFFF00))
     table.write_image(checks.place(b"images/folding.adf"), volume.image())
     made = checks.fresh(b"work")
-    told = []
+    told: List[str] = []
     extraction.tell = told.append
     found = tree.read_tree(checks.fcore, os.fsdecode(checks.place(b"images/folding.adf")), "auto", ())
     with folding_folder(os.open(made, os.O_RDONLY)) as folder:

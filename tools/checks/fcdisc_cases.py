@@ -8,6 +8,7 @@ from __future__ import annotations
 import gzip
 from typing import Dict, Iterator, List, Optional, Union
 
+from tools.checks.work_folders import Content
 from tools.images.volumes import NewVolume, OldVolume, fresh_e
 
 HEADER = b"header of an emulator".ljust(512, b"\0")
@@ -25,8 +26,8 @@ class Case:
     """`left`: paths below the work folder and bytes, or None for a folder, or `-> TARGET` for a link."""
 
     def __init__(self, name: str, words: List[str], out: str = "", err: str = "", status: int = 0,
-                 left: Optional[Dict[bytes, Optional[Union[bytes, str]]]] = None,
-                 before: Optional[Dict[bytes, Optional[Union[bytes, str]]]] = None, fcore: Optional[str] = None,
+                 left: Optional[Content] = None,
+                 before: Optional[Content] = None, fcore: Optional[str] = None,
                  within: Optional[str] = None) -> None:
         self.name, self.words, self.out, self.err, self.status = name, words, out, err, status
         self.before = before or {}
@@ -235,8 +236,8 @@ def getting() -> Iterator[Case]:
 # ---- extract
 
 
-def hostile_tree(folder: bytes) -> Dict[bytes, Optional[bytes]]:
-    left = {folder: None}
+def hostile_tree(folder: bytes) -> Content:
+    left: Dict[bytes, Union[bytes, str, None]] = {folder: None}
     for at, name in enumerate(HOSTILE_FILES.values()):
         left[folder + b"/" + name] = b"file %d" % at
     for at, name in enumerate(HOSTILE_FOLDERS.values()):

@@ -28,6 +28,7 @@ if TYPE_CHECKING:
     from tools.checks.fcdisc import Checks
 
 Node = Tuple[int, int, int, Optional[bytes]]  # attributes, words, and bytes; None for a directory
+ShortTree = Dict[str, Union[Tuple[int, bytes], int]]  # by spelled paths: a file's access and bytes, a directory's access
 SETTABLE = 15
 LOST = "lost what others than the owner may do: fcore can't set that"
 
@@ -40,8 +41,8 @@ def tree_of(data: bytes) -> Dict[Tuple[bytes, ...], Node]:
             for key, entry in state.objects.items() if key}
 
 
-def short_tree(data: bytes) -> Dict[str, Union[Tuple[int, bytes], int]]:
-    """As `tree_of`, by spelled paths, and without words: a file's access and bytes, a directory's access."""
+def short_tree(data: bytes) -> ShortTree:
+    """As `tree_of`, without words."""
     return {spelled_path(path): (node[0], node[3]) if node[3] is not None else node[0] & ~8 for path, node in tree_of(data).items()}
 
 
@@ -83,7 +84,7 @@ class Changes:
     def names(self) -> List[str]:
         return sorted(map(os.fsdecode, os.listdir(self.work)))
 
-    def good(self, name: str, words: List[str], tree: Dict[str, Union[Tuple[int, bytes], int]], out: str = "", image: str = "a.adf",
+    def good(self, name: str, words: List[str], tree: Mapping[str, Union[Tuple[int, bytes], int]], out: str = "", image: str = "a.adf",
              **more: Optional[str]) -> None:
         """A job that does all: the tree afterwards, and the image as it was before the first change beside it."""
         before, first = self.both(image)
@@ -110,7 +111,7 @@ class Changes:
         return [read(self.at(name)) if os.path.isfile(self.at(name)) else None for name in (image, image + "~")]
 
 
-NAMED = {"$.A%20B": (3, b"A B!"), "$.Ab": (3, b"\2"), "$.D": 0, "$.D.error": (3, b"")}
+NAMED: ShortTree = {"$.A%20B": (3, b"A B!"), "$.Ab": (3, b"\2"), "$.D": 0, "$.D.error": (3, b"")}
 
 
 OTHER_NAME = "; give a name for it in PATH, such as $.MyText"

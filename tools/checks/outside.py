@@ -21,7 +21,7 @@ import signal
 import subprocess
 import sys
 import tempfile
-from typing import Dict, List, Optional, Tuple, Union
+from typing import Dict, List, Optional, Set, Tuple, Union
 
 from tools.files import TOP, built_shim, compiler, has_compiler, read
 from tools.images.damaged import sized
@@ -68,7 +68,9 @@ class Place:
         for name, content in (("script", SCRIPT.encode()), ("empty", b""), ("change", b"load $.hello\nreclaim\n"),
                               ("refused", b"load $.none\n"), ("long", bytes([10]) * ((1 << 24) + 1))):
             write(os.path.join(self.root, name), content)
-        self.passed, self.failures, self.seen = 0, [], set()
+        self.passed = 0
+        self.failures: List[str] = []
+        self.seen: Set[int] = set()
 
     def path(self, name: str) -> str:
         return os.path.join(self.root, name)
@@ -117,7 +119,8 @@ class Place:
             return "absent"
         return "whole" if read(os.path.join(self.folder, "fresh.adf")) in self.fresh.values() else "part"
 
-    def expect(self, case: str, ended: Ended, status: int, left: str = "absent", output: Optional[bytes] = None) -> None:
+    def expect(self, case: str, ended: Ended, status: Union[int, Tuple[int, ...]], left: Union[str, Tuple[str, ...]] = "absent",
+               output: Optional[bytes] = None) -> None:
         """Notes whether a run ended so; `output` is the whole text, of which any other end has a part from its front."""
         wanted = status if isinstance(status, tuple) else (status,)
         states = left if isinstance(left, tuple) else (left,)
@@ -130,7 +133,7 @@ class Place:
         self.note(case, right, "status %s, wanted %s; fresh.adf %s, wanted %s; %d bytes of output, and errors %s"
                   % (ended.status, status, state, left, len(ended.output), ended.errors[:80]))
 
-    def note(self, case: str, right: bool, what: Union[List[Union[List[int], str]], str] = "") -> None:
+    def note(self, case: str, right: bool, what: object = "") -> None:
         if right:
             self.passed += 1
         else:
@@ -346,7 +349,7 @@ SECTORS = [
 
 
 def counts(ended: Ended) -> Dict[str, int]:
-    numbers = {}
+    numbers: Dict[str, int] = {}
     for call in ended.calls[:-1]:
         numbers[call[0]] = numbers.get(call[0], 0) + 1
     numbers["memory"] = int(ended.calls[-1][3])

@@ -23,7 +23,7 @@ import os
 import random
 import sys
 import tempfile
-from typing import Counter, Dict, List, Tuple
+from typing import Counter, Dict, List, Optional, Set, Tuple
 
 from tools.checks import changes
 from tools.checks.changes import ALL, Run, Stand, opened, owed_refusal
@@ -50,9 +50,12 @@ class Runs:
     def __init__(self, options: argparse.Namespace, folder: str) -> None:
         self.options, self.folder = options, folder
         self.program = changes.Program(options.program, folder)
-        self.shimmed = None
-        self.counts, self.calls, self.failures = collections.Counter(), collections.Counter(), []
-        self.scripts, self.discs = 0, set()
+        self.shimmed: Optional[Shimmed] = None
+        self.counts: Counter[Tuple[str, str]] = collections.Counter()
+        self.calls: Counter[Tuple[str, str]] = collections.Counter()
+        self.failures: List[str] = []
+        self.scripts = 0
+        self.discs: Set[str] = set()
 
     def options_for(self, old: bool) -> argparse.Namespace:
         found = copy.copy(self.options)
@@ -109,7 +112,7 @@ class Runs:
         accepted = sum(count for (word, what), count in self.counts.items() if word in CHANGING and not what)
         lines = sum(count for (word, what), count in self.counts.items() if word != "event")
         print("\n".join(self.failures))
-        rows = [["failing call", "calls", *LEFT]]
+        rows: List[List[object]] = [["failing call", "calls", *LEFT]]
         for kind in KINDS:
             if self.calls[kind, "calls"]:
                 rows.append([NAMES[kind], *(self.calls[kind, left] for left in ("calls",) + LEFT)])
@@ -140,7 +143,7 @@ def torn_between(before: bytes, after: bytes, sector: int, chance: random.Random
 
 def planted(state: State, c: Command, needs: Needs, chance: random.Random) -> Dict[str, int]:
     """By what is wrong with them, places at which no command of this kind may write."""
-    found = {"lost space": [at for at in state.idle_sectors() - map_sectors(state)], "another file": [], "another directory": []}
+    found: Dict[str, List[int]] = {"lost space": [at for at in state.idle_sectors() - map_sectors(state)], "another file": [], "another directory": []}
     for key, entry in state.objects.items():
         if not entry.is_directory():
             found["another file"] += entry.sectors
@@ -173,13 +176,13 @@ def self_test_line(image: bytes, line: bytes, counts: Counter[Tuple[str, str]], 
 
 
 def self_test() -> bool:
-    counts = collections.Counter()
+    counts: Counter[Tuple[str, str]] = collections.Counter()
     for at in range(24):
         old, number = disc_of(at, 24)
         chance = random.Random(at)
         name, image = drawn_discs.image_of(number, old)
         drawer = changes.change_scripts.Drawer(chance, list(CHANGING))
-        for line in range(12):
+        for _ in range(12):
             line = drawer.line(opened(image))
             if line and not line.startswith(b"#"):
                 image = self_test_line(image, line, counts, chance)

@@ -6,9 +6,9 @@ What a disc holds follows from its shape and a seed alone. No code is shared wit
 from __future__ import annotations
 
 import random
-from typing import Dict, Iterator, List, Tuple
+from typing import Dict, Iterator, List, Optional, Tuple
 
-from tools.images.volumes import FRESH_NEW, Directory, File, NewVolume, record_bytes
+from tools.images.volumes import FRESH_NEW, Directory, File, NewVolume, Part, record_bytes
 
 IDENTIFIER_1 = 1
 
@@ -44,7 +44,7 @@ class Fragmenter:
     def __init__(self, volume: NewVolume, seed: float, most_bits: int = 4) -> None:
         self.volume, self.shape, self.random = volume, volume.shape, random.Random(seed)
         self.most_bits = most_bits  # the longest part, in shortest runs
-        self.parts = []  # zones and places of the parts that objects may have
+        self.parts: List[Tuple[int, int]] = []  # zones and places of the parts that objects may have
         for zone in range(self.shape.zones):
             self.cut_zone(zone)
         self.random.shuffle(self.parts)
@@ -57,7 +57,7 @@ class Fragmenter:
 
     def cut_zone(self, zone: int) -> None:
         """Holes, runs of objects and lost runs in turn by chance; two holes may touch."""
-        runs = []
+        runs: List[Part] = []
         for length, owner in self.volume.runs[zone]:
             while owner is None and length:
                 bits = self.part_bits(length)
@@ -104,7 +104,7 @@ class Fragmenter:
         if self.random.random() < 0.6 or room <= shape.share:
             length = self.random.randint(max(1, room - shape.sector + 1), room)
             return [File(next(names), self.content(length), made * 256, **self.fields())]
-        found = []
+        found: List[File] = []
         while at < room and low < 256 and len(found) < most:
             length = self.random.randint(1, min(room - at, 3 * shape.share))
             found.append(File(next(names), self.content(length), made * 256 + low, **self.fields()))
@@ -112,7 +112,7 @@ class Fragmenter:
             at, low = at + units * shape.share, low + units
         return found
 
-    def directory(self, holder: Directory, name: bytes) -> Directory:
+    def directory(self, holder: Directory, name: bytes) -> Optional[Directory]:
         """A directory in enough parts, or None."""
         count, room = 0, 0
         while room < 2048 and count < len(self.parts):

@@ -79,9 +79,9 @@ def floppy(form: str, seed: int = 1) -> AnyVolume:
     holders = [volume.root]
     for at, size in enumerate(sizes):
         if at % 5 == 2 and len(holders) < 7:  # directories lie among the files, as they were made
-            outer, name = FOLDERS[len(holders) - 1]
-            outer = next(one for one in holders if one.name == outer)
-            holders.append(outer.insert(volume.directory(outer, name)))
+            above, made = FOLDERS[len(holders) - 1]
+            outer = next(one for one in holders if one.name == above)
+            holders.append(outer.insert(volume.directory(outer, made)))
             holders[-1].holder = outer
         name = b"%s%02d%d" % (source.choice((b"File", b"!Run", b"Notes", b"Pic")), at, seed)
         source.choice(holders).insert(place_file(volume, name, content(size, seed * 100 + at), source))

@@ -414,7 +414,8 @@ def volume_cases(name: str, volume: Volume) -> Iterator[script_cases.Case]:
 
 def table() -> Tuple[Dict[str, bytearray], List[script_cases.Case]]:
     """All images by name, and all cases."""
-    files, cases = {}, []
+    files: Dict[str, bytearray] = {}
+    cases: List[script_cases.Case] = []
     for name, volume, data in accepted():
         files[name + ".adf"] = data
         cases += volume_cases(name, volume)

@@ -261,11 +261,12 @@ class Edit:
     def __init__(self, state: State, c: Command, needs: Needs, fault: Optional[str], chance: random.Random) -> None:
         self.state, self.c, self.needs, self.fault, self.chance = state, c, needs, fault, chance
         self.image = bytearray(state.data)
-        self.folders, self.root = {}, (state.disc.root.address, None)
-        self.addresses = {}  # of grown directories, by key
+        self.folders: Dict[Key, Folder] = {}
+        self.root: Tuple[int, Optional[int]] = (state.disc.root.address, None)
+        self.addresses: Dict[Key, int] = {}  # of grown directories, by key
         self.space = NewSpace(state, fault, chance) if state.is_new else None
         self.holes = None if state.is_new else needs.old_holes_after()
-        self.blocks = []  # what is written at the end: places with lengths, and bytes
+        self.blocks: List[Tuple[Item, bytes, Key]] = []  # what is written at the end: places with lengths, and bytes
 
     def folder(self, key: Key) -> Folder:
         if key not in self.folders:
