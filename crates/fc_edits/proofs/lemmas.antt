@@ -27,3 +27,13 @@ pub mod GrownCdirLemmas
 pub mod MovingLemmas
 pub mod TransferLemmas
 pub mod CopyingLemmas
+pub mod AroundLemmas
+pub mod GrowingLemmas
+pub mod GrownRootLemmas
+pub mod GrownHolderLemmas
+pub mod GrowingLawLemmas
+pub mod GrownMemberLemmas
+pub mod GrownPlaceLemmas
+pub mod NewSpaceLemmas
+pub mod BesideLemmas
+pub mod GrownAdditionLemmas

@@ -10,6 +10,7 @@ use Rattle.fc_oldmap.specs.OldMap.{OldMapContent}
 use Rattle.fc_newmap.specs.Map.{Map, ZoneRun, is_used}
 use Rattle.fc_newmap.specs.NewMap.{IsNewMap}
 use Rattle.fc_dirs.specs.Directory.{Directory, entries_of}
+use Rattle.fc_dirs.specs.Entries.{first_twin}
 use Rattle.fc_alloc.specs.declared.owner.Owner.{Owner}
 use Rattle.fc_image.specs.Layout.{Layout, dir_form}
 use Rattle.fc_image.specs.Walk.{Listing, Object, is_directory_object, object_size}
@@ -99,6 +100,18 @@ abbrev pub GetsNode : Nodes → ℕ → List Object → Object → Type 0
 GetsNode nodes number [] o = get nodes number ≡ None
 GetsNode nodes number (p ∷ []) o = Replaces nodes number p o
 GetsNode nodes number (p ∷ q ∷ over) o = ⊥
+
+-- The object comes to its directory. What this says of it may need another length, which growth gives it.
+pub record Comes (nodes : Nodes) (layout : Layout) (listings : List Listing) (c : Addition) : Type 0 where
+  pub found : IsPermutation listings (c.l ∷ c.rest)
+  pub had : IsPermutation c.l.children (c.over ++ c.kids)
+  pub holds : IsPermutation c.children (c.o ∷ c.kids)
+  pub stored : map (λ (p : Object). p.entry) c.children ≡ entries_of c.content
+  pub apart : first_twin (entries_of c.content) ≡ None
+  pub path : c.o.path ≡ c.l.object.path ++ c.o.entry.name ∷ []
+  pub dir_is : number_of nodes c.l.object.path ≡ Some c.dir
+  pub node : GetsNode nodes c.number c.over c.o
+  pub alone : ComesAlone layout c.into c.o
 
 pub record IsAddition (nodes : Nodes) (layout : Layout) (listings : List Listing) (c : Addition) : Type 0 where
   pub found : IsPermutation listings (c.l ∷ c.rest)

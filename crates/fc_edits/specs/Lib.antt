@@ -15,3 +15,6 @@ pub mod Moving
 pub mod Transfer
 pub mod Copying
 pub mod GrownCdir
+pub mod Growing
+pub mod GrownPlaces
+pub mod GrownAddition

@@ -5,7 +5,10 @@
 ghost use Rattle.fc_edits.specs.Addition.{AdditionLaw};
 ghost use Rattle.fc_edits.specs.Copying.{CopyingLaw};
 ghost use Rattle.fc_edits.specs.Deletion.{DeletionLaw};
+ghost use Rattle.fc_edits.specs.Growing.{GrowingLaw};
+ghost use Rattle.fc_edits.specs.GrownAddition.{GrownAdditionLaw};
 ghost use Rattle.fc_edits.specs.GrownCdir.{GrownCdirLaw};
+ghost use Rattle.fc_edits.specs.GrownPlaces.{GrownPlacesLaw};
 ghost use Rattle.fc_edits.specs.Moving.{MovingLaw};
 ghost use Rattle.fc_edits.specs.NewNodes.{AfterLaw};
 ghost use Rattle.fc_edits.specs.NewPlaces.{NewPlacesLaw};
@@ -79,4 +82,19 @@ pub fn renaming()
 /// `rename` that copies its file is an edit too, and has its place on new maps.
 pub fn copying()
     ensures { CopyingLaw }
+{}
+
+/// A directory that grows is a part of any edit: the edit with growth is one.
+pub fn growing()
+    ensures { GrowingLaw }
+{}
+
+/// On a new map such an edit has its places, and the parts after it agree.
+pub fn grown_places()
+    ensures { GrownPlacesLaw }
+{}
+
+/// `save`, `create` and `cdir` in a directory that grows are such edits.
+pub fn grown_addition()
+    ensures { GrownAdditionLaw }
 {}

@@ -20,12 +20,13 @@ use Rattle.fc_laws.specs.agree.Agreed.{CanSay}
 use Rattle.fc_laws.proofs.lemmas.nodes.ListLemmas.{in_first}
 use Rattle.fc_laws.proofs.lemmas.agree.BeforeLemmas.{sound as new_sound}
 use Rattle.fc_oldlaws.proofs.lemmas.agree.BeforeLemmas.{sound}
+use Rattle.fc_edits.specs.Growing.{CanSayNew}
 use Rattle.fc_edits.specs.Edit.{Amended, AreEdited, IsAmended, IsEdit, numbers, objects, owners_in, owners_joined, owners_left}
 use Rattle.fc_edits.specs.NewNodes.{AreDistinct, HasNumbers, nodes_after}
 use Rattle.fc_edits.specs.OldPlaces.{with_holes}
 use Rattle.fc_edits.specs.PartsEdit.{NewPartsEdit, OldPartsEdit}
 use Rattle.fc_edits.specs.Places.{CanSayAll}
-use Rattle.fc_edits.specs.Addition.{Addition, ComesAlone, GetsNode, IsAddition, ListsEmpty, NewAddition, OldAddition, amended, edit, holes_with_it, leaves, owners_before}
+use Rattle.fc_edits.specs.Addition.{Addition, Comes, ComesAlone, GetsNode, IsAddition, ListsEmpty, NewAddition, OldAddition, amended, edit, holes_with_it, leaves, owners_before}
 use Rattle.fc_edits.specs.Placing.{takings_of}
 use Rattle.fc_edits.proofs.lemmas.AddedPlaceLemmas.{added_places, freed, old_added_places}
 use Rattle.fc_edits.proofs.lemmas.AfterLemmas.{after_law}
@@ -89,9 +90,9 @@ file_own layout n [] o alone file k at = no_element k at
 file_own layout n (d ∷ []) o alone file k at = let two : true ≡ false = sym alone.directory ∙ file in cc
 file_own layout n (d ∷ e ∷ into) o alone file k at = absurd alone
 
-module _ (nodes : Nodes) (layout : Layout) (listings : List Listing) (c : Addition) (h : IsHeld nodes layout listings) (d : IsAddition nodes layout listings c) where
-  pub l_in : Contains listings c.l
-  l_in = in_first listings (c.l ∷ c.rest) d.found c.l (contains_here c.l c.rest)
+module _ (nodes : Nodes) (layout : Layout) (listings : List Listing) (c : Addition) (h : IsHeld nodes layout listings) (d : Comes nodes layout listings c) where
+  pub comes_in : Contains listings c.l
+  comes_in = in_first listings (c.l ∷ c.rest) d.found c.l (contains_here c.l c.rest)
 
   is_amended : IsAmended nodes (edit c) (amended c)
   is_amended = record {
@@ -99,7 +100,7 @@ module _ (nodes : Nodes) (layout : Layout) (listings : List Listing) (c : Additi
     held = subst (λ (os : List Object). IsPermutation c.l.children (os ++ c.kids)) (sym (objects_over c.number c.over)) d.had;
     holds = subst (λ (os : List Object). IsPermutation c.children (c.o ∷ os)) (sym (map_same c.kids)) d.holds;
     stored = d.stored;
-    apart = apart_names c.content d.can.body;
+    apart = d.apart;
     left = λ p at. (let q = from_map (λ (o : Object). (c.number, o)) c.over p at in
         subst (λ (x : ℕ × Object). number_of nodes x.1.path ≡ Some x.0) q.2 (replaced_number nodes c.number c.over c.o d.node q.0 q.1));
     paths = of_one (λ (p : ℕ × Object). p.1.path ≡ c.l.object.path ++ p.1.entry.name ∷ []) (c.number, c.o) d.path;
@@ -109,8 +110,8 @@ module _ (nodes : Nodes) (layout : Layout) (listings : List Listing) (c : Additi
       map_same [] = refl
       map_same (p ∷ os) = ap (λ (xs : List Object). p ∷ xs) (map_same os)
 
-  pub is_edit : IsEdit nodes listings (edit c)
-  is_edit = record {
+  pub comes_edit : IsEdit nodes listings (edit c)
+  comes_edit = record {
     found = d.found;
     amends = of_one (IsAmended nodes (edit c)) (amended c) is_amended;
     out_gone = none_listed nodes c.number c.over c.o d.node;
@@ -128,8 +129,8 @@ module _ (nodes : Nodes) (layout : Layout) (listings : List Listing) (c : Additi
     paths = λ k o n at kid is stays. child_path layout listings h.sound k o at kid;
   }
 
-  has_numbers : c.over ≡ [] → HasNumbers nodes (edit c)
-  has_numbers none = record {
+  pub comes_numbers : c.over ≡ [] → HasNumbers nodes (edit c)
+  comes_numbers none = record {
     once = ((λ at. no_element c.number at), tt);
     gone_once = subst (λ (os : List Object). AreDistinct (numbers (map (λ (p : Object). (c.number, p)) os))) (sym none) tt;
     into_once = few_own layout c.number c.into c.o d.alone;
@@ -142,18 +143,50 @@ module _ (nodes : Nodes) (layout : Layout) (listings : List Listing) (c : Additi
       never : (n : ℕ) → Contains (numbers (leaves c)) n → ⊥
       never n gone = no_element n (subst (λ (os : List Object). Contains (numbers (map (λ (p : Object). (c.number, p)) os)) n) none gone)
 
+-- ---- what the directory says can be said
+
+pub comes : (nodes : Nodes) (layout : Layout) (listings : List Listing) (c : Addition) → IsAddition nodes layout listings c → Comes nodes layout listings c
+comes nodes layout listings c d = record {
+  found = d.found;
+  had = d.had;
+  holds = d.holds;
+  stored = d.stored;
+  apart = apart_names c.content d.can.body;
+  path = d.path;
+  dir_is = d.dir_is;
+  node = d.node;
+  alone = d.alone;
+}
+
+module _ (nodes : Nodes) (layout : Layout) (listings : List Listing) (c : Addition) (h : IsHeld nodes layout listings) (d : IsAddition nodes layout listings c) where
+  pub l_in : Contains listings c.l
+  l_in = comes_in nodes layout listings c h (comes nodes layout listings c d)
+
+  pub is_edit : IsEdit nodes listings (edit c)
+  is_edit = comes_edit nodes layout listings c h (comes nodes layout listings c d)
+
   pub are_edited : c.over ≡ [] → AreEdited nodes (nodes_after (edit c) nodes) (edit c)
-  are_edited none = after_law nodes layout listings (edit c) h is_edit (has_numbers none)
+  are_edited none = after_law nodes layout listings (edit c) h is_edit (comes_numbers nodes layout listings c h (comes nodes layout listings c d) none)
 
 -- ---- the law
 
-pub can_say : (nodes : Nodes) (layout : Layout) (listings : List Listing) (c : Addition) → IsAddition nodes layout listings c → CanSayAll layout listings (edit c)
-can_say nodes layout listings c d = record {
-  few = one_own layout c.number c.into c.o d.alone;
-  amended = of_one (λ (b : Amended). CanSay layout b.was.object b.content) (amended c) d.can;
-  into = of_own layout c.number c.into c.o d.alone (λ x. CanSay layout x.1.object x.1.content) (λ k own. subst (λ (p : Object). CanSay layout p k.content) (sym own.object) own.can);
-  into_none = of_own layout c.number c.into c.o d.alone (λ x. entries_of x.1.content ≡ []) (λ k own. own.says_none);
+pub can_new : (layout : Layout) (c : Addition) → ComesAlone layout c.into c.o → CanSayNew layout (edit c)
+can_new layout c alone = record {
+  few = one_own layout c.number c.into c.o alone;
+  into = of_own layout c.number c.into c.o alone (λ x. CanSay layout x.1.object x.1.content) (λ k own. subst (λ (p : Object). CanSay layout p k.content) (sym own.object) own.can);
+  into_none = of_own layout c.number c.into c.o alone (λ x. entries_of x.1.content ≡ []) (λ k own. own.says_none);
   same = λ k at. refl;
+}
+
+pub can_say : (nodes : Nodes) (layout : Layout) (listings : List Listing) (c : Addition) → IsAddition nodes layout listings c → CanSayAll layout listings (edit c)
+can_say nodes layout listings c d =
+    let new = can_new layout c d.alone in
+    record {
+  few = new.few;
+  amended = of_one (λ (b : Amended). CanSay layout b.was.object b.content) (amended c) d.can;
+  into = new.into;
+  into_none = new.into_none;
+  same = new.same;
   root = λ o at path t. absurd (let none = t.leaves in cc);
 }
 
