@@ -29,3 +29,8 @@ pub mod MovingLemmas
 pub mod CopiedMayLemmas
 pub mod CopiedPathLemmas
 pub mod CopiedLemmas
+pub mod GrownSpaceLemmas
+pub mod GrownSteadyLemmas
+pub mod GrownAddedLemmas
+pub mod GrownMayLemmas
+pub mod GrownFiledLemmas

@@ -9,3 +9,4 @@ pub mod Addition
 pub mod Rewording
 pub mod Moving
 pub mod Copying
+pub mod GrownAddition

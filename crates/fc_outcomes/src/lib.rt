@@ -5,6 +5,7 @@ ghost use Rattle.fc_outcomes.specs.Addition.{AdditionLaw};
 ghost use Rattle.fc_outcomes.specs.Copying.{CopyingLaw};
 ghost use Rattle.fc_outcomes.specs.Deletion.{DeletionLaw};
 ghost use Rattle.fc_outcomes.specs.Done.{DoneLaw, KeptLaw};
+ghost use Rattle.fc_outcomes.specs.GrownAddition.{GrownAdditionLaw};
 ghost use Rattle.fc_outcomes.specs.Moving.{MovingLaw};
 ghost use Rattle.fc_outcomes.specs.NewImage.{NewImageLaw};
 ghost use Rattle.fc_outcomes.specs.OldImage.{OldImageLaw};
@@ -82,4 +83,9 @@ pub fn moving()
 /// `rename` that copies its file does what it promises if no directory grows, on new maps.
 pub fn copying()
     ensures { CopyingLaw }
+{}
+
+/// `save`, `create` and `cdir` do what they promise in a directory that grows, the root too, on new maps.
+pub fn grown_addition()
+    ensures { GrownAdditionLaw }
 {}

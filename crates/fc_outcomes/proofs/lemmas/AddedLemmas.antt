@@ -68,7 +68,7 @@ taken_is id (p ∷ parts) k h = by (id == k) refl h
     by true e g = sym (eqb-true id k e)
     by false e g = absurd (cc)
 
-none_taken : (id : ℕ) (parts : List ZoneRun) (k : ℕ) → parts ≡ [] → is_taken (takings_of id parts) k ≡ true → ⊥
+pub none_taken : (id : ℕ) (parts : List ZoneRun) (k : ℕ) → parts ≡ [] → is_taken (takings_of id parts) k ≡ true → ⊥
 none_taken id parts k none taken = let h : is_taken (takings_of id []) k ≡ true = subst (λ (ps : List ZoneRun). is_taken (takings_of id ps) k ≡ true) none taken in cc
 
 -- ---- on a new map
@@ -104,10 +104,9 @@ module _ (x : NewAddition) (c : Command) (path : Path) (bytes stored image image
     new_kind = w.new_kind;
     opens = w.opens;
     places = added_places x;
-    after = w.after;
     out = w.out;
     puts_of = joined.puts_of x.nodes x.nodes' (Layout.New x.m) (Layout.New x.m') x.listings x.c h x.addition x.nodes_edited c path bytes stored image image' w.joins form;
-    root_stays = λ p at none. record { leaves = refl; joins = refl; keeps = record { entry = refl; sectors = refl } };
+    root = inl (record { after = w.after; stays = λ p at none. record { leaves = refl; joins = refl; keeps = record { entry = refl; sectors = refl } } });
   }
 
   abbrev v : Opened

@@ -208,10 +208,9 @@ module _ (x : NewCopying) (from to : Path) (k_bytes l_bytes stored image image' 
     new_kind = w.new_kind;
     opens = w.opens;
     places = memory.new_places x;
-    after = w.after;
     out = w.out;
     puts_of = puts_of;
-    root_stays = λ p at none. ⊎_elim (λ t. t) (λ t. absurd (let gone = t.leaves in cc)) (parts.is_edit.top p at none);
+    root = inl (record { after = w.after; stays = λ p at none. ⊎_elim (λ t. t) (λ t. absurd (let gone = t.leaves in cc)) (parts.is_edit.top p at none) });
   }
 
   -- ---- the tree

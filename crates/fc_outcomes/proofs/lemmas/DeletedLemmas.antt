@@ -166,10 +166,9 @@ module _ (x : NewDeletion) (path : Path) (bytes image image' : List ℕ) (w : Ne
     new_kind = w.new_kind;
     opens = w.opens;
     places = memory.new_places x.kind x.m x.m' x.nodes x.listings x.c x.gone x.is_map x.geometry x.space x.gives;
-    after = w.after;
     out = w.out;
     puts_of = puts_of x.nodes x.nodes' (Layout.New x.m) (Layout.New x.m') x.listings x.c h_new x.deletion x.nodes_edited path bytes image image' w.leaves form_new;
-    root_stays = λ o at none. record { leaves = refl; joins = refl; keeps = record { entry = refl; sectors = refl } };
+    root = inl (record { after = w.after; stays = λ o at none. record { leaves = refl; joins = refl; keeps = record { entry = refl; sectors = refl } } });
   }
 
   new_asked : new.IsAskedOf on_new (Command.Delete path)

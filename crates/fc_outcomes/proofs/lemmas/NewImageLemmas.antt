@@ -1,5 +1,5 @@
 -- What a command has done on an image with a new map.
-use Rattle.std.proofs.Common.{◌≡◌, ◌++◌, List, map, sym, subst}
+use Rattle.std.proofs.Common.{◌≡◌, ◌⊎◌, inl, inr, ◌++◌, List, map, sym, subst}
 use Rattle.fc_names.specs.Names.{Path}
 use Rattle.fc_record.specs.declared.Geometry.{Geometry}
 use Rattle.fc_newmap.specs.Map.{Map}
@@ -16,12 +16,12 @@ use Rattle.fc_edits.specs.Edit.{objects}
 use Rattle.fc_edits.specs.PartsEdit.{PartsEdit}
 use Rattle.fc_edits.proofs.lemmas.NewAgreeLemmas as na
 use Rattle.fc_outcomes.specs.Done.{IsDone}
-use Rattle.fc_outcomes.specs.NewImage.{IsAskedOf, NewImageEdit, NewImageLaw, Outcome, is_now, was}
+use Rattle.fc_outcomes.specs.NewImage.{IsAskedOf, NewImageEdit, NewImageLaw, Outcome, RootLeft, is_now, was}
 use Rattle.fc_outcomes.specs.Written.{IsEditWritten, IsNewMapWritten, KeepsPaths, MovesPaths}
 use Rattle.fc_outcomes.proofs.lemmas.NewDoneLemmas.{done_new, done_new_moved}
-use Rattle.fc_outcomes.proofs.lemmas.NewOutsideLemmas.{behind, outside, sectors, ww}
+use Rattle.fc_outcomes.proofs.lemmas.NewOutsideLemmas.{behind, copies_now, outside, sectors, ww}
 use Rattle.fc_outcomes.proofs.lemmas.NewSpaceLemmas.{map_steady}
-use Rattle.fc_outcomes.proofs.lemmas.PlainLemmas.{map_written}
+use Rattle.fc_outcomes.proofs.lemmas.PlainLemmas.{map_rooted, map_written}
 use Rattle.fc_outcomes.proofs.lemmas.PutLemmas.{edit_written}
 use Rattle.fc_outcomes.proofs.lemmas.SteadyLemmas.{directories_steady}
 
@@ -39,7 +39,11 @@ module _ (x : NewImageEdit) where
   written = edit_written mem x.puts x.image x.image' x.out x.puts_of (λ i. (x.places.geometry i).sector)
 
   map_now : IsNewMapWritten x.parts.kind x.r x.image x.image' m m' x.parts.listings x.parts.edit
-  map_now = map_written x.parts x.r x.image x.image' x.new_kind x.opens x.after x.out.length_stays (sectors x) (ww x) x.root_stays
+  map_now = by x.root
+    where
+      by : RootLeft x.parts x.r x.image' → IsNewMapWritten x.parts.kind x.r x.image x.image' m m' x.parts.listings x.parts.edit
+      by (inl s) = map_written x.parts x.r x.image x.image' x.new_kind x.opens x.out.length_stays (sectors x) (ww x) s.after s.stays
+      by (inr t) = map_rooted x.parts x.r x.image x.image' x.new_kind x.opens x.out.length_stays (sectors x) (ww x) t
 
   outcome : (c : Command) (d : IsDone x.parts.kind x.image' (Layout.New m') x.parts.nodes' x.parts.owners' x.parts.edit) → IsAskedOf x c
       → tree_of x.image' (Layout.New m') d.found ≡ changed (tree_of x.image (Layout.New m) x.parts.listings) c
@@ -49,7 +53,7 @@ module _ (x : NewImageEdit) where
       let q = asked d.found sound d.order in (
         is_now x d.found,
         record {
-          opens = record { opens = d.opens; copies = subst (λ (g : Geometry). HoldsCopies g m'.zones x.image') (sym x.after.geometry) x.after.copies };
+          opens = record { opens = d.opens; copies = subst (λ (g : Geometry). HoldsCopies g m'.zones x.image') (sym x.places.geometry) (copies_now x) };
           tree = tree;
           placed = q.placed;
           steady = record {
@@ -83,7 +87,7 @@ module _ (x : NewImageEdit) where
 pub new_image_law : NewImageLaw
 new_image_law = record {
   space = λ x c found order sound asked. map_steady x c found order sound asked;
-  outside = λ x c found below. outside x c found below;
+  outside = λ x c found asked. outside x c found asked;
   behind = λ x. behind x;
   changes = λ x c changing keeps asked tree. changes_by x c changing keeps asked tree;
   moves = λ x c from to moves asked tree. moves_by x c from to moves asked tree;

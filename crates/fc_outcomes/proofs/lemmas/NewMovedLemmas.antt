@@ -1,5 +1,5 @@
 -- `rename` without a copied file on images with new maps, by the laws of outcomes.
-use Rattle.std.proofs.Common.{◌≡◌, ⊎_elim, ℕ, false, cond, List, [], sym, ap, subst, ◌∙◌, arith, Option, None}
+use Rattle.std.proofs.Common.{◌≡◌, inl, ⊎_elim, ℕ, false, cond, List, [], sym, ap, subst, ◌∙◌, arith, Option, None}
 use Rattle.std.specs.Prelude.{Contains, nat_lt}
 use Rattle.fc_names.specs.Names.{Path}
 use Rattle.fc_newmap.specs.Map.{hole_runs, id_runs}
@@ -68,10 +68,9 @@ module _ (x : NewMoving) (from to : Path) (puts : List Put) (image image' : List
     new_kind = w.new_kind;
     opens = w.opens;
     places = still_new x.listings (edit x.c) x.c.number x.c.o (moved x.c x.c.o) (memory.is_still x.nodes y x.listings x.c (memory.new_held x) x.is_moving) x.kind x.m x.nodes x.owners x.root x.agreed;
-    after = w.after;
     out = w.out;
     puts_of = any.puts_of (new_view x) x.nodes x.nodes' x.c (memory.new_held x) x.is_moving x.nodes_edited from to w.has_moved.its image image' puts w.has_moved unwritten_new;
-    root_stays = λ o at none. ⊎_elim (λ t. t) (λ t. absurd (let gone = t.leaves in cc)) (parts.is_edit.top o at none);
+    root = inl (record { after = w.after; stays = λ o at none. ⊎_elim (λ t. t) (λ t. absurd (let gone = t.leaves in cc)) (parts.is_edit.top o at none) });
   }
 
   new_asked : new.IsAskedOf on_new command

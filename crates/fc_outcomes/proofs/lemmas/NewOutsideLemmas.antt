@@ -1,5 +1,5 @@
 -- What an edit on a new map leaves outside its objects and the map's runs.
-use Rattle.std.proofs.Common.{◌≡◌, ◌≤◌, inl, inr, ⊎_elim, ℕ, Bool, true, false, List, drop, refl, sym, ap, subst, ◌∙◌, arith, eq-eqb, cond}
+use Rattle.std.proofs.Common.{◌≡◌, ◌<◌, ◌≤◌, inl, inr, ⊎_elim, ℕ, Bool, true, false, List, drop, refl, sym, ap, subst, ◌∙◌, arith, eq-eqb, cond}
 use Rattle.std.specs.Prelude.{Contains, nat_le, Option, Some, None, length, [], ◌==◌, ◌&&◌}
 use Rattle.std.specs.Option.{option_map_or}
 use Rattle.std.proofs.lemmas.Bool.{leb-true, eqb-true}
@@ -16,7 +16,7 @@ use Rattle.fc_image.specs.Walk.{Listing, Object}
 use Rattle.fc_image.specs.Objects.{is_owned, object_at, objects_of}
 use Rattle.fc_image.specs.Opening.{Opened, is_hole_or_movable, reserved_in, boot_place}
 use Rattle.fc_image.specs.effects.Short.{Growth, growth_in}
-use Rattle.fc_image.specs.effects.Steady.{MapOutside, expected_zone, idle_sectors, is_idle, zone0_after, ZoneSteady}
+use Rattle.fc_image.specs.effects.Steady.{KeepsOrWritesLinks, MapOutside, expected_zone, idle_sectors, is_idle, zone0_after, ZoneSteady}
 use Rattle.fc_newmap.specs.Map.{sector_of, with_root}
 use Rattle.fc_changes.specs.Owed.{IsWritten}
 use Rattle.fc_changes.proofs.AfterLemmas.{behind_stays}
@@ -34,12 +34,13 @@ use Rattle.fc_edits.proofs.lemmas.NewAgreeLemmas as na
 use Rattle.fc_edits.proofs.lemmas.NewPlaceLemmas as np_
 use Rattle.fc_outcomes.specs.Puts.{put_sectors}
 use Rattle.fc_outcomes.specs.Written.{WritesForEdit}
-use Rattle.fc_outcomes.specs.NewImage.{IsBelowRoot, NewImageEdit, is_now, was}
+use Rattle.fc_copies.specs.Copies.{HoldsCopies}
+use Rattle.fc_outcomes.specs.NewImage.{IsBelowRoot, IsRootAsked, NewImageEdit, RootLeft, is_now, was}
 use Rattle.fc_outcomes.proofs.lemmas.KeptLemmas.{whose_now, written_free}
 use Rattle.fc_outcomes.proofs.lemmas.PutLemmas.{written_for}
 
 -- a hole, and a run of a movable identifier, isn't idle
-loose_busy : (objects : List Object) (k : RunKind) → is_hole_or_movable objects k ≡ true → is_idle objects k ≡ false
+pub loose_busy : (objects : List Object) (k : RunKind) → is_hole_or_movable objects k ≡ true → is_idle objects k ≡ false
 loose_busy objects kinds.Hole h = refl
 loose_busy objects (kinds.Id k) h =
     let own = first (is_owned objects k) (nat_le 3 k) h in
@@ -115,6 +116,14 @@ module _ (x : NewImageEdit) where
   pub free : is_apart sectors (reserved_in kind (Layout.New m)) ≡ true
   free = written_free mem x.image x.image' sectors ww (na.reserved_same x.parts)
 
+  -- the map's copies
+  pub copies_now : HoldsCopies m.geometry m'.zones x.image'
+  copies_now = by x.root
+    where
+      by : RootLeft x.parts x.r x.image' → HoldsCopies m.geometry m'.zones x.image'
+      by (inl s) = s.after.copies
+      by (inr t) = t.after.copies
+
   zone_same : (c : Command) (found : List Listing) (z : ℕ) → IsBelowRoot (growth_in (was x) c) → expected_zone (was x) (is_now x found) c m z ≡ sector_of m z
   zone_same c found z below = by (z == 0) refl
     where
@@ -125,13 +134,23 @@ module _ (x : NewImageEdit) where
       by true e = stays ∙ ap (λ (k : ℕ). sector_of m k) (sym (eqb-true z 0 e))
       by false e = refl
 
-  pub outside : (c : Command) (found : List Listing) → IsBelowRoot (growth_in (was x) c) → MapOutside x.image x.image' kind (expected_zone (was x) (is_now x found) c m) (idle_sectors (was x) m) m m'
-  outside c found below =
+  zones_now : (c : Command) (found : List Listing) (root : RootLeft x.parts x.r x.image') → IsRootAsked x c found root → (z : ℕ) → z < m.geometry.zones
+      → ZoneSteady m.geometry z (expected_zone (was x) (is_now x found) c m z) (sector_of m' z)
+  zones_now c found (inl s) below z low = subst (λ (sector : List ℕ). ZoneSteady m.geometry z sector (sector_of m' z)) (sym (zone_same c found z below)) (s.after.zones z low)
+  zones_now c found (inr t) same z low =
+      subst (λ (sector : List ℕ). ZoneSteady m.geometry z (cond (z == 0) sector (sector_of m z)) (sector_of m' z)) (sym same) (t.after.zones z low)
+
+  links_now : (root : RootLeft x.parts x.r x.image') → (z : ℕ) → z < m.geometry.zones → KeepsOrWritesLinks m m' z
+  links_now (inl s) = s.after.links
+  links_now (inr t) = t.after.links
+
+  pub outside : (c : Command) (found : List Listing) → IsRootAsked x c found x.root → MapOutside x.image x.image' kind (expected_zone (was x) (is_now x found) c m) (idle_sectors (was x) m) m m'
+  outside c found asked =
       let o = parts kind x.r x.image m listings x.new_kind x.opens in
       record {
-        geometry = x.after.geometry;
-        zones = λ z low. subst (λ (sector : List ℕ). ZoneSteady m.geometry z sector (sector_of m' z)) (sym (zone_same c found z below)) (x.after.zones z low);
-        links = x.after.links;
+        geometry = x.places.geometry;
+        zones = zones_now c found x.root asked;
+        links = links_now x.root;
         boot = same_sectors m.geometry.sector x.image x.image' (boot_place kind m.geometry.sector)
             (boot_stays kind x.r x.image m listings x.new_kind x.opens sectors x.image' free ww.writes);
         kept_stay = idle_stay m (objects_of listings) o.some o.shape o.zones x.image x.image' sectors busy ww.writes;

@@ -18,11 +18,12 @@ use Rattle.fc_edits.specs.PartsEdit.{NewPartsEdit, PartsEdit}
 use Rattle.fc_edits.specs.Places.{Stays}
 use Rattle.fc_edits.proofs.lemmas.AgreeLemmas as ag
 use Rattle.fc_edits.proofs.lemmas.NewAgreeLemmas as na
+use Rattle.fc_outcomes.specs.NewImage.{RootTurns}
 use Rattle.fc_outcomes.specs.Written.{IsNewMapWritten, WritesForEdit}
 use Rattle.fc_outcomes.proofs.lemmas.KeptLemmas.{written_free}
 
 module _ (we : NewPartsEdit) (r : DiscRecord) (image image' : List ℕ) (new : IsNewKind we.kind r)
-    (opens : OpensAs image we.kind (record { kind = we.kind; layout = Layout.New we.m; listings = we.listings })) (after : IsMapAfter we.m we.m' image') (long : length image' ≡ length image)
+    (opens : OpensAs image we.kind (record { kind = we.kind; layout = Layout.New we.m; listings = we.listings })) (long : length image' ≡ length image)
     (written : List ℕ) (ww : WritesForEdit image image' (Layout.New we.m) we.edit written) where
   abbrev mem : PartsEdit
   mem = na.held_edit we
@@ -37,8 +38,8 @@ module _ (we : NewPartsEdit) (r : DiscRecord) (image image' : List ℕ) (new : I
   listings = we.listings
 
   -- the map of a root that stays
-  pub map_written : ((o : Object) → Contains (objects_of listings) o → o.path ≡ [] → TopStays we.edit o) → IsNewMapWritten kind r image image' m we.m' listings we.edit
-  map_written stays =
+  pub map_written : IsMapAfter we.m we.m' image' → ((o : Object) → Contains (objects_of listings) o → o.path ≡ [] → TopStays we.edit o) → IsNewMapWritten kind r image image' m we.m' listings we.edit
+  map_written after stays =
       let free = written_free mem image image' written ww (na.reserved_same we) in
       let boot = b_.boot_stays kind r image m listings new opens written image' free ww.writes in
       let had = b_.had kind r image m listings new opens in
@@ -57,4 +58,16 @@ module _ (we : NewPartsEdit) (r : DiscRecord) (image image' : List ℕ) (new : I
         root_now = λ o at path.
             (let same = top_object (Layout.New m) listings we.nodes h.sound h.held o at path ∙ sym one in
             (stays o at path).keeps.entry ∙ ap (λ (y : Object). y.entry) same ∙ now.entry);
+      }
+
+  -- and of one that has another place
+  pub map_rooted : RootTurns we r image' → IsNewMapWritten kind r image image' m we.m' listings we.edit
+  map_rooted t =
+      let free = written_free mem image image' written ww (na.reserved_same we) in
+      record {
+        own = t.own;
+        agreed = t.agreed;
+        chosen_map = b_.chosen_copies m.geometry we.m'.zones image' t.after.copies;
+        boot_stays = b_.boot_stays kind r image m listings new opens written image' free ww.writes;
+        root_now = t.turned;
       }

@@ -255,10 +255,9 @@ module _ (x : NewRewording) (command : Command) (path : Path) (bytes image image
     new_kind = w.new_kind;
     opens = w.opens;
     places = still_new x.listings (edit x.c) x.c.number x.c.o (x.c.turn x.c.o) (memory.is_still x.nodes y x.listings x.c h_new x.reworded) x.kind x.m x.nodes x.owners x.root x.agreed;
-    after = w.after;
     out = w.out;
     puts_of = puts_of x.nodes x.nodes' y y x.listings x.c h_new x.reworded x.nodes_edited command path bytes image image' w.reworded refl refl new_unwritten;
-    root_stays = λ o at none. ⊎_elim (λ t. t) (λ t. absurd (let gone = t.leaves in cc)) (parts.is_edit.top o at none);
+    root = inl (record { after = w.after; stays = λ o at none. ⊎_elim (λ t. t) (λ t. absurd (let gone = t.leaves in cc)) (parts.is_edit.top o at none) });
   }
 
   new_asked : new.IsAskedOf on_new command

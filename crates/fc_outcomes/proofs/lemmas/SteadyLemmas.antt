@@ -104,13 +104,13 @@ module _ (ne : NodesEdit) (layout' : Layout) (found : List Listing)
   abbrev is : IsEdit ne.nodes listings e
   is = ne.is_edit
 
-  stay_found : (d : Listing) → Contains (n_.stay ne) d → (l : Listing) × Contains found l × (l.object ≡ e.turn d.object)
+  pub stay_found : (d : Listing) → Contains (n_.stay ne) d → (l : Listing) × Contains found l × (l.object ≡ e.turn d.object)
   stay_found d at =
       ⊎_elim
       (λ amended. let a = from_map (λ (b : Amended). b.was) e.amended d amended in (now e a.0, now_in e found order a.0 a.1, ap (λ (x : Listing). e.turn x.object) a.2))
       (λ same. (still e d, still_in e found order d same, refl)) (Contains-append_cases (map (λ (a : Amended). a.was) e.amended) e.same d at)
 
-  out_or_stay : (k d : Listing) → Contains listings d → Contains d.children k.object → Contains (n_.stay ne) d
+  pub out_or_stay : (k d : Listing) → Contains listings d → Contains d.children k.object → Contains (n_.stay ne) d
   out_or_stay k d there kid =
       ⊎_elim (λ goes. absurd (no_element k.object (subst (λ (os : List Object). Contains os k.object) is.out_empty (in_flat (λ (x : Listing). x.children) e.out d k.object goes kid))))
       (λ stays. stays) (Contains-append_cases e.out (n_.stay ne) d (in_other listings (e.out ++ n_.stay ne) is.found d there))
