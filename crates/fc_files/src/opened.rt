@@ -12,10 +12,10 @@ use std::path::Path;
 use std::rt::Files;
 
 // A path has fewer bytes than this: the system refuses others.
-const PATH_LIMIT: usize = 4096;
+pub const PATH_LIMIT: usize = 4096;
 
 // Calls again after an interruption.
-fn uninterrupted<T, F: Fn() -> io::Result<T>>(call: F) -> io::Result<T>
+pub fn uninterrupted<T, F: Fn() -> io::Result<T>>(call: F) -> io::Result<T>
     requires { F.IsAlwaysCallable call }
 {
     for _ in 0..u64::MAX {
@@ -48,11 +48,11 @@ fn if_given(found: io::Result<u64>, make: bool) -> io::Result<Option<u64>>
 }
 
 // Whether both are of the same file, while it is held open.
-fn is_same(one: &Metadata, other: &Metadata) -> bool {
+pub fn is_same(one: &Metadata, other: &Metadata) -> bool {
     one.dev() == other.dev() && one.ino() == other.ino()
 }
 
-fn open_to_read<R: Files>(rt: &R, name: &str) -> io::Result<R::File> {
+pub fn open_to_read<R: Files>(rt: &R, name: &str) -> io::Result<R::File> {
     let mut how = OpenOptions::new();
     how.read(true);
     how.open(rt, name)
