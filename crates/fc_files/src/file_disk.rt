@@ -3,6 +3,8 @@ ghost use Rattle.std.specs.Prelude.{[], ◌≡◌, ◌<◌, ◌^◌, ◌/◌, �
 ghost use Rattle.fc_device.specs.Faults.{HasCause};
 ghost use Rattle.fc_device.specs.Untold.{not_some, not_true};
 ghost use Rattle.fc_device.specs.Image.{is_sector_size};
+ghost use Rattle.std.specs.Option.{option_map};
+ghost use Rattle.fc_files.specs.Named.{WasAsked};
 
 use crate::opened::Edge;
 use fc_device::{Asks, Disk, Extent, Failed};
@@ -31,6 +33,8 @@ where
     ghost positive: { 0 < size },
     ghost fits: { length < 2 ^ 64 },
     ghost few: { faults < 2 ^ 64 },
+    // What is open has a name that was asked for.
+    ghost named: { ∥ WasAsked (option_map (λ o. o.name.bytes) edge.opened) asks.list ∥₁ },
 }
 
 impl<R: Files + Drop> FileDisk<R>
@@ -57,6 +61,7 @@ where
     fn write_from(&mut self, at: u64, from: &[u8]) -> Result<(), Failed>
         ensures pending { self.new.pending ≡ true }
         ensures asks { self.new.asks ≡ self.old.asks }
+        ensures named { option_map (λ o. o.name.bytes) self.new.edge.opened ≡ option_map (λ o. o.name.bytes) self.old.edge.opened }
         ensures attached { self.new.attached ≡ self.old.attached }
         ensures length { self.new.length ≡ self.old.length }
         ensures size { self.new.size ≡ self.old.size }

@@ -1,8 +1,9 @@
 // The one file of a disk, and the calls of the system on it. Nothing is claimed of what they give.
 //
 // std calls again after an interruption in opening, reading, writing, setting a length and syncing. The others do so here.
-ghost use Rattle.std.specs.Prelude.{◌≡◌, Ok, IfOk, IfSome};
-ghost use Rattle.std.specs.Option.{ForSome};
+ghost use Rattle.std.specs.Prelude.{◌≡◌, Ok, None, IfErr, IfOk, IfSome, IsErr, OnErr, OnOk};
+ghost use Rattle.std.specs.Option.{ForSome, option_map};
+ghost use Rattle.fc_files.specs.Named.{IsNamed};
 
 use arrayvec::ArrayString;
 use std::fs::{self, Metadata, OpenFile, OpenOptions};
@@ -38,7 +39,9 @@ fn is_not_given(kind: ErrorKind, make: bool) -> bool {
 
 // None if the name isn't given.
 fn if_given(found: io::Result<u64>, make: bool) -> io::Result<Option<u64>>
-    ensures { IfOk result (λ given. IfSome given (λ length. found ≡ Ok length)) }
+    ensures length { IfOk result (λ given. IfSome given (λ length. found ≡ Ok length)) }
+    ensures not_given { IfOk result (λ given. given ≡ None → IsErr found) }
+    ensures failed { IsErr result → IsErr found }
 {
     match found {
         Ok(length) => Ok(Some(length)),
@@ -123,7 +126,9 @@ fn take_away<R: Files>(rt: &R, opened: &Opened<R::File>) {
 
 // Opens a file that is there, for reading alone. None is opened, and so there is nothing to read, if neither a file nor
 // a folder has the name: a pipe would wait for its other end, and a device may act on it.
-fn open_given<R: Files>(rt: &R, name: &str) -> io::Result<Option<Opened<R::File>>> {
+fn open_given<R: Files>(rt: &R, name: &str) -> io::Result<Option<Opened<R::File>>>
+    ensures { IfOk result (λ found. IfSome found (λ o. o.name.bytes ≡ name.now)) }
+{
     let kept = kept_name(name)?;
     let found = uninterrupted(|| fs::metadata(rt, name))?;
     if !found.is_file() && !found.is_dir() {
@@ -144,7 +149,9 @@ fn open_given<R: Files>(rt: &R, name: &str) -> io::Result<Option<Opened<R::File>
     }))
 }
 
-fn kept_name(name: &str) -> io::Result<ArrayString<PATH_LIMIT>> {
+fn kept_name(name: &str) -> io::Result<ArrayString<PATH_LIMIT>>
+    ensures { IfOk result (λ kept. kept.bytes ≡ name.now) }
+{
     match ArrayString::from(name) {
         Ok(kept) => Ok(kept),
         Err(_) => Err(io::Error::from(ErrorKind::InvalidFilename)),
@@ -152,7 +159,9 @@ fn kept_name(name: &str) -> io::Result<ArrayString<PATH_LIMIT>> {
 }
 
 // Makes a file of so many bytes 0.
-fn make<R: Files>(rt: &R, name: &str, length: u64) -> io::Result<Opened<R::File>> {
+fn make<R: Files>(rt: &R, name: &str, length: u64) -> io::Result<Opened<R::File>>
+    ensures { IfOk result (λ made. made.name.bytes ≡ name.now) }
+{
     let kept = kept_name(name)?;
     let file = open_to_write(rt, name, true)?;
     let made = Opened {
@@ -184,6 +193,23 @@ fn opened_to_write<R: Files>(rt: &R, opened: &Opened<R::File>) -> io::Result<R::
     }
 }
 
+// Puts what was written to a file on the disk, and its name if it was made. After a sync that failed, each later one fails.
+fn sync_opened<R: Files>(rt: &R, opened: &mut Opened<R::File>) -> io::Result<()>
+    ensures { opened.new.name ≡ opened.old.name }
+{
+    if opened.lost {
+        return Err(io::Error::other("an earlier sync failed"));
+    }
+    opened.lost = true;
+    opened.file.sync_all()?;
+    if opened.unfinished {
+        sync_folder(rt, opened.name.as_str())?;
+    }
+    opened.unfinished = false;
+    opened.lost = false;
+    Ok(())
+}
+
 // The file of a disk, if one is open.
 pub struct Edge<R: Files + Drop>
 where
@@ -209,13 +235,18 @@ impl<R: Files + Drop> Edge<R>
 where
     R::File: FileExt,
 {
-    pub fn new(rt: R) -> Edge<R> {
+    pub fn new(rt: R) -> Edge<R>
+        ensures { option_map (λ o. o.name.bytes) result.opened ≡ None }
+    {
         Edge { rt, opened: None }
     }
 
     // The length of the image that was opened or made, and None if the name isn't given.
     pub fn open(&mut self, name: &str, blank: Option<u64>) -> io::Result<Option<u64>>
-        ensures { IfOk result (λ given. IfSome given (λ length. ForSome blank (λ n. length ≡ n))) }
+        ensures length { IfOk result (λ given. IfSome given (λ length. ForSome blank (λ n. length ≡ n))) }
+        ensures name { IfOk result (λ given. IfSome given (λ length. IsNamed (option_map (λ o. o.name.bytes) self.new.opened) name.now)) }
+        ensures none { IfOk result (λ given. given ≡ None → option_map (λ o. o.name.bytes) self.new.opened ≡ option_map (λ o. o.name.bytes) self.old.opened) }
+        ensures failed { IfErr result (λ error. option_map (λ o. o.name.bytes) self.new.opened ≡ option_map (λ o. o.name.bytes) self.old.opened) }
     {
         match blank {
             None => if_given(self.open_given(name), false),
@@ -223,7 +254,10 @@ where
         }
     }
 
-    fn open_given(&mut self, name: &str) -> io::Result<u64> {
+    fn open_given(&mut self, name: &str) -> io::Result<u64>
+        ensures name { OnOk result (IsNamed (option_map (λ o. o.name.bytes) self.new.opened) name.now) }
+        ensures failed { OnErr result (self.new ≡ self.old) }
+    {
         let opened = open_given(&self.rt, name)?;
         let length = opened.as_ref().map_or(0, |file| file.length);
         self.go_over_to(opened);
@@ -231,14 +265,18 @@ where
     }
 
     fn make(&mut self, name: &str, length: u64) -> io::Result<u64>
-        ensures { IfOk result (λ made. made ≡ length) }
+        ensures length { IfOk result (λ made. made ≡ length) }
+        ensures name { OnOk result (IsNamed (option_map (λ o. o.name.bytes) self.new.opened) name.now) }
+        ensures failed { OnErr result (self.new ≡ self.old) }
     {
         let made = make(&self.rt, name, length)?;
         self.go_over_to(Some(made));
         Ok(length)
     }
 
-    fn go_over_to(&mut self, opened: Option<Opened<R::File>>) {
+    fn go_over_to(&mut self, opened: Option<Opened<R::File>>)
+        ensures { self.new.opened ≡ opened }
+    {
         if let Some(last) = &self.opened {
             take_away(&self.rt, last);
         }
@@ -253,7 +291,9 @@ where
     }
 
     // The first write opens the file for writing.
-    pub fn write(&mut self, at: u64, from: &[u8]) -> io::Result<()> {
+    pub fn write(&mut self, at: u64, from: &[u8]) -> io::Result<()>
+        ensures { option_map (λ o. o.name.bytes) self.new.opened ≡ option_map (λ o. o.name.bytes) self.old.opened }
+    {
         let Some(opened) = &mut self.opened else {
             return Err(io::Error::from(ErrorKind::NotFound));
         };
@@ -265,20 +305,12 @@ where
     }
 
     // Puts what was written on the disk, and a name that was made. After a sync that failed, each later one fails.
-    pub fn sync(&mut self) -> io::Result<()> {
-        let Some(opened) = &mut self.opened else {
-            return Ok(());
-        };
-        if opened.lost {
-            return Err(io::Error::other("an earlier sync failed"));
+    pub fn sync(&mut self) -> io::Result<()>
+        ensures { option_map (λ o. o.name.bytes) self.new.opened ≡ option_map (λ o. o.name.bytes) self.old.opened }
+    {
+        match &mut self.opened {
+            None => Ok(()),
+            Some(opened) => sync_opened(&self.rt, opened),
         }
-        opened.lost = true;
-        opened.file.sync_all()?;
-        if opened.unfinished {
-            sync_folder(&self.rt, opened.name.as_str())?;
-        }
-        opened.unfinished = false;
-        opened.lost = false;
-        Ok(())
     }
 }
