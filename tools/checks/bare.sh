@@ -51,7 +51,8 @@ is adl 0 "$(status cmp l-files.adf sides.adf)"
 head -c 512 /dev/zero | cat - f-user.adf > header.adf
 fcdisc strip header.adf plain.adf
 is strip 0 "$(status cmp f-user.adf plain.adf)"
-is version 'fcdisc ' "$(fcdisc --version | cut -c 1-7 | head -n 1)"
+number=$(cat fcore-*/VERSION)
+is version "fcdisc $number, for fcore $number" "$(fcdisc --version)"
 cp f-user.adf mine.adf
 fcdisc cp mine.adf '$.!Boot.!Run' '$.Docs'
 is cp '| boots' "$(fcdisc get mine.adf '$.Docs.!Run' -)"
@@ -61,7 +62,8 @@ is undo 0 "$(cmp f-user.adf mine.adf && echo 0)"
 fcdisc extract f-user.adf user.zip > /dev/null
 is 'a zip archive' 0 "$(status fcdisc diff f-user.adf user.zip)"
 is rescue 'd-twin: 5' "d-twin: $(fcdisc rescue d-twin.adf rescued 2> /dev/null | cut -d ' ' -f 3)"
-is mend 0 "$(status fcdisc mend d-check.adf mended.adf)"
+is mend 0 "$(status fcdisc mend d-word.adf mended.adf)"
+is 'mend by a guess' 1 "$(status fcdisc mend d-check.adf guessed.adf)"
 mkdir discs; cp f-user.adf hello.adf discs
 is find '1 object in 1 image' "$(fcdisc find discs '!Run' | tail -n 1)"
 is catalogue 0 "$(status fcdisc catalogue discs)"
