@@ -182,11 +182,12 @@ def compaction_differences(before: State, after: State) -> List[str]:
 
 def count_events(needs: Needs, after: State, counts: Counter[Tuple[str, str]]) -> None:
     """What the accepted commands came to."""
-    events: Dict[str, object] = {"shares": needs.slack, "is copied": needs.copied, "grows": needs.grown is not None, "root grows": needs.grown == (),
-              "is copied and grows": needs.copied and needs.grown is not None,
-              "grows with room": needs.grown is not None and not needs.growth, "grows alone": needs.growth and needs.alone,
-              "grows into a new identifier": needs.growth and not needs.alone,
-              "takes twice": needs.growth and needs.length and not needs.slack}
+    events: Dict[str, object] = {
+        "shares": needs.slack, "is copied": needs.copied, "grows": needs.grown is not None, "root grows": needs.grown == (),
+        "is copied and grows": needs.copied and needs.grown is not None,
+        "grows with room": needs.grown is not None and not needs.growth, "grows alone": needs.growth and needs.alone,
+        "grows into a new identifier": needs.growth and not needs.alone,
+        "takes twice": needs.growth and needs.length and not needs.slack}
     if needs.length and not needs.slack and after.is_new:
         identifier = after.objects[needs.c.target()].address // 256
         events["takes several runs"] = len(after.runs_of(identifier)) > 1
@@ -309,7 +310,8 @@ def left_differences(image: bytes, end: bytes) -> List[str]:
 
 def after_zones(state: State) -> List[int]:
     """The bits after the last bit of each zone, in the copy of the map that counts."""
-    return [int.from_bytes(sector, "little") >> state.new_map.shape.end(zone) for zone, sector in enumerate(state.new_map.chosen_copy(state.data))]
+    zones = state.new_map.chosen_copy(state.data)
+    return [int.from_bytes(sector, "little") >> state.new_map.shape.end(zone) for zone, sector in enumerate(zones)]
 
 
 def check(actor: Union[Program, Stand], options: argparse.Namespace) -> bool:

@@ -143,7 +143,8 @@ def torn_between(before: bytes, after: bytes, sector: int, chance: random.Random
 
 def planted(state: State, c: Command, needs: Needs, chance: random.Random) -> Dict[str, int]:
     """By what is wrong with them, places at which no command of this kind may write."""
-    found: Dict[str, List[int]] = {"lost space": [at for at in state.idle_sectors() - map_sectors(state)], "another file": [], "another directory": []}
+    idle = [at for at in state.idle_sectors() - map_sectors(state)]
+    found: Dict[str, List[int]] = {"lost space": idle, "another file": [], "another directory": []}
     for key, entry in state.objects.items():
         if not entry.is_directory():
             found["another file"] += entry.sectors

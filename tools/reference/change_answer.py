@@ -189,8 +189,8 @@ class Needs:
     # slack
 
     def may_share(self, owners: List[Union[Key, str]], holder: Key) -> bool:
-        return all(not isinstance(key, str) and key[:-1] == holder and not self.state.is_directory(key) and self.state.objects[key].address % 256
-                   for key in owners)
+        return all(not isinstance(key, str) and key[:-1] == holder and not self.state.is_directory(key)
+                   and self.state.objects[key].address % 256 for key in owners)
 
     def find_slack(self) -> Optional[Tuple[int, int]]:
         """The least identifier, and the least low byte in it, at which the file fits; None if there is none."""
