@@ -30,6 +30,10 @@ FAULTS = {  # and words of the names of the discs over which each is sought firs
 }
 
 
+Place = Tuple[int, int]  # of a run: its zone, and where it starts
+Part = Tuple[int, Optional[int]]  # bits, and identifier; None for a hole
+
+
 class Item:
     """An entry of a directory. `raw`: the bytes of a small entry that stays as it is."""
 
@@ -54,8 +58,9 @@ class Folder:
         self.block = bytearray(state.content(self.entry))
         self.size, self.name, self.parent = len(self.block), self.head.name, None
         self.gained: Optional[bytes] = None  # a name that is new in a big directory
+        self.places: Optional[List[Tuple[int, int]]] = None  # where it is written, if not where it lies
         raws = [bytes(self.block[5 + 26 * at:31 + 26 * at]) for at in range(len(self.entry.entries))] if state.form != "big" else None
-        self.items = [Item(entry, raws and raws[at], self.head.lasts[at]) for at, entry in enumerate(self.entry.entries)]
+        self.items = [Item(entry, raws[at] if raws else None, self.head.lasts[at]) for at, entry in enumerate(self.entry.entries)]
 
     def find(self, folded_name: bytes) -> Item:
         return next(item for item in self.items if folded(item.name) == folded_name)
@@ -99,7 +104,8 @@ class Folder:
             return packed, at
         kept = bytearray(self.head.heap) + (padded(self.gained, name_space(self.gained)) if self.gained else b"")
         places = {entry.name: place for entry, place in zip(self.entry.entries, self.head.places)}
-        places[self.gained] = len(self.head.heap)
+        if self.gained:
+            places[self.gained] = len(self.head.heap)
         space = head_space(self.head.form, self.name)
         if len(kept) % 4 or size_for(space, len(self.items), len(kept)) > self.size or chance.random() < 0.5:
             return packed, at
@@ -168,7 +174,8 @@ class NewSpace:
 
     def __init__(self, state: State, fault: Optional[str], chance: random.Random) -> None:
         self.state, self.shape, self.fault, self.chance = state, state.new_map.shape, fault, chance
-        self.runs = {tuple(run[:2]): [run[2], run[3]] for run in state.new_map.runs}  # zone and start: bits and identifier
+        # by zone and start: bits and identifier
+        self.runs: Dict[Place, Part] = {(zone, start): (bits, owner) for zone, start, bits, owner in state.new_map.runs}
         self.free = state.free_identifiers()
 
     def fronts(self, bits: int) -> List[Tuple[Tuple[int, int], int]]:
@@ -191,7 +198,7 @@ class NewSpace:
                 return parts
         raise AssertionError("no space")
 
-    def take(self, bits: int, identifier: Optional[int] = None) -> Tuple[int, int, Set[Tuple[int, int]]]:
+    def take(self, bits: int, identifier: Optional[int] = None) -> Tuple[int, int, Set[Place]]:
         """Space for an identifier, a new one if none is given; a grown directory's own one may be given."""
         identifier = identifier or self.chance.choice(self.free)
         if identifier in self.free:
@@ -199,21 +206,21 @@ class NewSpace:
         parts = self.fronts(bits)
         for (zone, start), length in parts:
             rest = self.runs[zone, start][0] - length
-            self.runs[zone, start] = [length, identifier]
+            self.runs[zone, start] = length, identifier
             if rest:
-                self.runs[zone, start + length] = [rest, None]
+                self.runs[zone, start + length] = rest, None
         return identifier, sum(length for place, length in parts), {place for place, length in parts}
 
-    def extents(self, identifier: int, only: Optional[Set[Tuple[int, int]]] = None) -> List[Tuple[int, int]]:
+    def extents(self, identifier: int, only: Optional[Set[Place]] = None) -> List[Tuple[int, int]]:
         """The places of an identifier's bytes and their lengths, in order."""
         home, bit = self.shape.home(identifier), self.shape.bit_bytes
         found = sorted(((zone - home) % self.shape.zones, start, length) for (zone, start), (length, owner) in self.runs.items()
                        if owner == identifier and (only is None or (zone, start) in only))
         return [(start * bit, length * bit) for turn, start, length in found]
 
-    def release(self, places: Set[Tuple[int, int]]) -> None:
+    def release(self, places: Set[Place]) -> None:
         for place in sorted(places):
-            self.runs[place][1] = None
+            self.runs[place] = self.runs[place][0], None
             if self.fault != "hole not joined":
                 self.join(place)
 
@@ -221,11 +228,11 @@ class NewSpace:
         zone, start = place
         after = (zone, start + self.runs[place][0])
         if after in self.runs and self.runs[after][1] is None:
-            self.runs[place][0] += self.runs.pop(after)[0]
+            self.runs[place] = self.runs[place][0] + self.runs.pop(after)[0], None
         holes = [(one, length) for one, (length, owner) in self.runs.items() if one[0] == zone and owner is None]
         before = next((one for one, length in holes if one[1] + length == start), None)
         if before:
-            self.runs[before][0] += self.runs.pop(place)[0]
+            self.runs[before] = self.runs[before][0] + self.runs.pop(place)[0], None
 
     def join_all(self) -> None:
         for place in sorted(self.runs):
@@ -268,6 +275,10 @@ class Edit:
         self.holes = None if state.is_new else needs.old_holes_after()
         self.blocks: List[Tuple[Item, bytes, Key]] = []  # what is written at the end: places with lengths, and bytes
 
+    def new_space(self) -> NewSpace:
+        assert self.space
+        return self.space
+
     def folder(self, key: Key) -> Folder:
         if key not in self.folders:
             self.folders[key] = Folder(self.state, key)
@@ -290,7 +301,7 @@ class Edit:
 
     # space
 
-    def gone(self) -> Set[Tuple[int, int]]:
+    def gone(self) -> Set[Place]:
         """The places of the runs that go, if an identifier loses its last owner."""
         c, state = self.c, self.state
         entry = state.objects.get(c.key()) if c.word in ("delete", "save", "create") else None
@@ -315,9 +326,9 @@ class Edit:
             if not self.is_left_unwritten():
                 self.write([(sector * state.sector, state.sector) for sector in sectors], content)
             return identifier * 256 + low
-        identifier, bits, places = self.space.take(state.new_map.shape.units(len(content)))
+        identifier, bits, places = self.new_space().take(state.new_map.shape.units(len(content)))
         if not self.is_left_unwritten():
-            self.write(self.space.extents(identifier), content)
+            self.write(self.new_space().extents(identifier), content)
         room = bits * state.new_map.shape.bit_bytes
         low = 0 if is_directory or self.fault == "low byte 0" else low_byte(state.new_map.shape, room, len(content))
         return identifier * 256 + low
@@ -335,7 +346,7 @@ class Edit:
             self.write([(place * sector, wanted * sector)], content)
         return place * sector // 256
 
-    def grow(self) -> Set[Tuple[int, int]]:
+    def grow(self) -> Set[Place]:
         """The grown directory's new space or size."""
         needs, key = self.needs, self.needs.grown
         if key is None:
@@ -347,9 +358,9 @@ class Edit:
             identifier = address // 256 if needs.alone else None
             old = self.state.owners[address // 256]
             if identifier or old == [key] and self.fault != "left identifier lost":  # the last owner goes
-                gone = {place for place, run in self.space.runs.items() if run[1] == address // 256}
-            identifier, bits, places = self.space.take(needs.growth_bits(), identifier)
-            extents = self.space.extents(identifier, places)
+                gone = {place for place, run in self.new_space().runs.items() if run[1] == address // 256}
+            identifier, bits, places = self.new_space().take(needs.growth_bits(), identifier)
+            extents = self.new_space().extents(identifier, places)
             address = address if needs.alone else identifier * 256
         self.addresses[key] = address
         folder.places = extents or [(one * self.state.sector, self.state.sector) for one in self.state.map.sectors_at(address, needs.size)]
@@ -374,7 +385,7 @@ class Edit:
     def run(self) -> bytes:
         early = self.gone() if self.fault == "space given back first" else set()
         if early:
-            self.space.release(early)
+            self.new_space().release(early)
         getattr(self, self.c.word)()
         late = self.grow()
         if self.space:
@@ -389,7 +400,7 @@ class Edit:
 
     def release_lost(self) -> None:
         lost = sorted(run[:2] for run in self.state.new_map.runs if run[3] and run[3] > 2 and run[3] not in self.state.owners)
-        self.space.release(lost[:1])
+        self.new_space().release(set(lost[:1]))
 
     def put_item(self, name: bytes, fields: Dict[str, int]) -> None:
         """A new entry in the holder of the command's last path, or the present one changed: a table of fields."""
@@ -476,7 +487,7 @@ class Edit:
     def write_folders(self) -> None:
         for key, folder in self.folders.items():
             block = folder.written(self.holder_address(key), self.fault, self.chance)
-            self.write(getattr(folder, "places", None) or self.places_of(folder.entry), block)
+            self.write(folder.places or self.places_of(folder.entry), block)
         for item, name, holder in self.blocks:
             parent = self.addresses.get(holder, self.state.objects[holder].address)
             self.write(self.new_places(item.address), empty_folder(self.state.form, name, parent))
