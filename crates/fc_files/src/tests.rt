@@ -1,12 +1,15 @@
 // The adapters over real things.
-ghost use Rattle.std.specs.Prelude.{◌≡◌, IsTrue};
+ghost use Rattle.std.specs.Prelude.{◌≡◌, ◌<◌, ◌≤◌, length, IsTrue};
 ghost use Rattle.fc_device.specs.Calls.{SameForm};
 
 use crate::file_disk::FileDisk;
+use crate::file_host::FileHost;
 use crate::streams::{StdSink, StdSource};
 use fc_device::{Disk, Extent, Failed, Sink, Source};
+use fc_host::Host;
 use std::fs;
 use std::io::{self, ErrorKind, Read, Write};
+use std::os::unix::fs::symlink;
 use std::test::Fail;
 
 // A reader and a writer whose every second call is interrupted.
@@ -234,5 +237,105 @@ fn another_file_is_never_written(rt: HostRuntime) -> Result<(), Fail> {
     assert!(rt; old.iter().all(|byte| *byte == 7));
     fs::remove_file(&rt, IMAGE)?;
     fs::remove_file(&rt, MOVED)?;
+    Ok(())
+}
+
+// Makes a file of these bytes if nothing has the name. Answers whether it made one.
+fn made<H: Host>(host: &mut H, name: &[u8], bytes: &[u8]) -> Result<bool, Failed>
+    requires some { 0 < length name.now }
+    requires most { length name.now ≤ 64 }
+{
+    if !host.make(name)? {
+        return Ok(false);
+    }
+    host.append(name, bytes)?;
+    Ok(true)
+}
+
+// Makes an empty file and removes it. Answers whether it made one.
+fn unmade<H: Host>(host: &mut H, name: &[u8]) -> Result<bool, Failed>
+    requires some { 0 < length name.now }
+    requires most { length name.now ≤ 64 }
+{
+    if !host.make(name)? {
+        return Ok(false);
+    }
+    host.remove(name)?;
+    Ok(true)
+}
+
+// The first bytes of a file, and how many they are: none if there is no such file, or if it is empty.
+fn first<H: Host>(host: &mut H, name: &[u8], into: &mut [u8]) -> Result<usize, Failed>
+    requires some { 0 < length name.now }
+    requires most { length name.now ≤ 64 }
+    requires room { 0 < length into.old }
+{
+    match host.size(name)? {
+        Some(n) if n > 0 => host.take(name, 0, into),
+        _ => Ok(0),
+    }
+}
+
+#[test]
+fn host_files_are_made_and_read(rt: HostRuntime) -> Result<(), Fail> {
+    const MADE: &str = "made-by-a-test.bin";
+    let name = MADE.as_bytes();
+    let _ = fs::remove_file(&rt, MADE);
+    let mut host = FileHost::new(rt.clone()?, "no-such-image.adf");
+    assert!(rt; host.size(name)?.is_none());
+    assert!(rt; made(&mut host, name, b"abcde")?);
+    assert!(rt; !made(&mut host, name, b"another's")?);
+    assert!(rt; host.size(name)? == Some(5));
+    let mut two = [0; 2];
+    assert!(rt; first(&mut host, name, &mut two)? == 2 && two == [97, 98]);
+    // A file that has become shorter is a fault, and one that has become longer is read as it was.
+    fs::write(&rt, MADE, "abcdefgh")?;
+    let mut ten = [0; 10];
+    assert!(rt; host.take(name, 3, &mut ten)? == 2);
+    fs::write(&rt, MADE, "a")?;
+    assert!(rt; host.take(name, 3, &mut ten).is_err());
+    fs::remove_file(&rt, MADE)?;
+    assert!(rt; host.size(name)?.is_none());
+    Ok(())
+}
+
+#[test]
+fn own_host_files_are_removed(rt: HostRuntime) -> Result<(), Fail> {
+    const MADE: &str = "removed-by-a-test.bin";
+    let name = MADE.as_bytes();
+    let _ = fs::remove_file(&rt, MADE);
+    let mut host = FileHost::new(rt.clone()?, "no-such-image.adf");
+    assert!(rt; unmade(&mut host, name)?);
+    assert!(rt; !fs::exists(&rt, MADE)?);
+    fs::write(&rt, MADE, "another's")?;
+    assert!(rt; !unmade(&mut host, name)?);
+    let kept = fs::read_to_string(&rt, MADE)?;
+    assert_eq!(rt; kept.as_str(), "another's");
+    fs::remove_file(&rt, MADE)?;
+    Ok(())
+}
+
+#[test]
+fn what_is_no_plain_file_is_a_fault(rt: HostRuntime) -> Result<(), Fail> {
+    const IMAGE: &str = "image-of-a-test.adf";
+    const FOLDER: &str = "folder-of-a-test";
+    const LINK: &str = "link-of-a-test";
+    fs::write(&rt, IMAGE, "an image")?;
+    fs::create_dir(&rt, FOLDER)?;
+    let mut host = FileHost::new(rt.clone()?, IMAGE);
+    assert!(rt; host.size(FOLDER.as_bytes()).is_err() && host.make(FOLDER.as_bytes()).is_err());
+    assert!(rt; host.size(IMAGE.as_bytes()).is_err() && host.make(IMAGE.as_bytes()).is_err());
+    assert!(rt;
+        host.size(b"folder-of-a-test/a").is_err() && host.make(b"folder-of-a-test/a").is_err()
+    );
+    // A link to the image, to a device and to nothing.
+    for target in [IMAGE, "/dev/zero", "no-such-file.bin"] {
+        symlink(&rt, target, LINK)?;
+        assert!(rt; host.make(LINK.as_bytes()).is_err());
+        assert!(rt; host.size(LINK.as_bytes()).is_err() || target == "no-such-file.bin");
+        fs::remove_file(&rt, LINK)?;
+    }
+    fs::remove_dir(&rt, FOLDER)?;
+    fs::remove_file(&rt, IMAGE)?;
     Ok(())
 }
