@@ -24,8 +24,10 @@ pub mod ReplacedLemmas
 pub mod AdditionLawLemmas
 pub mod RewordingLemmas
 pub mod GrownCdirLemmas
+pub mod MovesLemmas
 pub mod MovingLemmas
 pub mod TransferLemmas
+pub mod CopiesLemmas
 pub mod CopyingLemmas
 pub mod AroundLemmas
 pub mod GrowingLemmas
@@ -33,7 +35,11 @@ pub mod GrownRootLemmas
 pub mod GrownHolderLemmas
 pub mod GrowingLawLemmas
 pub mod GrownMemberLemmas
+pub mod IdentifierLemmas
 pub mod GrownPlaceLemmas
 pub mod NewSpaceLemmas
 pub mod BesideLemmas
+pub mod GrownPlacingLemmas
 pub mod GrownAdditionLemmas
+pub mod GrownMovingLemmas
+pub mod GrownCopyingLemmas

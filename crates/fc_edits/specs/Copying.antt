@@ -1,10 +1,11 @@
 -- `rename` that copies its file as an edit: it goes to another directory and to another place.
-use Rattle.std.specs.Prelude.{◌≡◌, ℕ, false, List, [], ◌∷◌, ◌++◌, map, Some, IsPermutation, if◌then◌else◌}
+use Rattle.std.specs.Prelude.{◌≡◌, ℕ, false, List, [], ◌∷◌, ◌++◌, map, None, Some, IsPermutation, if◌then◌else◌}
 use Rattle.fc_names.specs.Names.{Path, is_same_path}
 use Rattle.fc_record.specs.declared.Kind.{Kind}
 use Rattle.fc_newmap.specs.Map.{Map, ZoneRun}
 use Rattle.fc_newmap.specs.NewMap.{IsNewMap}
 use Rattle.fc_dirs.specs.Directory.{Directory, entries_of}
+use Rattle.fc_dirs.specs.Entries.{first_twin}
 use Rattle.fc_alloc.specs.declared.owner.Owner.{Owner}
 use Rattle.fc_image.specs.Layout.{Layout, dir_form}
 use Rattle.fc_image.specs.Walk.{Listing, Object, is_directory_object, object_size}
@@ -69,6 +70,21 @@ edit c = record {
   top_leave = [];
   top_join = [];
 }
+
+-- The file becomes its copy. What a directory says then may need another length, which growth gives it.
+pub record Copies (nodes : Nodes) (listings : List Listing) (c : Copying) : Type 0 where
+  pub found : IsPermutation listings (c.k ∷ (c.l ∷ c.rest))
+  pub home_is : number_of nodes c.k.object.path ≡ Some c.home
+  pub dir_is : number_of nodes c.l.object.path ≡ Some c.dir
+  pub number_is : number_of nodes c.o.path ≡ Some c.number
+  pub file : is_directory_object c.o ≡ false
+  pub k_holds : IsPermutation c.k.children (c.o ∷ c.kids)
+  pub k_children : IsPermutation c.k_children (map (copied c) c.kids)
+  pub k_entries : map (λ (p : Object). p.entry) c.k_children ≡ entries_of c.k_content
+  pub k_apart : first_twin (entries_of c.k_content) ≡ None
+  pub l_children : IsPermutation c.l_children (copied c c.o ∷ map (copied c) c.l.children)
+  pub l_entries : map (λ (p : Object). p.entry) c.l_children ≡ entries_of c.l_content
+  pub l_apart : first_twin (entries_of c.l_content) ≡ None
 
 pub record IsCopying (nodes : Nodes) (layout : Layout) (listings : List Listing) (c : Copying) : Type 0 where
   pub found : IsPermutation listings (c.k ∷ (c.l ∷ c.rest))

@@ -15,10 +15,10 @@ use Rattle.fc_image.specs.effects.Placed.{IsPlan}
 use Rattle.fc_tree.specs.declared.node.Node.{Node}
 use Rattle.fc_laws.specs.nodes.Edits.{Nodes, OwnersEdited, owners_with}
 use Rattle.fc_laws.specs.agree.Agreed.{AgreeOn}
-use Rattle.fc_edits.specs.Edit.{AreEdited, Edit, IsEdit, joining, listings_after, objects, owners_joined, owners_left}
+use Rattle.fc_edits.specs.Edit.{AreEdited, Edit, IsEdit, joining, leaving, listings_after, objects, owners_joined, owners_left}
 use Rattle.fc_edits.specs.Growing.{CanSayNew, Growing, IsGrowing, at_place, grown, up_of}
 use Rattle.fc_edits.specs.NewNodes.{HasNumbers}
-use Rattle.fc_edits.specs.NewPlaces.{ApartInOne, GivesBack, IsSpaceChange, LiesAgain, NewPlaces, Taking, is_taken, untaken}
+use Rattle.fc_edits.specs.NewPlaces.{ApartInOne, GivesBack, HasPlaceOf, IsSpaceChange, LiesAgain, NewPlaces, Taking, is_taken, untaken}
 use Rattle.fc_edits.specs.Placing.{IsPlaced, takings_of}
 use Rattle.fc_edits.specs.Places.{AgreeNow}
 
@@ -54,6 +54,10 @@ IsGrownAt m os before g own =
     GrowsThere m os g own ⊎ ((t : Taking) × (own ≡ t ∷ []) × TakesSpace m os before g t × (GrowsAlone m os g t ⊎ GrowsElsewhere m os before g t))
 
 -- ---- an edit in which it grows
+
+-- An object keeps the place of one that leaves a directory.
+abbrev pub KeepsPlaceOf : Edit → Object → Type 0
+KeepsPlaceOf e o = (q : ℕ × Object) × Contains (leaving e) q × HasPlaceOf o q.1
 
 -- Parts with a new map, an edit of them in which a directory grows, and the parts after it. First `before` take parts of holes, which had no
 -- runs, and then the directory takes its own. The objects of the edit have their places beside it.
@@ -94,7 +98,46 @@ pub record NewGrowing : Type 0 where
   pub placed : (p : ℕ × Object) → Contains (joining edit) p → IsAt (Layout.New m') p.1
   pub lie : (p : ℕ × Object) → Contains (joining edit) p → LiesAgain m nodes listings edit p.1
   pub pairs : ApartInOne (objects (joining edit))
-  pub apart : (p : ℕ × Object) → Contains (joining edit) p → id_of p.1.entry.address ≡ id_of growing.address → is_apart p.1.sectors growing.sectors ≡ true
+  pub apart : (p : ℕ × Object) → Contains (joining edit) p → KeepsPlaceOf edit p.1 ⊎ (id_of p.1.entry.address ≡ id_of growing.address → is_apart p.1.sectors growing.sectors ≡ true)
+
+-- The same if object o, of node `number`, is the one that joins a directory beside. It takes its space first.
+pub record GrownPlacing : Type 0 where
+  pub kind : Kind
+  pub m : Map
+  pub m' : Map
+  pub nodes : Nodes
+  pub nodes' : Nodes
+  pub owners : List Owner
+  pub owners' : List Owner
+  pub root : Node
+  pub listings : List Listing
+  pub edit : Edit
+  pub growing : Growing
+  pub number : ℕ
+  pub o : Object
+  pub id : ℕ
+  pub parts : List ZoneRun
+  pub own : List Taking
+  pub gone : List ℕ
+  pub near : Path
+  pub agreed : AgreeOn kind m nodes owners root listings
+  pub is_edit : IsEdit nodes listings edit
+  pub has_numbers : HasNumbers nodes edit
+  pub grows : IsGrowing nodes (Layout.New m) edit growing
+  pub can : CanSayNew (Layout.New m) edit
+  pub nodes_edited : AreEdited nodes nodes' (grown edit growing)
+  pub owners_edited : OwnersEdited owners owners' (owners_with (Layout.New m) (up_of growing.holder) growing.dir growing.o ++ owners_left (Layout.New m) edit)
+      (owners_with (Layout.New m') (up_of growing.holder) growing.dir (at_place growing growing.o) ++ owners_joined (Layout.New m') edit)
+  pub joins : joining edit ≡ (number, o) ∷ []
+  pub is_map : IsNewMap m'
+  pub geometry : m'.geometry ≡ m.geometry
+  pub space : IsSpaceChange m m' (takings_of id parts ++ own) gone
+  pub gives : GivesBack m (takings_of id parts ++ own) gone listings (grown edit growing)
+  pub some : 0 < growing.len
+  pub lies : IsGrownAt m (objects_of listings) (takings_of id parts) growing own
+  pub grown_at : IsAt (Layout.New m') (at_place growing growing.o)
+  pub at : IsAt (Layout.New m') o
+  pub place : IsPlaced m (objects_of listings) near (object_size (dir_form (Layout.New m')) o.entry) id parts o
 
 pub record GrownPlacesLaw : Type 0 where
   -- The edit with growth has its places, and the parts after it agree.

@@ -18,3 +18,5 @@ pub mod GrownCdir
 pub mod Growing
 pub mod GrownPlaces
 pub mod GrownAddition
+pub mod GrownMoving
+pub mod GrownCopying

@@ -58,6 +58,19 @@ edit c = record {
   top_join = [];
 }
 
+-- The object moves. What a directory says then may need another length, which growth gives it.
+pub record Moves (nodes : Nodes) (listings : List Listing) (c : Moving) : Type 0 where
+  pub found : IsPermutation listings (map (λ (a : Amended). a.was) c.dirs ++ (map (λ (d : Listing × Directory). d.0) c.own ++ c.rest))
+  pub amends : (a : Amended) → Contains c.dirs a → IsAmended nodes (edit c) a
+  pub touched : (a : Amended) → Contains c.dirs a → Contains a.was.children c.o ⊎ (a.was ≡ c.l)
+  pub there : (a : Amended) × Contains c.dirs a × (a.was ≡ c.l)
+  pub leaves : flat_map (λ (a : Amended). a.leave) c.dirs ≡ (c.number, c.o) ∷ []
+  pub joins : flat_map (λ (a : Amended). a.join) c.dirs ≡ (c.number, moved c c.o) ∷ []
+  pub number_is : number_of nodes c.o.path ≡ Some c.number
+  pub not_into : is_prefix (folded_path c.o.path) (folded_path c.l.object.path) ≡ false
+  pub own_is : (d : Listing × Directory) → Contains c.own d → (d.0.object ≡ c.o) × (entries_of d.1 ≡ entries_of d.0.content)
+  pub others : (k : Listing) → Contains c.rest k → k.object ≡ c.o → ⊥
+
 pub record IsMoving (nodes : Nodes) (layout : Layout) (listings : List Listing) (c : Moving) : Type 0 where
   pub found : IsPermutation listings (map (λ (a : Amended). a.was) c.dirs ++ (map (λ (d : Listing × Directory). d.0) c.own ++ c.rest))
   pub amends : (a : Amended) → Contains c.dirs a → IsAmended nodes (edit c) a

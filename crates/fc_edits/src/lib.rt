@@ -8,6 +8,8 @@ ghost use Rattle.fc_edits.specs.Deletion.{DeletionLaw};
 ghost use Rattle.fc_edits.specs.Growing.{GrowingLaw};
 ghost use Rattle.fc_edits.specs.GrownAddition.{GrownAdditionLaw};
 ghost use Rattle.fc_edits.specs.GrownCdir.{GrownCdirLaw};
+ghost use Rattle.fc_edits.specs.GrownCopying.{GrownCopyingLaw};
+ghost use Rattle.fc_edits.specs.GrownMoving.{GrownMovingLaw};
 ghost use Rattle.fc_edits.specs.GrownPlaces.{GrownPlacesLaw};
 ghost use Rattle.fc_edits.specs.Moving.{MovingLaw};
 ghost use Rattle.fc_edits.specs.NewNodes.{AfterLaw};
@@ -97,4 +99,14 @@ pub fn grown_places()
 /// `save`, `create` and `cdir` in a directory that grows are such edits.
 pub fn grown_addition()
     ensures { GrownAdditionLaw }
+{}
+
+/// So is `rename` into a directory that grows, if no file is copied.
+pub fn grown_moving()
+    ensures { GrownMovingLaw }
+{}
+
+/// So is `rename` that copies its file into a directory that grows.
+pub fn grown_copying()
+    ensures { GrownCopyingLaw }
 {}

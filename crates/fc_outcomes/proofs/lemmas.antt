@@ -31,6 +31,8 @@ pub mod CopiedPathLemmas
 pub mod CopiedLemmas
 pub mod GrownSpaceLemmas
 pub mod GrownSteadyLemmas
+pub mod GrownImageLemmas
 pub mod GrownAddedLemmas
+pub mod GrownAskedLemmas
 pub mod GrownMayLemmas
 pub mod GrownFiledLemmas

@@ -1,62 +1,31 @@
 -- `save`, `create` and `cdir` in a directory that grows, on a new map: from what is written to what they promise.
-use Rattle.std.specs.Prelude.{◌≡◌, ◌<◌, ◌⊎◌, ℕ, ◌||◌, true, false, List, [], ◌∷◌, length, Some, None, Ok, Contains, if◌then◌else◌}
+use Rattle.std.specs.Prelude.{◌≡◌, ◌⊎◌, ℕ, true, List, [], ◌∷◌, length, None, Contains}
 use Rattle.fc_names.specs.Names.{Path, is_same_path}
 use Rattle.fc_record.specs.declared.DiscRecord.{DiscRecord}
-use Rattle.fc_record.specs.Kinds.{map_record}
-use Rattle.fc_newmap.specs.Map.{sector_of}
 use Rattle.fc_model.specs.Command.{Command}
 use Rattle.fc_model.specs.Tree.{holder, last_name}
 use Rattle.fc_image.specs.Layout.{Layout, dir_form}
-use Rattle.fc_image.specs.Report.{holder_address}
 use Rattle.fc_image.specs.Objects.{object_at, objects_of}
 use Rattle.fc_image.specs.Walk.{Listing, object_size}
-use Rattle.fc_image.specs.Opening.{Opened, agreement, difference}
+use Rattle.fc_image.specs.Opening.{Opened}
 use Rattle.fc_image.specs.Stays.{IsNewKind, OpensAs}
-use Rattle.fc_image.specs.effects.Short.{growth_in, new_dir_size}
-use Rattle.fc_image.specs.effects.Steady.{AreWritten, IsRewritten, has_grown, has_new_holder, holds_named, new_directory}
+use Rattle.fc_image.specs.effects.Short.{new_dir_size}
+use Rattle.fc_image.specs.effects.Steady.{AreWritten, IsRewritten, holds_named, new_directory}
 use Rattle.fc_changes.specs.Changed.{IsFileAt, IsInNewSpace}
-use Rattle.fc_changes.specs.Owed.{IsMapAfter}
 use Rattle.fc_laws.specs.agree.Agreed.{parts_with}
 use Rattle.fc_laws.specs.takeover.Places.{MayBeWritten}
 use Rattle.fc_edits.specs.Addition.{Addition, edit}
 use Rattle.fc_edits.specs.Edit.{Amended}
-use Rattle.fc_edits.specs.Growing.{Growing, Told, regrown}
+use Rattle.fc_edits.specs.Growing.{Growing, regrown}
 use Rattle.fc_edits.specs.GrownAddition.{NewGrownAddition, grown_edit}
 use Rattle.fc_outcomes.specs.Addition.{HasEntry, IsItsFile}
-use Rattle.fc_outcomes.specs.NewImage.{IsMapRooted, Outcome}
+use Rattle.fc_outcomes.specs.Growth.{Grows, MapGrows, holder_now}
+use Rattle.fc_outcomes.specs.NewImage.{Outcome}
 use Rattle.fc_outcomes.specs.Puts.{ArePutOut, IsDirectoryPut, Put}
-
--- ---- a directory grows by a command
-
--- The command makes this directory grow. It tells those that hold it, or that lie in it if it gets another address, and no others need it.
-pub record Grows (v : Opened) (c : Command) (g : Growing) : Type 0 where
-  pub growth : growth_in v c ≡ Some (g.o, g.len)
-  pub told : (t : Told) → Contains g.again t → (has_grown v c t.was.object.path || has_new_holder v c t.was.object.path) ≡ true
-  pub kept : (k : Listing) → Contains g.same k → has_new_holder v c k.object.path ≡ false
-
--- the address of the directory that holds a path, afterwards
-abbrev pub holder_now : List Listing → Growing → Path → ℕ
-holder_now listings g path = if is_same_path (holder path) g.o.path then g.address else holder_address listings path
-
--- ---- on an image
 
 -- the image as it opens before
 abbrev pub grown_view : NewGrownAddition → Opened
 grown_view x = record { kind = x.kind; layout = Layout.New x.m; listings = x.listings }
-
--- Both copies of the map are the new map, whose record stays: the directory isn't the root.
-pub record GrowsBelow (x : NewGrownAddition) (image' : List ℕ) : Type 0 where
-  pub below : 0 < length x.growing.o.path
-  pub after : IsMapAfter x.m x.m' image'
-
--- If the root grows, the record has its new place, and agrees with that of the kind.
-pub record GrowsRoot (x : NewGrownAddition) (r : DiscRecord) (image' : List ℕ) : Type 0 where
-  pub at_top : x.growing.o.path ≡ []
-  pub after : IsMapRooted x.m x.m' image' x.growing.address x.growing.len
-  pub own : DiscRecord
-  pub agreed : agreement r (map_record (sector_of x.m' 0)) (difference r (map_record (sector_of x.m' 0))) ≡ Ok own
-  pub address : own.root ≡ x.growing.address
-  pub len : own.root_size ≡ x.growing.len
 
 -- The object is at the path, where nothing stood. Each directory that is told something is rewritten, at its new place if it grows, and
 -- `stored` are the object's bytes. Nothing else is written but the map, of which both copies are the new map.
@@ -77,7 +46,7 @@ pub record NewGrownAdditionWritten (x : NewGrownAddition) (c : Command) (path : 
   pub whose : (p : Put) → Contains puts p
       → ((a : Amended) × Contains (grown_edit x.c x.growing).amended a × (p.sectors ≡ (regrown (edit x.c) x.growing a.was.object).sectors)) ⊎ (p.sectors ≡ x.c.o.sectors)
   pub out : ArePutOut (Layout.New x.m) puts image image'
-  pub map : GrowsBelow x image' ⊎ GrowsRoot x r image'
+  pub map : MapGrows x.m x.m' x.growing r image'
 
 -- The object is a new empty directory, which says the address of the grown one.
 pub record IsItsGrownDirectory (path : Path) (layout : Layout) (a : Addition) (g : Growing) (d : Listing) : Type 0 where

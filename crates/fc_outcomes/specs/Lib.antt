@@ -9,4 +9,5 @@ pub mod Addition
 pub mod Rewording
 pub mod Moving
 pub mod Copying
+pub mod Growth
 pub mod GrownAddition

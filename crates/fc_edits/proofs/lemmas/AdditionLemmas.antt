@@ -182,13 +182,13 @@ pub can_say : (nodes : Nodes) (layout : Layout) (listings : List Listing) (c : A
 can_say nodes layout listings c d =
     let new = can_new layout c d.alone in
     record {
-  few = new.few;
-  amended = of_one (λ (b : Amended). CanSay layout b.was.object b.content) (amended c) d.can;
-  into = new.into;
-  into_none = new.into_none;
-  same = new.same;
-  root = λ o at path t. absurd (let none = t.leaves in cc);
-}
+      few = new.few;
+      amended = of_one (λ (b : Amended). CanSay layout b.was.object b.content) (amended c) d.can;
+      into = new.into;
+      into_none = new.into_none;
+      same = new.same;
+      root = λ o at path t. absurd (let none = t.leaves in cc);
+    }
 
 pub owners_as : (layout layout' : Layout) (owners owners' : List Owner) (c : Addition) → OwnersEdited owners owners' (owners_before layout c) (owners_with layout' c.dir c.number c.o)
     → OwnersEdited owners owners' (owners_left layout (edit c)) (owners_joined layout' (edit c))

@@ -1,28 +1,24 @@
 -- Directories that an edit leaves as they are, and that are told something of the same entries: it is an edit still.
-use Rattle.std.proofs.Common.{◌≡◌, ◌≤◌, ◌⊎◌, inl, inr, ⊎_elim, eq-eqb, ℕ, ◌+◌, Bool, true, false, cond, List, [], ◌∷◌, ◌++◌, map, flat_map, refl, sym, ap, ap₂, subst, ◌∙◌, arith, Option, None, Some}
+use Rattle.std.proofs.Common.{◌≡◌, ◌≤◌, ◌⊎◌, inl, inr, ⊎_elim, eq-eqb, ℕ, ◌+◌, Bool, true, false, cond, List, [], ◌∷◌, ◌++◌, map, flat_map, refl, sym, ap, ap₂, subst, ◌∙◌, arith, Option}
 use Rattle.std.specs.Prelude.{Contains, IsPermutation, ◌==◌}
-use Rattle.std.proofs.lemmas.Bool.{cases_eq, eqb-true}
+use Rattle.std.proofs.lemmas.Bool.{eqb-true}
 use Rattle.std.proofs.lemmas.List.{append-nil, append_assoc}
 use Rattle.std.proofs.lemmas.List.Elements.{Contains-append_cases, Contains-append_left, Contains-append_right}
 use Rattle.std.proofs.lemmas.List.Sorted.{IsPermutation-append_left, IsPermutation-append_right, IsPermutation-map, IsPermutation-refl, IsPermutation-sym, IsPermutation-trans}
-use Rattle.fc_dirs.specs.declared.Entry.{Entry}
-use Rattle.fc_dirs.specs.Directory.{entries_of}
 use Rattle.fc_dirs.specs.Entries.{first_twin}
 use Rattle.fc_image.specs.Layout.{Layout}
 use Rattle.fc_image.specs.Walk.{Listing, Object}
-use Rattle.fc_image.specs.Objects.{objects_of}
 use Rattle.fc_image.specs.Order.{held}
 use Rattle.fc_image.proofs.PathsLemmas.{many}
 use Rattle.fc_image.proofs.ShuffleLemmas.{IsPermutation-flat_map}
-use Rattle.fc_tree.specs.Nodes.{number_of}
-use Rattle.fc_tree.proofs.MemberLemmas.{contains_cases, contains_here, contains_later, from_map, in_map, many_permuted, no_element, some_many}
+use Rattle.fc_tree.proofs.MemberLemmas.{contains_here, contains_later, from_map, in_map, many_permuted, no_element, some_many}
 use Rattle.fc_tree.proofs.SoundLemmas.{children_stored}
 use Rattle.fc_tree.proofs.WalkedLemmas.{child_is_object}
 use Rattle.fc_laws.specs.nodes.Edits.{Nodes}
 use Rattle.fc_laws.specs.nodes.Laws.{IsHeld}
 use Rattle.fc_laws.proofs.lemmas.nodes.ListLemmas.{in_first, in_other, map_append}
-use Rattle.fc_edits.specs.Edit.{Amended, Edit, IsAmended, IsEdit, KeepsEntry, TopStays, TopTurns, joined_in, joining, leaving, left_in, numbers, objects, turned}
-use Rattle.fc_edits.specs.Growing.{EditGrowing, Growing, Holder, IsGrowing, IsTold, Told, amended_first, told}
+use Rattle.fc_edits.specs.Edit.{Amended, Edit, IsAmended, IsEdit, KeepsEntry, TopStays, TopTurns, joined_in, joining, leaving, left_in, numbers, turned}
+use Rattle.fc_edits.specs.Growing.{EditGrowing, Growing, Holder, IsGrowing, Told, amended_first, told}
 use Rattle.fc_edits.specs.NewNodes.{AreDistinct, HasNumbers, nodes_after}
 use Rattle.fc_edits.specs.NodesEdit.{NodesEdit}
 use Rattle.fc_edits.proofs.lemmas.AfterLemmas.{after_law}
@@ -197,7 +193,7 @@ module _ (x : EditGrowing) (q : Option Holder) (cut : IsPermutation (x.edit.amen
   abbrev number : ℕ × Object → ℕ
   number p = p.0
 
-  still_leaves : (n : ℕ) → Contains (numbers (leaving e)) n → Contains (numbers (leaving (around e g q))) n
+  pub still_leaves : (n : ℕ) → Contains (numbers (leaving e)) n → Contains (numbers (leaving (around e g q))) n
   still_leaves n at = in_first (numbers (leaving (around e g q))) (numbers (leaving e)) (IsPermutation-map number (leaving (around e g q)) (leaving e) leaving_same) n at
 
   -- ---- it is an edit

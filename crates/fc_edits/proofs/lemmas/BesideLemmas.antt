@@ -35,7 +35,7 @@ use Rattle.fc_laws.proofs.lemmas.agree.NewPlaceLemmas.{none_at}
 use Rattle.fc_edits.specs.Edit.{Edit, joining, objects}
 use Rattle.fc_edits.specs.NewPlaces.{GivesBack, IsSpaceChange, Taking, is_taken}
 use Rattle.fc_edits.specs.Placing.{IsPlaced, takings_of}
-use Rattle.fc_edits.proofs.lemmas.GrownPlaceLemmas.{by_map, neither, owner_id, owns, some_sector}
+use Rattle.fc_edits.proofs.lemmas.IdentifierLemmas.{by_map, neither, owner_id, owns, some_sector}
 use Rattle.fc_edits.proofs.lemmas.NewPlaceLemmas.{owned_by, runs_keep}
 use Rattle.fc_edits.proofs.lemmas.NewSpaceLemmas.{id_in, new_id_unused, parts_some, slack_files}
 

@@ -1,5 +1,5 @@
 -- An edit in which a directory grows: its nodes and owners, and what directories say.
-use Rattle.std.proofs.Common.{◌≡◌, ◌⊎◌, inl, inr, ⊎_elim, ℕ, Bool, true, false, List, [], ◌∷◌, ◌++◌, map, flat_map, refl, sym, ap, ap₂, subst, ◌∙◌, Option, None, Some}
+use Rattle.std.proofs.Common.{◌≡◌, ◌⊎◌, inl, inr, ⊎_elim, ℕ, true, false, List, [], ◌∷◌, ◌++◌, map, flat_map, refl, sym, ap, subst, ◌∙◌, Option, None, Some}
 use Rattle.std.specs.Prelude.{Contains, IsPermutation}
 use Rattle.std.specs.FinMap.{get}
 use Rattle.std.proofs.lemmas.List.{append-nil, append_assoc}
@@ -9,17 +9,16 @@ use Rattle.fc_names.specs.declared.name.NameForm.{NameForm}
 use Rattle.fc_dirs.specs.declared.Entry.{Entry}
 use Rattle.fc_dirs.specs.Directory.{directory_size}
 use Rattle.fc_alloc.specs.declared.owner.Owner.{Owner}
-use Rattle.fc_image.specs.Layout.{Layout, dir_form}
+use Rattle.fc_image.specs.Layout.{Layout}
 use Rattle.fc_image.specs.Walk.{Listing, Object, is_directory_object}
-use Rattle.fc_image.specs.Objects.{objects_of}
 use Rattle.fc_tree.specs.Nodes.{number_of}
-use Rattle.fc_tree.proofs.MemberLemmas.{contains_cases, contains_here, contains_later, from_map, in_map, no_element}
+use Rattle.fc_tree.proofs.MemberLemmas.{contains_cases, contains_here, contains_later, from_map, in_map}
 use Rattle.fc_tree.proofs.WalkedLemmas.{given, listed_directory, same_some}
-use Rattle.fc_laws.specs.nodes.Edits.{Nodes, OwnersEdited, owners_with}
+use Rattle.fc_laws.specs.nodes.Edits.{OwnersEdited, owners_with}
 use Rattle.fc_laws.specs.agree.Agreed.{CanSay}
 use Rattle.fc_laws.proofs.lemmas.nodes.ListLemmas.{in_first}
 use Rattle.fc_laws.proofs.lemmas.nodes.OtherLemmas.{top_object}
-use Rattle.fc_edits.specs.Edit.{Amended, AreEdited, Edit, IsEdit, TopTurns, joined_in, joining, leaving, left_in, numbers, owners_in, owners_joined, owners_left}
+use Rattle.fc_edits.specs.Edit.{Amended, AreEdited, Edit, IsEdit, joined_in, joining, leaving, left_in, numbers, owners_in, owners_joined, owners_left}
 use Rattle.fc_edits.specs.Growing.{CanSayNew, EditGrowing, GrowingLaw, Holder, Holds, IsHeldBy, amended_first, at_place, grown_by, holding, regrown, told, up_of, with_growth}
 use Rattle.fc_edits.specs.NewNodes.{AreDistinct, HasNumbers, nodes_after}
 use Rattle.fc_edits.specs.Places.{CanSayAll, IsRootEntry}

@@ -1,18 +1,17 @@
 -- A directory that grows: what objects become, and that the edit with it is one.
-use Rattle.std.proofs.Common.{◌≡◌, ◌≤◌, ◌⊎◌, inl, inr, ⊎_elim, ℕ, Bool, true, false, cond, List, [], ◌∷◌, ◌++◌, map, flat_map, refl, sym, ap, ap₂, subst, ◌∙◌, Option, None, Some}
+use Rattle.std.proofs.Common.{◌≡◌, ◌≤◌, ◌⊎◌, inl, inr, ⊎_elim, ℕ, Bool, true, false, cond, List, [], ◌∷◌, ◌++◌, map, flat_map, refl, sym, ap, ap₂, subst, ◌∙◌, Some}
 use Rattle.std.specs.Prelude.{Contains, IsPermutation}
 use Rattle.std.proofs.lemmas.List.Elements.{Contains-append_left, Contains-append_right}
 use Rattle.std.proofs.lemmas.List.Sorted.{IsPermutation-append_left, IsPermutation-append_right, IsPermutation-cons, IsPermutation-map, IsPermutation-middle, IsPermutation-sym, IsPermutation-trans}
 use Rattle.fc_names.specs.Names.{Path, is_same_path}
 use Rattle.fc_model.specs.Tree.{holder}
 use Rattle.fc_dirs.specs.declared.Entry.{Entry}
-use Rattle.fc_dirs.specs.Directory.{entries_of}
 use Rattle.fc_image.specs.Layout.{Layout}
 use Rattle.fc_image.specs.Walk.{Listing, Object, is_directory_object}
 use Rattle.fc_image.specs.Objects.{objects_of}
 use Rattle.fc_image.specs.Order.{held}
 use Rattle.fc_image.specs.effects.Steady.{regrown_entry}
-use Rattle.fc_image.proofs.PathsLemmas.{is_at, itself, many}
+use Rattle.fc_image.proofs.PathsLemmas.{is_at, itself}
 use Rattle.fc_tree.specs.Nodes.{number_of}
 use Rattle.fc_tree.proofs.MemberLemmas.{contains_cases, contains_here, contains_later, from_map, in_map, many_permuted, no_element}
 use Rattle.fc_tree.proofs.WalkedLemmas.{apart_names, child_is_object, child_path, few_objects, listed_directory}
@@ -25,7 +24,7 @@ use Rattle.fc_laws.proofs.lemmas.nodes.FitsLemmas.{kid_lower}
 use Rattle.fc_laws.proofs.lemmas.nodes.ListLemmas.{in_first, in_other}
 use Rattle.fc_laws.proofs.lemmas.nodes.OtherLemmas.{unlike}
 use Rattle.fc_edits.specs.Edit.{Amended, Edit, IsAmended, IsEdit, KeepsEntry, TopStays, TopTurns, joined_in, leaving, left_in, numbers, objects, turned}
-use Rattle.fc_edits.specs.Growing.{EditGrowing, Growing, Holder, Holds, IsGrowing, amended_first, at_place, grown_by, holding, placed_anew, regrown, told}
+use Rattle.fc_edits.specs.Growing.{EditGrowing, Growing, Holder, Holds, IsGrowing, at_place, grown_by, holding, placed_anew, regrown, told}
 use Rattle.fc_edits.specs.NodesEdit.{NodesEdit}
 use Rattle.fc_edits.proofs.lemmas.AroundLemmas as ar
 use Rattle.fc_edits.proofs.lemmas.AroundLemmas.{mapped_same}

@@ -1,7 +1,7 @@
 -- One directory holds a directory that grows.
-use Rattle.std.proofs.Common.{◌≡◌, ℕ, true, false, List, [], ◌∷◌, ◌++◌, map, refl, sym, ap, subst, ◌∙◌, Option, None, Some}
+use Rattle.std.proofs.Common.{◌≡◌, true, false, [], ◌∷◌, ◌++◌, map, refl, sym, ap, ◌∙◌, Option, None, Some}
 use Rattle.std.specs.Prelude.{Contains, IsPermutation}
-use Rattle.fc_names.specs.Names.{Path, is_same_path}
+use Rattle.fc_names.specs.Names.{is_same_path}
 use Rattle.fc_model.specs.Tree.{holder}
 use Rattle.fc_image.specs.Walk.{Listing, Object}
 use Rattle.fc_image.proofs.PathsLemmas.{itself}

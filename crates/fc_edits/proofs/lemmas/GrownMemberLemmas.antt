@@ -1,12 +1,11 @@
 -- Who leaves, joins and stays in an edit in which a directory grows.
-use Rattle.std.proofs.Common.{◌≡◌, ◌⊎◌, inl, inr, ⊎_elim, ℕ, true, List, [], ◌∷◌, ◌++◌, map, refl, sym, ap, subst, ◌∙◌, Option, None, Some}
+use Rattle.std.proofs.Common.{◌≡◌, ◌⊎◌, inl, inr, ⊎_elim, ℕ, true, List, ◌∷◌, ◌++◌, map, sym, ap, subst, ◌∙◌, Option, None, Some}
 use Rattle.std.specs.Prelude.{Contains, IsPermutation}
 use Rattle.std.proofs.lemmas.List.Elements.{Contains-append_right}
 use Rattle.std.proofs.lemmas.List.Sorted.{IsPermutation-map, IsPermutation-sym}
 use Rattle.fc_image.specs.Layout.{id_of, is_apart}
 use Rattle.fc_image.specs.Walk.{Object}
 use Rattle.fc_image.proofs.ShuffleLemmas.{shuffled}
-use Rattle.fc_tree.specs.Nodes.{number_of}
 use Rattle.fc_tree.proofs.MemberLemmas.{contains_cases, contains_here, contains_later, from_map, in_map}
 use Rattle.fc_changes.proofs.MadeLemmas.{turned}
 use Rattle.fc_laws.specs.agree.Agreed.{CanSay}
@@ -16,7 +15,9 @@ use Rattle.fc_edits.specs.Growing.{EditGrowing, Holder, IsHeldBy, amended_first,
 use Rattle.fc_edits.specs.NewPlaces.{ApartInOne}
 use Rattle.fc_edits.specs.Places.{Stays}
 use Rattle.fc_edits.proofs.lemmas.AroundLemmas as ar
-use Rattle.fc_edits.proofs.lemmas.GrowingLemmas.{e, g, gr, its_turn, layout, listings, nodes}
+use Rattle.fc_edits.proofs.lemmas.GrowingLemmas as below
+use Rattle.fc_edits.proofs.lemmas.GrowingLemmas.{e, g, gr, its_turn, layout, listings, ne, nodes}
+use Rattle.fc_edits.proofs.lemmas.NumberLemmas as n_
 use Rattle.fc_edits.proofs.lemmas.GrownRootLemmas as root
 
 -- ---- objects that lie apart in one identifier do so in another order
@@ -103,8 +104,7 @@ module _ (x : EditGrowing) where
           let now = joined_in (ar.around (e x) (g x) q) in
           let was : ApartInOne (objects (joined_in (e x))) = subst (λ (ts : List (ℕ × Object)). ApartInOne (objects (ts ++ joined_in (e x)))) (gr x).none_join pairs in
           let same = apart_permuted (objects (joined_in (e x))) (objects now) (IsPermutation-sym (objects now) (objects (joined_in (e x))) (IsPermutation-map second now (joined_in (e x)) (ar.joined_same x q cut))) in
-          subst (λ (o : Object). ApartInOne (o ∷ objects now)) (sym (its_turn x))
-          (
+          subst (λ (o : Object). ApartInOne (o ∷ objects now)) (sym (its_turn x)) (
             λ p at id.
                 (let r = from_map second (joined_in (e x)) p (same.0 p at) in
                 turned p.sectors (g x).sectors
@@ -183,6 +183,17 @@ module _ (x : EditGrowing) where
           let its : ℕ × Object = ((g x).dir, (g x).o) in
           let rest = left_in (ar.around (e x) (g x) (Some hd)) in
           in_map (λ (p : ℕ × Object). p.0) ((e x).top_leave ++ its ∷ rest) its (Contains-append_right (e x).top_leave (its ∷ rest) its (contains_here its rest))
+
+  -- without growth the directory doesn't leave
+  pub dir_stays : Contains (numbers (leaving (e x))) (g x).dir → ⊥
+  dir_stays at = by (g x).holder (gr x).amended_is (gr x).held (gr x).says
+    where
+      by : (q : Option Holder) → IsPermutation ((e x).amended ++ map (told (e x)) (g x).again) (amended_first q (g x).others) → IsHeldBy (g x) q
+          → ((b : Amended) → Contains (grown_by (e x) (g x) q).amended b → CanSay (layout x) (regrown (e x) (g x) b.was.object) b.content) → ⊥
+      by None cut at_top says =
+          let left = subst (λ (ts : List (ℕ × Object)). Contains (numbers (ts ++ left_in (e x))) (g x).dir) (gr x).none_leave at in
+          n_.left_lower (ne x) (g x).dir left (root.zero_is x cut at_top)
+      by (Some hd) cut hs says = below.away x hd cut hs says (ar.still_leaves x (Some hd) cut (g x).dir at)
 
   -- who stays with growth stays without it, and isn't the directory
   pub stayed : (p : Object) → Stays (nodes x) (listings x) e' p → Stays (nodes x) (listings x) (e x) p

@@ -1,124 +1,55 @@
 -- The place of a directory that grows, and that the edit with it has its places.
-use Rattle.std.proofs.Common.{◌≡◌, ◌<◌, ◌≤◌, ◌⊎◌, inl, inr, ⊎_elim, ℕ, suc, ◌+◌, ◌*◌, ◌/◌, ◌-◌, Bool, true, false, cond, List, [], ◌∷◌, ◌++◌, flat_map, length, refl, sym, ap, ap₂, subst, ◌∙◌, arith, eq-eqb, Option, Some}
-use Rattle.std.specs.Prelude.{Contains, IsPermutation, filter, not, nat_le, nat_lt, ◌==◌, ◌&&◌, ◌||◌}
+use Rattle.std.proofs.Common.{◌≡◌, ◌<◌, ◌≤◌, ◌⊎◌, inl, inr, ⊎_elim, ℕ, ◌*◌, ◌/◌, ◌-◌, Bool, true, false, cond, List, [], ◌∷◌, ◌++◌, length, refl, sym, ap, ap₂, subst, ◌∙◌, arith, eq-eqb, Option, Some}
+use Rattle.std.specs.Prelude.{Contains, filter, not, nat_le, ◌==◌, ◌&&◌}
 use Rattle.std.specs.List.{range_with_len}
 use Rattle.std.specs.Option.{option_map_or}
 use Rattle.std.proofs.lemmas.Bool.{eqb-true, le-leb, leb-true}
 use Rattle.std.proofs.lemmas.List.Elements.{Contains-append_left}
-use Rattle.std.proofs.lemmas.List.Sorted.{IsPermutation-cons, IsPermutation-refl, IsPermutation-trans, length_permutation}
 use Rattle.fc_names.specs.Names.{is_same_path}
 use Rattle.fc_names.specs.declared.name.NameForm.{NameForm}
 use Rattle.fc_names.specs.declared.name.NameForm.TheVariants.{Long, Ten}
 use Rattle.fc_record.specs.Record.{id_limit}
 use Rattle.fc_record.specs.declared.Geometry.{Geometry}
-use Rattle.fc_newmap.specs.Map.{Map, ZoneRun, all_runs, has_id, id_runs, is_used}
-use Rattle.fc_newmap.proofs.PlaceLemmas.{holder_of, id_run_in, in_back, in_front}
+use Rattle.fc_newmap.specs.Map.{id_runs, is_used}
 use Rattle.fc_dirs.specs.Directory.{directory_size}
-use Rattle.fc_image.specs.Layout.{Layout, dir_form, id_of, id_sectors, is_among, is_apart, new_sectors, sectors_at}
-use Rattle.fc_image.specs.Walk.{Object, is_directory_object, object_size}
-use Rattle.fc_image.specs.Objects.{has_sectors, is_movable, is_owned, is_owner_of, objects_of, owner_count}
+use Rattle.fc_image.specs.Layout.{Layout, dir_form, id_of, is_among, is_apart, new_sectors, sectors_at}
+use Rattle.fc_image.specs.Walk.{Object, object_size}
+use Rattle.fc_image.specs.Objects.{is_movable, is_owned, is_owner_of, objects_of}
 use Rattle.fc_image.specs.Edits.{IsAt}
-use Rattle.fc_image.specs.effects.Short.{has_room, is_alone, sectors_of_others}
+use Rattle.fc_image.specs.effects.Short.{is_alone, sectors_of_others}
 use Rattle.fc_image.specs.effects.Steady.{is_given_back}
 use Rattle.fc_image.proofs.EntriesLemmas.{in_filter}
-use Rattle.fc_image.proofs.HolesLemmas.{apart_at, apart_from, in_id}
+use Rattle.fc_image.proofs.HolesLemmas.{apart_at, apart_from}
 use Rattle.fc_image.proofs.MapEditLemmas.{places_law}
 use Rattle.fc_image.proofs.MoveLemmas.{not_true}
 use Rattle.fc_image.proofs.OneZoneLemmas.{and_first, and_second}
-use Rattle.fc_image.proofs.ShuffleLemmas.{IsPermutation-filter, flipped}
+use Rattle.fc_image.proofs.PathsLemmas.{itself}
 use Rattle.fc_tree.specs.Nodes.{number_of}
-use Rattle.fc_tree.proofs.MemberLemmas.{contains_cases, in_map, no_element}
+use Rattle.fc_tree.proofs.MemberLemmas.{in_map}
 use Rattle.fc_tree.proofs.WalkedLemmas.{same_some}
-use Rattle.fc_changes.proofs.BasicLemmas.{any_in, clash, unless}
+use Rattle.fc_changes.proofs.BasicLemmas.{clash, unless}
 use Rattle.fc_changes.proofs.ChangeLemmas.{a_sector}
+use Rattle.fc_changes.proofs.MadeLemmas.{turned}
 use Rattle.fc_changes.proofs.OutsideLemmas.{low_owned}
 use Rattle.fc_changes.proofs.PlacedLemmas.{filter_test}
 use Rattle.fc_changes.proofs.SpaceLemmas.{still_owned}
 use Rattle.fc_laws.specs.nodes.Laws.{IsHeld}
-use Rattle.fc_laws.proofs.lemmas.agree.BeforeLemmas.{new_facts, new_shape, object_lies, sound}
-use Rattle.fc_laws.proofs.lemmas.agree.NewPlaceLemmas.{some_there}
+use Rattle.fc_laws.proofs.lemmas.agree.BeforeLemmas.{new_shape, object_lies, sound}
 use Rattle.fc_laws.proofs.lemmas.agree.RoomLemmas.{dir_sector}
-use Rattle.fc_laws.proofs.lemmas.nodes.ListLemmas.{in_other}
 use Rattle.fc_laws.proofs.lemmas.nodes.OtherLemmas.{unlike}
-use Rattle.fc_edits.specs.Edit.{Edit, joining, objects}
+use Rattle.fc_edits.specs.Edit.{Edit, joining, leaving, numbers, objects}
 use Rattle.fc_edits.specs.Growing.{EditGrowing, Growing, at_place, grown}
-use Rattle.fc_edits.specs.GrownPlaces.{GrownPlacesLaw, GrowsAlone, GrowsElsewhere, GrowsThere, NewGrowing, TakesSpace}
+use Rattle.fc_edits.specs.GrownPlaces.{GrownPlacesLaw, GrowsAlone, GrowsElsewhere, GrowsThere, KeepsPlaceOf, NewGrowing, TakesSpace}
 use Rattle.fc_edits.specs.NewPlaces.{LiesAgain, NewPlaces, Taking, is_taken}
 use Rattle.fc_edits.specs.PartsEdit.{NewPartsEdit}
 use Rattle.fc_edits.specs.Places.{Stays}
 use Rattle.fc_edits.proofs.lemmas.GrowingLawLemmas as law
 use Rattle.fc_edits.proofs.lemmas.GrowingLemmas as growing
 use Rattle.fc_edits.proofs.lemmas.GrownMemberLemmas as members
+use Rattle.fc_edits.proofs.lemmas.IdentifierLemmas.{alone_facts, alone_one, among_flat, by_map, either, neither, owner_id, owns, taken_either, used_of}
+use Rattle.fc_edits.proofs.lemmas.LeavingLemmas.{left_among, left_number}
 use Rattle.fc_edits.proofs.lemmas.NewAgreeLemmas.{agree_now}
 use Rattle.fc_edits.proofs.lemmas.NewPlaceLemmas.{owned_by, places_fit, runs_keep}
-
--- ---- lists and tests
-
--- an element and the others
-pick : {X : Type 0} (xs : List X) (x : X) → Contains xs x → (rest : List X) × IsPermutation xs (x ∷ rest)
-pick [] x at = absurd (no_element x at)
-pick {X} (y ∷ xs) x at =
-    ⊎_elim (λ same. (xs, subst (λ (z : X). IsPermutation (y ∷ xs) (z ∷ xs)) same (IsPermutation-refl (y ∷ xs))))
-    (λ later. let r = pick xs x later in (y ∷ r.0, IsPermutation-trans (y ∷ xs) (y ∷ x ∷ r.0) (x ∷ y ∷ r.0) (IsPermutation-cons y xs (x ∷ r.0) r.1) (flipped y x r.0)))
-    (contains_cases y x xs at)
-
--- one that alone passes a test is each that passes it
-alone_passes : (t : Object → Bool) (os : List Object) (o p : Object) → length (filter t os) ≤ 1 → Contains os o → Contains os p → t o ≡ true → t p ≡ true → o ≡ p
-alone_passes t os o p few at bt passes too =
-    let r = pick os o at in
-    ⊎_elim (λ same. same)
-    (λ later.
-    let long = length_permutation (filter t os) (filter t (o ∷ r.0)) (IsPermutation-filter t os (o ∷ r.0) r.1) in
-    let more = some_in (filter t r.0) p (in_filter t r.0 p later too) in
-    let first : length (filter t (o ∷ r.0)) ≡ suc (length (filter t r.0)) = ap (λ (b : Bool). length (cond b (o ∷ filter t r.0) (filter t r.0))) passes in
-    absurd (omega (arith, long, more, first, few)))
-    (contains_cases o p r.0 (in_other os (o ∷ r.0) r.1 p bt))
-  where
-    some_in : (xs : List Object) (y : Object) → Contains xs y → 1 ≤ length xs
-    some_in [] y there = absurd (no_element y there)
-    some_in (z ∷ xs) y there = omega arith
-
-pub owns : (o : Object) (s : ℕ) → is_among o.sectors s ≡ true → is_owner_of (id_of o.entry.address) o ≡ true
-owns o s i = ap₂ (λ (a b : Bool). a && b) (some_there o.sectors s i) (eq-eqb (id_of o.entry.address) (id_of o.entry.address) refl)
-
-pub some_sector : (sectors : List ℕ) → nat_lt 0 (length sectors) ≡ true → (s : ℕ) × (is_among sectors s ≡ true)
-some_sector [] h = absurd (cc)
-some_sector (s ∷ sectors) h = (s, ap (λ (b : Bool). b || is_among sectors s) (eq-eqb s s refl))
-
-pub owner_id : (k : ℕ) (o : Object) → is_owner_of k o ≡ true → id_of o.entry.address ≡ k
-owner_id k o own = eqb-true (id_of o.entry.address) k (and_second (has_sectors o) (id_of o.entry.address == k) own)
-
-pub taken_either : (xs ys : List Taking) (k : ℕ) → is_taken (xs ++ ys) k ≡ (is_taken xs k || is_taken ys k)
-taken_either [] ys k = refl
-taken_either (t ∷ xs) ys k = by (t.id == k) (taken_either xs ys k)
-  where
-    by : (b : Bool) → is_taken (xs ++ ys) k ≡ (is_taken xs k || is_taken ys k) → (b || is_taken (xs ++ ys) k) ≡ ((b || is_taken xs k) || is_taken ys k)
-    by true rest = refl
-    by false rest = rest
-
-pub either : (a b : Bool) → (a || b) ≡ true → (a ≡ true) ⊎ (b ≡ true)
-either true b h = inl refl
-either false b h = inr h
-
-pub neither : (a b : Bool) → a ≡ false → b ≡ false → (a || b) ≡ false
-neither true b x y = absurd (cc)
-neither false b x y = y
-
--- the sectors of one of some objects
-among_flat : (os : List Object) (p : Object) (s : ℕ) → Contains os p → is_among p.sectors s ≡ true → is_among (flat_map (λ (q : Object). q.sectors) os) s ≡ true
-among_flat [] p s at i = absurd (no_element p at)
-among_flat (q ∷ os) p s at i =
-    ⊎_elim (λ same. in_front q.sectors (flat_map (λ (r : Object). r.sectors) os) s (subst (λ (r : Object). is_among r.sectors s ≡ true) (sym same) i))
-    (λ later. in_back q.sectors (flat_map (λ (r : Object). r.sectors) os) s (among_flat os p s later i)) (contains_cases q p os at)
-
--- the sectors of bytes, some
-pub by_map : (m : Map) (address n : ℕ) (sectors : List ℕ) → 0 < n → sectors_at (Layout.New m) address n ≡ Some sectors → new_sectors m address n ≡ Some sectors
-unfolding sectors_at
-by_map m address n sectors some h = by (n == 0) refl h
-  where
-    by : (b : Bool) → (n == 0) ≡ b → cond b (Some []) (new_sectors m address n) ≡ Some sectors → new_sectors m address n ≡ Some sectors
-    by true t f = absurd (let none = eqb-true n 0 t in omega (arith, none, some))
-    by false t f = f
 
 -- ---- the directory
 
@@ -163,19 +94,10 @@ module _ (x : NewGrowing) where
   o_in : Contains before o
   o_in = growing.o_in as_edit
 
-  zones : 1 ≤ x.m.geometry.zones
-  zones = (new_facts x.m x.agreed.is_map).zones
-
   -- ---- owners
 
   pub owner_used : (p : Object) → Contains before p → (k : ℕ) → is_owner_of k p ≡ true → is_used x.m k ≡ true
-  owner_used p at k own =
-      let s = some_sector p.sectors (and_first (has_sectors p) (id_of p.entry.address == k) own) in
-      let lies = object_lies x.kind x.m x.nodes x.owners x.root x.listings x.agreed p at in
-      let among = subst (λ (j : ℕ). is_among (id_sectors x.m j) s.0 ≡ true) (owner_id k p own) (in_id x.m p.entry.address _ p.sectors s.0 lies.placed s.1) in
-      let q = holder_of x.m.geometry (id_runs x.m k) s.0 among in
-      let there = id_run_in x.m k q.0 zones q.1.0 in
-      any_in (λ (r : ZoneRun). has_id k r.1.kind) (all_runs x.m) q.0 there.0 there.1
+  owner_used p at k own = used_of x.kind x.m x.nodes x.owners x.root x.listings x.agreed p at k own
 
   o_sector : (s : ℕ) × (is_among o.sectors s ≡ true)
   o_sector =
@@ -192,27 +114,15 @@ module _ (x : NewGrowing) where
   o_owned : is_owned before old_id ≡ true
   o_owned = owned_by before old_id o o_in o_owns
 
-  -- in its identifier alone, it is the one owner of it, and that isn't the map's
-  alone_facts : is_alone before o ≡ true → (length (filter (is_owner_of old_id) before) ≤ 1) × (old_id ≡ 2 → ⊥)
-  alone_facts alone =
-      by (old_id == 2) refl (eqb-true (owner_count before old_id) 1 (and_first (owner_count before old_id == 1) _ alone))
-      (some_of (filter (is_owner_of old_id) before) (in_filter (is_owner_of old_id) before o o_in o_owns))
-    where
-      some_of : (xs : List Object) → Contains xs o → 1 ≤ length xs
-      some_of [] at = absurd (no_element o at)
-      some_of (y ∷ xs) at = omega arith
-
-      by : (b : Bool) → (old_id == 2) ≡ b → length (filter (is_owner_of old_id) before) + (let n : ℕ = cond b 1 0 in n) ≡ 1 → 1 ≤ length (filter (is_owner_of old_id) before)
-          → (length (filter (is_owner_of old_id) before) ≤ 1) × (old_id ≡ 2 → ⊥)
-      by true t sum some = absurd (omega (arith, sum, some))
-      by false t sum some = (omega (arith, sum), λ two. clash (old_id == 2) (eq-eqb old_id 2 two) t)
+  its_alone : is_alone before o ≡ true → (length (filter (is_owner_of old_id) before) ≤ 1) × (old_id ≡ 2 → ⊥)
+  its_alone alone = alone_facts before o o_in o_sector alone
 
   -- another object
   pub differs : (p : Object) → Stays x.nodes x.listings e' p → is_same_path o.path p.path ≡ false
   differs p s = unlike x.nodes o.path p.path g.dir s.number x.grows.dir_is s.number_is (λ same. members.stays_other as_edit p s (sym same))
 
   alone_only : is_alone before o ≡ true → (p : Object) → Contains before p → is_owner_of old_id p ≡ true → o ≡ p
-  alone_only alone p at own = alone_passes (is_owner_of old_id) before o p (alone_facts alone).0 o_in at o_owns own
+  alone_only alone p at own = alone_one before o o_in o_sector alone p at own
 
   not_alone_stays : is_alone before o ≡ true → (p : Object) → Stays x.nodes x.listings e' p → is_owner_of old_id p ≡ true → ⊥
   not_alone_stays alone p s own =
@@ -317,7 +227,7 @@ module _ (x : NewGrowing) where
           → is_movable before k ≡ true
       by (inl there) = old (there_two there) there.address
       by (inr t) =
-          ⊎_elim (λ y. old (alone_facts y.alone).1 y.address)
+          ⊎_elim (λ y. old (its_alone y.alone).1 y.address)
           (λ y. absurd (clash (is_used x.m k) used (subst (λ (j : ℕ). is_used x.m j ≡ false) (sym (its_elsewhere t.0 y) ∙ k_is) (new_unused t.0 y)))) t.3
 
   anew_apart : (p : Object) → Stays x.nodes x.listings e' p → its ≡ id_of p.entry.address → is_apart g.sectors p.sectors ≡ true
@@ -355,10 +265,45 @@ module _ (x : NewGrowing) where
           ⊎_elim
           (λ y.
           let same : old_id ≡ k = sym y.id ∙ its_taking t.0 t.1 second in (
-            subst (λ (j : ℕ). is_movable before j ≡ true) same (movable (alone_facts y.alone).1),
+            subst (λ (j : ℕ). is_movable before j ≡ true) same (movable (its_alone y.alone).1),
             λ p s. unless (is_owner_of k p) (λ own. not_alone_stays y.alone p s (subst (λ (j : ℕ). is_owner_of j p ≡ true) (sym same) own)),
           ))
           (λ y. absurd (clash (is_used x.m k) used (subst (λ (j : ℕ). is_used x.m j ≡ false) (its_taking t.0 t.1 second) (new_unused t.0 y)))) t.3
+
+  -- what keeps the place of an object that leaves lies apart from it
+  kept_apart : (p : Object) → KeepsPlaceOf x.edit p → id_of p.entry.address ≡ its → is_apart p.sectors g.sectors ≡ true
+  kept_apart p q id = ap (λ (ss : List ℕ). is_apart ss g.sectors) q.2.sectors ∙ turned g.sectors q.0.1.sectors (by x.lies)
+    where
+      among : Contains before q.0.1
+      among = left_among x.nodes (Layout.New x.m) x.listings x.edit held x.is_edit q.0 q.1
+
+      number_is : number_of x.nodes q.0.1.path ≡ Some q.0.0
+      number_is = left_number x.nodes (Layout.New x.m) x.listings x.edit held x.is_edit q.0 q.1
+
+      differs' : q.0.0 ≡ g.dir → ⊥
+      differs' same = members.dir_stays as_edit (subst (Contains (numbers (leaving x.edit))) same (in_map (λ (r : ℕ × Object). r.0) (leaving x.edit) q.0 q.1))
+
+      other : is_same_path o.path q.0.1.path ≡ false
+      other = unlike x.nodes o.path q.0.1.path g.dir q.0.0 x.grows.dir_is number_is (λ same. differs' (sym same))
+
+      by : GrowsThere x.m before g x.own ⊎ ((t : Taking) × (x.own ≡ t ∷ []) × TakesSpace x.m before x.before g t × (GrowsAlone x.m before g t ⊎ GrowsElsewhere x.m before x.before g t))
+          → is_apart g.sectors q.0.1.sectors ≡ true
+      by (inl there) = there_apart there q.0.1 among other
+      by (inr t) =
+          ⊎_elim
+          (λ y.
+          apart_from g.sectors q.0.1.sectors
+          (λ n i j.
+          let own : is_owner_of old_id q.0.1 ≡ true = subst (λ (k : ℕ). is_owner_of k q.0.1 ≡ true) (sym (ap id_of q.2.address) ∙ id ∙ ap id_of y.address) (owns q.0.1 n j) in
+          clash (is_same_path o.path q.0.1.path) (ap (λ (r : Object). is_same_path o.path r.path) (sym (alone_only y.alone q.0.1 among own)) ∙ itself o.path) other))
+          (λ y.
+          apart_from g.sectors q.0.1.sectors
+          (λ n i j.
+          clash (is_used x.m (id_of q.0.1.entry.address)) (owner_used q.0.1 among (id_of q.0.1.entry.address) (owns q.0.1 n j))
+          (subst (λ (k : ℕ). is_used x.m k ≡ false) (sym (its_elsewhere t.0 y) ∙ sym id ∙ ap id_of q.2.address) (new_unused t.0 y)))) t.3
+
+  joins_apart : (p : ℕ × Object) → Contains (joining x.edit) p → id_of p.1.entry.address ≡ its → is_apart p.1.sectors g.sectors ≡ true
+  joins_apart p at = ⊎_elim (λ q. kept_apart p.1 q) (λ apart. apart) (x.apart p at)
 
   lies_still : (p : Object) → LiesAgain x.m x.nodes x.listings x.edit p → LiesAgain x.m x.nodes x.listings e' p
   lies_still p (inl q) = inl (q.0, members.still_leaves as_edit q.0 q.1, q.2)
@@ -373,7 +318,7 @@ module _ (x : NewGrowing) where
     again = again;
     placed = members.joins_either as_edit (IsAt (Layout.New x.m')) x.at x.placed;
     lies = members.joins_either as_edit (LiesAgain x.m x.nodes x.listings e') (inr (anew_loose, anew_apart)) (λ p at. lies_still p.1 (x.lie p at));
-    pairs = members.apart_joining as_edit x.pairs x.apart;
+    pairs = members.apart_joining as_edit x.pairs joins_apart;
   }
 
   abbrev pub grown_parts : NewPartsEdit

@@ -1,5 +1,5 @@
 -- The root grows: the edit with it is one.
-use Rattle.std.proofs.Common.{◌≡◌, ◌⊎◌, inl, inr, ⊎_elim, ℕ, List, [], ◌∷◌, ◌++◌, map, flat_map, refl, sym, ap, ap₂, subst, ◌∙◌, None}
+use Rattle.std.proofs.Common.{◌≡◌, inr, ℕ, List, [], ◌∷◌, ◌++◌, map, flat_map, sym, ap, subst, ◌∙◌, None}
 use Rattle.std.specs.Prelude.{Contains, IsPermutation}
 use Rattle.std.proofs.lemmas.List.Elements.{Contains-append_left, Contains-append_right}
 use Rattle.fc_names.specs.Names.{Path}
@@ -11,7 +11,7 @@ use Rattle.fc_tree.proofs.MemberLemmas.{contains_here, contains_later, in_map}
 use Rattle.fc_tree.proofs.WalkedLemmas.{same_some}
 use Rattle.fc_laws.proofs.lemmas.nodes.ListLemmas.{in_first}
 use Rattle.fc_laws.proofs.lemmas.nodes.OtherLemmas.{top_object}
-use Rattle.fc_edits.specs.Edit.{Amended, Edit, IsAmended, IsEdit, KeepsEntry, TopTurns, joined_in, leaving, left_in, numbers, objects, turned}
+use Rattle.fc_edits.specs.Edit.{Amended, Edit, IsAmended, IsEdit, TopTurns, joined_in, leaving, left_in, numbers, objects, turned}
 use Rattle.fc_edits.specs.Growing.{EditGrowing, grown_by, regrown, told}
 use Rattle.fc_edits.specs.NodesEdit.{NodesEdit}
 use Rattle.fc_edits.proofs.lemmas.AroundLemmas as ar

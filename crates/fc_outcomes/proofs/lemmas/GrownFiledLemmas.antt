@@ -49,6 +49,7 @@ use Rattle.fc_outcomes.specs.Addition.{IsItsFile}
 use Rattle.fc_outcomes.specs.Puts.{Put}
 use Rattle.fc_outcomes.specs.GrownAddition.{GrownAdded, GrownAdditionLaw, IsItsGrownDirectory, NewGrownAdditionWritten}
 use Rattle.fc_outcomes.proofs.lemmas.GrownAddedLemmas as added
+use Rattle.fc_outcomes.proofs.lemmas.GrownAskedLemmas as asked
 use Rattle.fc_outcomes.proofs.lemmas.AddedLemmas.{none_taken, taken_is}
 use Rattle.fc_outcomes.proofs.lemmas.JoinedLemmas.{Makes, makes_directory, makes_file}
 use Rattle.fc_outcomes.proofs.lemmas.GrownMayLemmas.{directory_may, object_may}
@@ -199,9 +200,9 @@ module _ (x : NewGrownAddition) (c : Command) (path : Path) (load exec : ℕ) (p
   new_file place =
       new_image.changes_by (added.on_new x c path puts stored image image' wr) c [] (added.keeps x c path puts stored image image' wr)
       (λ found sound' order.
-      added.asked x c path puts stored image image' wr n names found sound' order
+      asked.asked x c path puts stored image image' wr n names found sound' order
       (ap (λ (q : Option (ℕ × ℕ)). holes_left (hole_runs x.m) (slots q)) share_is ∙ left_by place)
-      (λ k taken. high_by place k taken found (added.o_found x c path puts stored image image' wr n names found sound' order))
+      (λ k taken. high_by place k taken found (asked.o_found x c path puts stored image image' wr n names found sound' order))
       (subst (λ (q : Option (ℕ × ℕ)). 0 < cond (is_some q) 0 (units x.m.geometry n) → is_taken (takings_of x.id x.parts) (id_of o.entry.address) ≡ true) (sym share_is) (taken_by place))
       (subst (λ (q : Option (ℕ × ℕ)). NewObjectPlaced x.m x.m' n q (Some o)) (sym share_is) (lies_by place)) (empty_by place) (no_directory image' _))
       (λ found edited. tree found (as_new found edited))
@@ -258,7 +259,7 @@ module _ (x : NewGrownAddition) (path : Path) (d : Listing) (puts : List Put) (s
       let among : Contains (listings_after e') d =
       Contains-append_left (map (λ (y : ℕ × Listing). y.1) (map (λ (y : Listing). (x.c.number, y)) x.c.into)) (map (now e') e'.amended ++ map (still e') e'.same) d
       (in_map (λ (y : ℕ × Listing). y.1) (map (λ (y : Listing). (x.c.number, y)) x.c.into) (x.c.number, d) (in_map (λ (y : Listing). (x.c.number, y)) x.c.into d there)) in
-      let holder_is = added.its_holder x (Command.Cdir path) path puts stored image image' wr size makes found sound' order in
+      let holder_is = asked.its_holder x (Command.Cdir path) path puts stored image image' wr size makes found sound' order in
       subst (λ (q : Option Listing). IsSomeAnd q (IsMadeDirectory image' (record { kind = x.kind; layout = Layout.New x.m'; listings = found }) path))
       (sym (lookup_law.listing (Layout.New x.m') found path d sound' (in_other (listings_after e') found order d among) (ap (λ (r : Object). is_same_path path r.path) empty.object ∙ wr.path_is)))
       (record {
@@ -271,8 +272,8 @@ module _ (x : NewGrownAddition) (path : Path) (d : Listing) (puts : List Put) (s
   new_directory_made place =
       new_image.changes_by (added.on_new x (Command.Cdir path) path puts stored image image' wr) (Command.Cdir path) [] (added.keeps x (Command.Cdir path) path puts stored image image' wr)
       (λ found sound' order.
-      added.asked x (Command.Cdir path) path puts stored image image' wr size makes found sound' order (left_new x size 0 (omega arith) place)
-      (λ k taken. high_new x size 0 (omega arith) place k taken its_size found (added.o_found x (Command.Cdir path) path puts stored image image' wr size makes found sound' order))
+      asked.asked x (Command.Cdir path) path puts stored image image' wr size makes found sound' order (left_new x size 0 (omega arith) place)
+      (λ k taken. high_new x size 0 (omega arith) place k taken its_size found (asked.o_found x (Command.Cdir path) path puts stored image image' wr size makes found sound' order))
       (λ some. taken_new x size 0 (omega arith) place)
       (λ some. stands_now x.m x.m' size 0 x.id x.parts p x.agreed.is_map x.geometry (omega arith) place (runs_are x size 0 (omega arith) place)
       (ap (λ (b : Bool). cond b 0 (file_low x.m'.geometry (bits_in (id_runs x.m' (id_of p.entry.address)) * x.m'.geometry.bit_bytes) p.entry.len)) directory))

@@ -47,7 +47,8 @@ use Rattle.fc_edits.proofs.lemmas.ListLemmas.{is_in}
 use Rattle.fc_edits.proofs.lemmas.NewPlaceLemmas as np_
 use Rattle.fc_edits.proofs.lemmas.NumberLemmas as n_
 use Rattle.fc_edits.proofs.lemmas.ShapeLemmas.{only}
-use Rattle.fc_outcomes.specs.GrownAddition.{Grows, grown_view}
+use Rattle.fc_outcomes.specs.GrownAddition.{grown_view}
+use Rattle.fc_outcomes.specs.Growth.{Grows}
 use Rattle.fc_outcomes.proofs.lemmas.NewOutsideLemmas.{loose_busy}
 
 module _ (x : NewGrownAddition) (c : Command) (image : List ℕ) (opens : OpensAs image x.kind (grown_view x)) (named : holds_named c x.c.l.object.path ≡ true) where

@@ -26,7 +26,8 @@ use Rattle.fc_changes.proofs.BasicLemmas.{clash, unless}
 use Rattle.fc_edits.specs.Growing.{Growing, at_place}
 use Rattle.fc_edits.specs.GrownPlaces.{GrowsAlone, GrowsElsewhere, GrowsThere, NewGrowing, TakesSpace}
 use Rattle.fc_edits.specs.NewPlaces.{Taking, is_taken, untaken}
-use Rattle.fc_edits.proofs.lemmas.GrownPlaceLemmas.{anew_owns, o_used, taken_either}
+use Rattle.fc_edits.proofs.lemmas.GrownPlaceLemmas.{anew_owns, o_used}
+use Rattle.fc_edits.proofs.lemmas.IdentifierLemmas.{taken_either}
 use Rattle.fc_edits.proofs.lemmas.NewPlaceLemmas.{owned_by}
 use Rattle.fc_edits.proofs.lemmas.NewSpaceLemmas.{new_id_high, new_id_unused, used_after}
 
@@ -174,8 +175,7 @@ module _ (x : NewGrowing) (c : Command) (growth : growth_in (record { kind = x.k
         keeps t =
             ⊎_elim (λ y. subst (λ (b : Bool). KeepsOrGetsId b x.m x.m' o anew) (sym y.alone) y.address)
             (λ y.
-            subst (λ (b : Bool). KeepsOrGetsId b x.m x.m' o anew) (sym y.not_alone)
-            (
+            subst (λ (b : Bool). KeepsOrGetsId b x.m x.m' o anew) (sym y.not_alone) (
               subst (IsNewId x.m x.m') (sym (its_id t)) (record { free = y.is_new; used = used_after x.m x.m' t.0.id t.0.parts x.agreed.is_map x.geometry (parts_some t) (runs_of t) }),
               ap low_of y.address ∙ (let q : 256 * t.0.id % 256 ≡ 0 = omega arith in q),
             )) t.3
@@ -183,8 +183,7 @@ module _ (x : NewGrowing) (c : Command) (growth : growth_in (record { kind = x.k
         by : GrowsThere x.m before g x.own ⊎ Takes → GrowthPlaced v.layout w.layout v c (made_object w c) anew (Some its) (moved_growth v c)
         by (inl here) = subst (GrowthPlaced v.layout w.layout v c (made_object w c) anew (Some its)) (sym (moved_there here)) (refl, here.address)
         by (inr t) =
-            subst (GrowthPlaced v.layout w.layout v c (made_object w c) anew (Some its)) (sym (moved_takes t))
-            (
+            subst (GrowthPlaced v.layout w.layout v c (made_object w c) anew (Some its)) (sym (moved_takes t)) (
               refl,
               record {
                 id = keeps t;

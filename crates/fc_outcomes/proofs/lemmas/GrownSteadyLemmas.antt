@@ -31,7 +31,7 @@ use Rattle.fc_edits.proofs.lemmas.GrowingLawLemmas as law
 use Rattle.fc_edits.proofs.lemmas.GrowingLemmas.{its_path, same_both}
 use Rattle.fc_edits.proofs.lemmas.ListLemmas.{map_map}
 use Rattle.fc_edits.proofs.lemmas.NumberLemmas as n_
-use Rattle.fc_outcomes.specs.GrownAddition.{holder_now}
+use Rattle.fc_outcomes.specs.Growth.{holder_now}
 use Rattle.fc_outcomes.proofs.lemmas.SteadyLemmas.{out_or_stay, stay_found}
 
 -- paths that lead to one place are the same to any path

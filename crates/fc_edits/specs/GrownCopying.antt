@@ -1,0 +1,70 @@
+-- `rename` that copies its file into a directory that grows by it, as an edit on a new map.
+use Rattle.std.specs.Prelude.{◌≡◌, ◌<◌, ℕ, List, ◌++◌}
+use Rattle.fc_names.specs.Names.{Path}
+use Rattle.fc_record.specs.declared.Kind.{Kind}
+use Rattle.fc_newmap.specs.Map.{Map, ZoneRun}
+use Rattle.fc_newmap.specs.NewMap.{IsNewMap}
+use Rattle.fc_alloc.specs.declared.owner.Owner.{Owner}
+use Rattle.fc_image.specs.Layout.{Layout, dir_form}
+use Rattle.fc_image.specs.Walk.{Listing, object_size}
+use Rattle.fc_image.specs.Objects.{objects_of}
+use Rattle.fc_image.specs.Edits.{IsAt}
+use Rattle.fc_tree.specs.declared.node.Node.{Node}
+use Rattle.fc_laws.specs.nodes.Edits.{Nodes, OwnersEdited, owners_with}
+use Rattle.fc_laws.specs.nodes.Laws.{IsHeld}
+use Rattle.fc_laws.specs.agree.Agreed.{AgreeOn}
+use Rattle.fc_edits.specs.Copying.{Copies, Copying, copied, edit}
+use Rattle.fc_edits.specs.Edit.{AreEdited, Edit, IsEdit, listings_after, owners_joined, owners_left}
+use Rattle.fc_edits.specs.Growing.{Growing, IsGrowing, at_place, grown, up_of}
+use Rattle.fc_edits.specs.GrownPlaces.{IsGrownAt}
+use Rattle.fc_edits.specs.NewNodes.{nodes_after}
+use Rattle.fc_edits.specs.NewPlaces.{GivesBack, IsSpaceChange, NewPlaces, Taking}
+use Rattle.fc_edits.specs.Placing.{IsPlaced, takings_of}
+use Rattle.fc_edits.specs.Places.{AgreeNow}
+
+abbrev pub grown_edit : Copying → Growing → Edit
+grown_edit c g = grown (edit c) g
+
+-- A file is copied into a directory, which grows by it. The copy takes its space first, and then the directory its own.
+pub record NewGrownCopying : Type 0 where
+  pub kind : Kind
+  pub m : Map
+  pub m' : Map
+  pub nodes : Nodes
+  pub nodes' : Nodes
+  pub owners : List Owner
+  pub owners' : List Owner
+  pub root : Node
+  pub listings : List Listing
+  pub c : Copying
+  pub growing : Growing
+  pub id : ℕ
+  pub parts : List ZoneRun
+  pub own : List Taking
+  pub gone : List ℕ
+  pub near : Path
+  pub agreed : AgreeOn kind m nodes owners root listings
+  pub copies : Copies nodes listings c
+  pub grows : IsGrowing nodes (Layout.New m) (edit c) growing
+  pub nodes_edited : AreEdited nodes nodes' (grown_edit c growing)
+  pub owners_edited : OwnersEdited owners owners' (owners_with (Layout.New m) (up_of growing.holder) growing.dir growing.o ++ owners_left (Layout.New m) (edit c))
+      (owners_with (Layout.New m') (up_of growing.holder) growing.dir (at_place growing growing.o) ++ owners_joined (Layout.New m') (edit c))
+  pub is_map : IsNewMap m'
+  pub geometry : m'.geometry ≡ m.geometry
+  pub space : IsSpaceChange m m' (takings_of id parts ++ own) gone
+  pub gives : GivesBack m (takings_of id parts ++ own) gone listings (grown_edit c growing)
+  pub some : 0 < growing.len
+  pub lies : IsGrownAt m (objects_of listings) (takings_of id parts) growing own
+  pub grown_at : IsAt (Layout.New m') (at_place growing growing.o)
+  pub at : IsAt (Layout.New m') (copied c c.o)
+  pub place : IsPlaced m (objects_of listings) near (object_size (dir_form (Layout.New m')) (copied c c.o).entry) id parts (copied c c.o)
+
+pub record GrownCopyingLaw : Type 0 where
+  -- It is an edit, and these are the nodes after it.
+  pub is_edit : (nodes : Nodes) (layout : Layout) (listings : List Listing) (c : Copying) (g : Growing) → IsHeld nodes layout listings → Copies nodes listings c
+      → IsGrowing nodes layout (edit c) g → IsEdit nodes listings (grown_edit c g)
+  pub nodes : (nodes : Nodes) (layout : Layout) (listings : List Listing) (c : Copying) (g : Growing) → IsHeld nodes layout listings → Copies nodes listings c
+      → IsGrowing nodes layout (edit c) g → AreEdited nodes (nodes_after (grown_edit c g) nodes) (grown_edit c g)
+  -- It has its places, and the parts after it agree.
+  pub new_places : (x : NewGrownCopying) → NewPlaces x.kind x.m x.m' x.nodes x.listings (grown_edit x.c x.growing) (takings_of x.id x.parts ++ x.own) x.gone
+  pub new : (x : NewGrownCopying) → AgreeNow x.kind x.m' x.nodes' x.owners' (listings_after (grown_edit x.c x.growing))
