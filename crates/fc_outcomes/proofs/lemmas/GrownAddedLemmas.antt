@@ -1,5 +1,5 @@
 -- `save`, `create` and `cdir` in a directory that grows, on images.
-use Rattle.std.proofs.Common.{◌≡◌, ◌<◌, ◌⊎◌, inl, inr, ⊎_elim, ℕ, Bool, true, false, cond, List, [], ◌∷◌, ◌++◌, length, map, refl, sym, ap, ap₂, subst, ◌∙◌, arith, Some, None, Option}
+use Rattle.std.proofs.Common.{◌≡◌, inl, inr, ⊎_elim, ℕ, Bool, true, false, cond, List, [], ◌∷◌, ◌++◌, map, refl, sym, ap, ap₂, subst, ◌∙◌, Some, None, Option}
 use Rattle.std.specs.Prelude.{Contains, IsPermutation, is_some}
 use Rattle.std.proofs.lemmas.List.{append-nil}
 use Rattle.std.proofs.lemmas.List.Sorted.{IsPermutation-refl}
@@ -8,27 +8,24 @@ use Rattle.fc_names.specs.declared.name.NameForm.{NameForm}
 use Rattle.fc_record.specs.declared.Geometry.{Geometry}
 use Rattle.fc_model.specs.Command.{Command}
 use Rattle.fc_dirs.specs.declared.Entry.{Entry}
-use Rattle.fc_dirs.specs.Directory.{directory_size, entries_of}
+use Rattle.fc_dirs.specs.Directory.{entries_of}
 use Rattle.fc_dirs.specs.Entries.{entry_named, has_name, with_entry}
 use Rattle.fc_image.specs.Layout.{Layout, bytes_in, dir_form}
-use Rattle.fc_image.specs.Walk.{Listing, Object, is_directory_object, object_bytes, object_size, root_entry}
-use Rattle.fc_image.specs.Objects.{objects_of}
+use Rattle.fc_image.specs.Walk.{Listing, Object, is_directory_object, object_bytes, object_size}
 use Rattle.fc_image.specs.Commanded.{IsKept}
 use Rattle.fc_image.specs.Opening.{Opened}
 use Rattle.fc_image.specs.effects.Steady.{replaced_entry, with_made}
 use Rattle.fc_image.proofs.LookupLemmas.{lookup_law}
-use Rattle.fc_image.proofs.PathsLemmas.{itself}
 use Rattle.fc_tree.proofs.MemberLemmas.{contains_cases, contains_here, contains_later, from_map, no_element}
 use Rattle.fc_tree.proofs.SoundLemmas.{children_stored}
-use Rattle.fc_tree.proofs.WalkedLemmas.{child_is_object, child_path, given}
+use Rattle.fc_tree.proofs.WalkedLemmas.{child_is_object, child_path}
 use Rattle.fc_changes.proofs.BasicLemmas.{clash, unless}
 use Rattle.fc_changes.proofs.PlacedLemmas.{found_in}
 use Rattle.fc_changes.proofs.ReadsLemmas.{LiesIn, lies_in, same_path_of}
 use Rattle.fc_laws.specs.nodes.Laws.{IsHeld}
-use Rattle.fc_laws.proofs.lemmas.nodes.OtherLemmas.{top_object}
 use Rattle.fc_edits.specs.Addition.{amended, edit, leaves}
-use Rattle.fc_edits.specs.Edit.{Amended, Edit, TopStays, TopTurns, joining, leaving, numbers, objects}
-use Rattle.fc_edits.specs.Growing.{EditGrowing, Growing, Holder, Holds, IsHeldBy, amended_by, amended_first, at_place, grown_by, holding, told, top_by}
+use Rattle.fc_edits.specs.Edit.{Amended, Edit, joining, leaving, numbers, objects}
+use Rattle.fc_edits.specs.Growing.{EditGrowing, Growing, Holder, Holds, IsHeldBy, amended_by, amended_first, at_place, grown_by, holding, told}
 use Rattle.fc_edits.specs.GrownAddition.{NewGrownAddition, grown_edit}
 use Rattle.fc_edits.specs.GrownPlaces.{NewGrowing}
 use Rattle.fc_edits.specs.NodesEdit.{NodesEdit}
@@ -38,14 +35,14 @@ use Rattle.fc_edits.proofs.lemmas.AdditionLemmas as memory
 use Rattle.fc_edits.proofs.lemmas.AgreeLemmas as ag
 use Rattle.fc_edits.proofs.lemmas.AroundLemmas as ar
 use Rattle.fc_edits.proofs.lemmas.GrowingLawLemmas as law
-use Rattle.fc_edits.proofs.lemmas.GrowingLemmas.{its_path, its_turn, o_directory, o_in}
+use Rattle.fc_edits.proofs.lemmas.GrowingLemmas.{its_path, its_turn, o_directory}
 use Rattle.fc_edits.proofs.lemmas.GrownAdditionLemmas as ga
 use Rattle.fc_edits.proofs.lemmas.GrownMemberLemmas as members
 use Rattle.fc_edits.proofs.lemmas.GrownPlaceLemmas as place
 use Rattle.fc_edits.proofs.lemmas.NewAgreeLemmas as na
 use Rattle.fc_edits.proofs.lemmas.ShapeLemmas.{only}
 use Rattle.fc_outcomes.specs.GrownAddition.{NewGrownAdditionWritten}
-use Rattle.fc_outcomes.specs.NewImage.{NewImageEdit, RootLeft}
+use Rattle.fc_outcomes.specs.NewImage.{NewImageEdit}
 use Rattle.fc_outcomes.specs.Puts.{ArePutsOf, IsDirectoryPut, Put}
 use Rattle.fc_outcomes.specs.Written.{KeepsPaths}
 use Rattle.fc_outcomes.proofs.lemmas.GrownImageLemmas as gi

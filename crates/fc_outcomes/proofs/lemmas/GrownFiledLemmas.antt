@@ -14,7 +14,7 @@ use Rattle.fc_model.specs.Tree.{holder, last_name}
 use Rattle.fc_dirs.specs.Directory.{directory_size}
 use Rattle.fc_image.specs.Layout.{Layout, dir_form, id_of, sectors_at}
 use Rattle.fc_image.specs.Walk.{Listing, Object, is_directory_object, object_bytes, object_size}
-use Rattle.fc_image.specs.Objects.{is_owned, listing_at, object_at, objects_of, tree_of}
+use Rattle.fc_image.specs.Objects.{is_owned, listing_at, objects_of, tree_of}
 use Rattle.fc_image.specs.Opening.{Opened}
 use Rattle.fc_image.specs.Sound.{AreSound}
 use Rattle.fc_image.specs.Commanded.{IsFileMade}
@@ -29,7 +29,6 @@ use Rattle.fc_plan.specs.Taking.{as_runs}
 use Rattle.fc_plan.proofs.Units.{units_some}
 use Rattle.fc_tree.proofs.MemberLemmas.{contains_here, in_map}
 use Rattle.fc_changes.specs.Changed.{IsFileAt, IsInNewSpace}
-use Rattle.fc_changes.proofs.BeforeLemmas.{address_by}
 use Rattle.fc_changes.proofs.ChangeLemmas.{a_sector}
 use Rattle.fc_changes.proofs.MadeLemmas.{file_low_small, no_slack}
 use Rattle.fc_changes.proofs.OutsideLemmas.{object_owns}
@@ -37,9 +36,8 @@ use Rattle.fc_changes.proofs.PlacedLemmas.{is_shared}
 use Rattle.fc_laws.proofs.lemmas.agree.BeforeLemmas.{new_shape}
 use Rattle.fc_laws.proofs.lemmas.agree.DirectoryAddedLemmas.{size_of_new}
 use Rattle.fc_laws.proofs.lemmas.nodes.ListLemmas.{in_other}
-use Rattle.fc_edits.specs.Addition.{ComesAlone, amended, edit, over_it}
+use Rattle.fc_edits.specs.Addition.{ComesAlone, over_it}
 use Rattle.fc_edits.specs.Edit.{Edit, listings_after, now, objects, still}
-use Rattle.fc_edits.specs.Growing.{Holder, amended_by, amended_first}
 use Rattle.fc_edits.specs.GrownAddition.{NewGrownAddition, grown_edit}
 use Rattle.fc_edits.specs.NewPlaces.{Taking, is_taken}
 use Rattle.fc_edits.specs.Placing.{takings_of}

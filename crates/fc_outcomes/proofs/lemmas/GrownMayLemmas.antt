@@ -1,5 +1,5 @@
 -- What may be written at every exit if a directory grows by a new object.
-use Rattle.std.proofs.Common.{◌≡◌, ◌⊎◌, inl, inr, ⊎_elim, ℕ, Bool, true, false, cond, List, [], ◌∷◌, ◌++◌, map, refl, sym, ap, subst, ◌∙◌, None, Option, Some}
+use Rattle.std.proofs.Common.{◌≡◌, ◌⊎◌, inl, inr, ⊎_elim, ℕ, Bool, true, false, cond, List, [], ◌++◌, map, refl, sym, ap, subst, ◌∙◌, None, Option, Some}
 use Rattle.std.specs.Prelude.{Contains, IsPermutation, ◌||◌}
 use Rattle.std.proofs.lemmas.List.{append-nil}
 use Rattle.fc_names.specs.Names.{is_same_path}
@@ -9,7 +9,7 @@ use Rattle.fc_newmap.specs.RunsLaw.{HoldsSector}
 use Rattle.fc_newmap.proofs.PlaceLemmas.{in_back}
 use Rattle.fc_model.specs.Command.{Command}
 use Rattle.fc_image.specs.Layout.{Layout, is_among, is_apart}
-use Rattle.fc_image.specs.Walk.{Listing, Object, is_directory_object}
+use Rattle.fc_image.specs.Walk.{Object, is_directory_object}
 use Rattle.fc_image.specs.Objects.{objects_of}
 use Rattle.fc_image.specs.Opening.{boot_place, reserved_in}
 use Rattle.fc_image.specs.Stays.{IsNewKind, OpensAs}

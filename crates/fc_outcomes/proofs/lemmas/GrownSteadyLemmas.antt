@@ -1,5 +1,5 @@
 -- Directories after an edit in which one grows: who holds them, and their entries.
-use Rattle.std.proofs.Common.{◌≡◌, ⊎_elim, ℕ, Bool, true, false, cond, List, [], ◌∷◌, ◌++◌, map, refl, sym, ap, ap₂, subst, ◌∙◌, Option, Some}
+use Rattle.std.proofs.Common.{◌≡◌, ⊎_elim, ℕ, Bool, true, false, cond, List, [], map, refl, sym, ap, ap₂, subst, ◌∙◌, Option, Some}
 use Rattle.std.specs.Prelude.{Contains, IsPermutation}
 use Rattle.std.specs.Option.{option_and_then}
 use Rattle.fc_names.specs.Names.{Path, is_same_path}
@@ -11,7 +11,7 @@ use Rattle.fc_dirs.specs.Directory.{entries_of}
 use Rattle.fc_image.specs.Layout.{Layout}
 use Rattle.fc_image.specs.Report.{holder_address}
 use Rattle.fc_image.specs.Walk.{Listing, Object}
-use Rattle.fc_image.specs.Objects.{object_at, objects_of}
+use Rattle.fc_image.specs.Objects.{object_at}
 use Rattle.fc_image.specs.Opening.{Opened}
 use Rattle.fc_image.specs.Sound.{AreSound}
 use Rattle.fc_image.specs.effects.Short.{Growth, growth_in}

@@ -1,5 +1,5 @@
 -- What a command has done on an image with a new map.
-use Rattle.std.proofs.Common.{◌≡◌, ◌⊎◌, inl, inr, ◌++◌, List, map, sym, subst}
+use Rattle.std.proofs.Common.{◌≡◌, inl, inr, ◌++◌, List, map, sym, subst}
 use Rattle.fc_names.specs.Names.{Path}
 use Rattle.fc_record.specs.declared.Geometry.{Geometry}
 use Rattle.fc_newmap.specs.Map.{Map}
