@@ -1,8 +1,9 @@
 -- `rename` to another directory, and within one, as an object that moves.
-use Rattle.std.specs.Prelude.{◌≡◌, ℕ, false, List, [], ◌∷◌, ◌++◌, map, Contains, Some, IsPermutation}
+use Rattle.std.specs.Prelude.{◌≡◌, ℕ, false, List, [], ◌∷◌, ◌++◌, map, Contains, None, Some, IsPermutation}
 use Rattle.fc_names.specs.Names.{folded_path}
 use Rattle.fc_model.specs.Tree.{is_prefix}
 use Rattle.fc_dirs.specs.Directory.{Directory, entries_of}
+use Rattle.fc_dirs.specs.Entries.{first_twin}
 use Rattle.fc_alloc.specs.declared.owner.Owner.{Owner}
 use Rattle.fc_image.specs.Layout.{Layout}
 use Rattle.fc_image.specs.Walk.{Listing, Object}
@@ -14,7 +15,7 @@ use Rattle.fc_laws.specs.nodes.Edits.{Nodes, OwnersEdited, owners_with}
 use Rattle.fc_laws.specs.nodes.Laws.{IsHeld}
 use Rattle.fc_laws.specs.agree.Agreed.{CanSay}
 use Rattle.fc_edits.specs.Edit.{Amended, owners_joined, owners_left}
-use Rattle.fc_edits.specs.Moving.{IsMoving, Moving, edit, moved}
+use Rattle.fc_edits.specs.Moving.{IsMoving, Moves, Moving, edit, moved}
 
 -- ---- to another directory
 
@@ -52,6 +53,23 @@ to_it c = record {
 
 abbrev pub transfer_of : Transfer → Moving
 transfer_of c = record { dirs = from_it c ∷ (to_it c ∷ []); l = c.l; own = c.own; rest = c.rest; o = c.o; number = c.number; name = c.name }
+
+-- What a directory says then may need another length, which growth gives it.
+pub record Transfers (nodes : Nodes) (listings : List Listing) (c : Transfer) : Type 0 where
+  pub found : IsPermutation listings (c.k ∷ (c.l ∷ (map (λ (d : Listing × Directory). d.0) c.own ++ c.rest)))
+  pub home_is : number_of nodes c.k.object.path ≡ Some c.home
+  pub dir_is : number_of nodes c.l.object.path ≡ Some c.dir
+  pub number_is : number_of nodes c.o.path ≡ Some c.number
+  pub not_into : is_prefix (folded_path c.o.path) (folded_path c.l.object.path) ≡ false
+  pub k_holds : IsPermutation c.k.children (c.o ∷ c.kids)
+  pub k_children : IsPermutation c.k_children (map (moved (transfer_of c)) c.kids)
+  pub k_entries : map (λ (p : Object). p.entry) c.k_children ≡ entries_of c.k_content
+  pub k_apart : first_twin (entries_of c.k_content) ≡ None
+  pub l_children : IsPermutation c.l_children (moved (transfer_of c) c.o ∷ map (moved (transfer_of c)) c.l.children)
+  pub l_entries : map (λ (p : Object). p.entry) c.l_children ≡ entries_of c.l_content
+  pub l_apart : first_twin (entries_of c.l_content) ≡ None
+  pub own_is : (d : Listing × Directory) → Contains c.own d → (d.0.object ≡ c.o) × (entries_of d.1 ≡ entries_of d.0.content)
+  pub others : (k : Listing) → Contains c.rest k → k.object ≡ c.o → ⊥
 
 pub record IsTransfer (nodes : Nodes) (layout : Layout) (listings : List Listing) (c : Transfer) : Type 0 where
   pub found : IsPermutation listings (c.k ∷ (c.l ∷ (map (λ (d : Listing × Directory). d.0) c.own ++ c.rest)))
@@ -97,6 +115,17 @@ within c = record {
 abbrev pub renaming_of : Renaming → Moving
 renaming_of c = record { dirs = within c ∷ []; l = c.l; own = c.own; rest = c.rest; o = c.o; number = c.number; name = c.name }
 
+pub record Renames (nodes : Nodes) (listings : List Listing) (c : Renaming) : Type 0 where
+  pub found : IsPermutation listings (c.l ∷ (map (λ (d : Listing × Directory). d.0) c.own ++ c.rest))
+  pub dir_is : number_of nodes c.l.object.path ≡ Some c.dir
+  pub number_is : number_of nodes c.o.path ≡ Some c.number
+  pub holds : IsPermutation c.l.children (c.o ∷ c.kids)
+  pub holds_now : IsPermutation c.children (moved (renaming_of c) c.o ∷ map (moved (renaming_of c)) c.kids)
+  pub stored : map (λ (p : Object). p.entry) c.children ≡ entries_of c.content
+  pub apart : first_twin (entries_of c.content) ≡ None
+  pub own_is : (d : Listing × Directory) → Contains c.own d → (d.0.object ≡ c.o) × (entries_of d.1 ≡ entries_of d.0.content)
+  pub others : (k : Listing) → Contains c.rest k → k.object ≡ c.o → ⊥
+
 pub record IsRenaming (nodes : Nodes) (layout : Layout) (listings : List Listing) (c : Renaming) : Type 0 where
   pub found : IsPermutation listings (c.l ∷ (map (λ (d : Listing × Directory). d.0) c.own ++ c.rest))
   pub dir_is : number_of nodes c.l.object.path ≡ Some c.dir
@@ -115,6 +144,9 @@ pub record RenameLaw : Type 0 where
   pub across : (nodes : Nodes) (layout : Layout) (listings : List Listing) (c : Transfer) → IsHeld nodes layout listings → IsTransfer nodes layout listings c → IsMoving nodes layout listings (transfer_of c)
   pub within_one : (nodes : Nodes) (layout : Layout) (listings : List Listing) (c : Renaming) → IsHeld nodes layout listings → IsRenaming nodes layout listings c
       → IsMoving nodes layout listings (renaming_of c)
+  -- So they are if growth gives a directory its length.
+  pub across_any : (nodes : Nodes) (layout : Layout) (listings : List Listing) (c : Transfer) → IsHeld nodes layout listings → Transfers nodes listings c → Moves nodes listings (transfer_of c)
+  pub within_any : (nodes : Nodes) (layout : Layout) (listings : List Listing) (c : Renaming) → IsHeld nodes layout listings → Renames nodes listings c → Moves nodes listings (renaming_of c)
   -- What moves is owned by another directory, or its owners stay.
   pub owners_across : (layout : Layout) (owners owners' : List Owner) (c : Transfer) → OwnersEdited owners owners' (owners_with layout c.home c.number c.o) (owners_with layout c.dir c.number c.o)
       → OwnersEdited owners owners' (owners_left layout (edit (transfer_of c))) (owners_joined layout (edit (transfer_of c)))

@@ -18,11 +18,12 @@ use Rattle.fc_tree.proofs.WalkedLemmas.{apart_names, child_path}
 use Rattle.fc_changes.proofs.BasicLemmas.{unless}
 use Rattle.fc_laws.specs.nodes.Edits.{Nodes, OwnersEdited, owners_with}
 use Rattle.fc_laws.specs.nodes.Laws.{IsHeld}
+use Rattle.fc_laws.specs.agree.Agreed.{CanSay}
 use Rattle.fc_laws.proofs.lemmas.nodes.ListLemmas.{in_first}
 use Rattle.fc_laws.proofs.lemmas.agree.RenamedLemmas.{moved_there}
 use Rattle.fc_edits.specs.Edit.{Amended, IsAmended, owners_in, owners_joined, owners_left}
-use Rattle.fc_edits.specs.Moving.{IsMoving, Moving, edit, itself, moved, new_path}
-use Rattle.fc_edits.specs.Transfer.{IsRenaming, IsTransfer, RenameLaw, Renaming, Transfer, from_it, renaming_of, to_it, transfer_of, within}
+use Rattle.fc_edits.specs.Moving.{IsMoving, Moves, Moving, edit, itself, moved, new_path}
+use Rattle.fc_edits.specs.Transfer.{IsRenaming, IsTransfer, RenameLaw, Renames, Renaming, Transfer, Transfers, from_it, renaming_of, to_it, transfer_of, within}
 use Rattle.fc_edits.proofs.lemmas.OwnerLemmas.{owners_stay}
 use Rattle.fc_edits.proofs.lemmas.ShapeLemmas.{none_flat, of_one}
 
@@ -32,9 +33,26 @@ joins_path c not_into =
     moved_there c.l.object.path c.name c.o
     ∙ ap (λ (q : Path). q ++ (moved c c.o).entry.name ∷ []) (sym (ap (λ (b : Bool). cond b (new_path c ++ drop (length c.o.path) c.l.object.path) c.l.object.path) not_into))
 
+-- an object that moves, if what its directories say can be said
+is_moving : (nodes : Nodes) (layout : Layout) (listings : List Listing) (c : Moving) → Moves nodes listings c
+    → ((a : Amended) → Contains (edit c).amended a → CanSay layout (moved c a.was.object) a.content) → IsMoving nodes layout listings c
+is_moving nodes layout listings c ms says = record {
+  found = ms.found;
+  amends = ms.amends;
+  touched = ms.touched;
+  there = ms.there;
+  leaves = ms.leaves;
+  joins = ms.joins;
+  number_is = ms.number_is;
+  not_into = ms.not_into;
+  own_is = ms.own_is;
+  others = ms.others;
+  says = says;
+}
+
 -- ---- to another directory
 
-module _ (nodes : Nodes) (layout : Layout) (listings : List Listing) (c : Transfer) (h : IsHeld nodes layout listings) (g : IsTransfer nodes layout listings c) where
+module _ (nodes : Nodes) (layout : Layout) (listings : List Listing) (c : Transfer) (h : IsHeld nodes layout listings) (g : Transfers nodes listings c) where
   abbrev it : Moving
   it = transfer_of c
 
@@ -44,7 +62,7 @@ module _ (nodes : Nodes) (layout : Layout) (listings : List Listing) (c : Transf
     held = g.k_holds;
     holds = g.k_children;
     stored = g.k_entries;
-    apart = apart_names c.k_content (g.says (from_it c) (contains_here (from_it c) (to_it c ∷ map (itself it) c.own))).body;
+    apart = g.k_apart;
     left = of_one (λ (p : ℕ × Object). number_of nodes p.1.path ≡ Some p.0) (c.number, c.o) g.number_is;
     paths = λ p none. absurd (no_element p none);
   }
@@ -55,7 +73,7 @@ module _ (nodes : Nodes) (layout : Layout) (listings : List Listing) (c : Transf
     held = IsPermutation-refl c.l.children;
     holds = g.l_children;
     stored = g.l_entries;
-    apart = apart_names c.l_content (g.says (to_it c) (contains_later (from_it c) (to_it c) (to_it c ∷ map (itself it) c.own) (contains_here (to_it c) (map (itself it) c.own)))).body;
+    apart = g.l_apart;
     left = λ p none. absurd (no_element p none);
     paths = of_one (λ (p : ℕ × Object). p.1.path ≡ (moved it c.l.object).path ++ p.1.entry.name ∷ []) (c.number, moved it c.o) (joins_path it g.not_into);
   }
@@ -64,8 +82,8 @@ module _ (nodes : Nodes) (layout : Layout) (listings : List Listing) (c : Transf
   of_both P first second a at =
       ⊎_elim (λ same. subst P same first) (λ later. of_one P (to_it c) second a later) (contains_cases (from_it c) a (to_it c ∷ []) at)
 
-  across : IsMoving nodes layout listings it
-  across = record {
+  across_any : Moves nodes listings it
+  across_any = record {
     found = g.found;
     amends = of_both (IsAmended nodes (edit it)) from_amended to_amended;
     touched = of_both (λ (a : Amended). Contains a.was.children c.o ⊎ (a.was ≡ c.l)) (inl (in_first c.k.children (c.o ∷ c.kids) g.k_holds c.o (contains_here c.o c.kids))) (inr refl);
@@ -76,8 +94,31 @@ module _ (nodes : Nodes) (layout : Layout) (listings : List Listing) (c : Transf
     not_into = g.not_into;
     own_is = g.own_is;
     others = g.others;
-    says = g.says;
   }
+
+-- what its directories say can be said
+transfers : (nodes : Nodes) (layout : Layout) (listings : List Listing) (c : Transfer) → IsTransfer nodes layout listings c → Transfers nodes listings c
+transfers nodes layout listings c g =
+    let own : List Amended = map (itself (transfer_of c)) c.own in
+    record {
+      found = g.found;
+      home_is = g.home_is;
+      dir_is = g.dir_is;
+      number_is = g.number_is;
+      not_into = g.not_into;
+      k_holds = g.k_holds;
+      k_children = g.k_children;
+      k_entries = g.k_entries;
+      k_apart = apart_names c.k_content (g.says (from_it c) (contains_here (from_it c) (to_it c ∷ own))).body;
+      l_children = g.l_children;
+      l_entries = g.l_entries;
+      l_apart = apart_names c.l_content (g.says (to_it c) (contains_later (from_it c) (to_it c) (to_it c ∷ own) (contains_here (to_it c) own))).body;
+      own_is = g.own_is;
+      others = g.others;
+    }
+
+across : (nodes : Nodes) (layout : Layout) (listings : List Listing) (c : Transfer) → IsHeld nodes layout listings → IsTransfer nodes layout listings c → IsMoving nodes layout listings (transfer_of c)
+across nodes layout listings c h g = is_moving nodes layout listings (transfer_of c) (across_any nodes layout listings c h (transfers nodes layout listings c g)) g.says
 
 owners_across : (layout : Layout) (owners owners' : List Owner) (c : Transfer) → OwnersEdited owners owners' (owners_with layout c.home c.number c.o) (owners_with layout c.dir c.number c.o)
     → OwnersEdited owners owners' (owners_left layout (edit (transfer_of c))) (owners_joined layout (edit (transfer_of c)))
@@ -97,7 +138,7 @@ owners_across layout owners owners' c edited =
 
 -- ---- within one
 
-module _ (nodes : Nodes) (layout : Layout) (listings : List Listing) (c : Renaming) (h : IsHeld nodes layout listings) (g : IsRenaming nodes layout listings c) where
+module _ (nodes : Nodes) (layout : Layout) (listings : List Listing) (c : Renaming) (h : IsHeld nodes layout listings) (g : Renames nodes listings c) where
   abbrev its : Moving
   its = renaming_of c
 
@@ -121,13 +162,13 @@ module _ (nodes : Nodes) (layout : Layout) (listings : List Listing) (c : Renami
     held = g.holds;
     holds = g.holds_now;
     stored = g.stored;
-    apart = apart_names c.content (g.says (within c) (contains_here (within c) (map (itself its) c.own))).body;
+    apart = g.apart;
     left = of_one (λ (p : ℕ × Object). number_of nodes p.1.path ≡ Some p.0) (c.number, c.o) g.number_is;
     paths = of_one (λ (p : ℕ × Object). p.1.path ≡ (moved its c.l.object).path ++ p.1.entry.name ∷ []) (c.number, moved its c.o) (joins_path its not_into);
   }
 
-  within_one : IsMoving nodes layout listings its
-  within_one = record {
+  within_any : Moves nodes listings its
+  within_any = record {
     found = g.found;
     amends = of_one (IsAmended nodes (edit its)) (within c) amended;
     touched = of_one (λ (a : Amended). Contains a.was.children c.o ⊎ (a.was ≡ c.l)) (within c) (inl kid_in);
@@ -138,7 +179,6 @@ module _ (nodes : Nodes) (layout : Layout) (listings : List Listing) (c : Renami
     not_into = not_into;
     own_is = g.own_is;
     others = g.others;
-    says = g.says;
   }
 
   owners_within : (owners : List Owner) → AreOwners owners nodes layout (objects_of listings) → OwnersEdited owners owners (owners_left layout (edit its)) (owners_joined layout (edit its))
@@ -157,5 +197,28 @@ module _ (nodes : Nodes) (layout : Layout) (listings : List Listing) (c : Renami
           ap (λ (ws : List Owner). (owners_with layout c.dir c.number c.o ++ []) ++ ws) (none_flat (λ (b : Amended). owners_in layout b.number b.join) (itself its) c.own (λ d. refl))
           ∙ append-nil (owners_with layout c.dir c.number c.o ++ []) ∙ append-nil (owners_with layout c.dir c.number c.o)
 
+renames : (nodes : Nodes) (layout : Layout) (listings : List Listing) (c : Renaming) → IsRenaming nodes layout listings c → Renames nodes listings c
+renames nodes layout listings c g = record {
+  found = g.found;
+  dir_is = g.dir_is;
+  number_is = g.number_is;
+  holds = g.holds;
+  holds_now = g.holds_now;
+  stored = g.stored;
+  apart = apart_names c.content (g.says (within c) (contains_here (within c) (map (itself (renaming_of c)) c.own))).body;
+  own_is = g.own_is;
+  others = g.others;
+}
+
+within_one : (nodes : Nodes) (layout : Layout) (listings : List Listing) (c : Renaming) → IsHeld nodes layout listings → IsRenaming nodes layout listings c → IsMoving nodes layout listings (renaming_of c)
+within_one nodes layout listings c h g = is_moving nodes layout listings (renaming_of c) (within_any nodes layout listings c h (renames nodes layout listings c g)) g.says
+
 pub rename_law : RenameLaw
-rename_law = record { across = across; within_one = within_one; owners_across = owners_across; owners_within = λ nodes layout listings owners c h g owned. owners_within nodes layout listings c h g owners owned }
+rename_law = record {
+  across = across;
+  within_one = within_one;
+  across_any = across_any;
+  within_any = within_any;
+  owners_across = owners_across;
+  owners_within = λ nodes layout listings owners c h g owned. owners_within nodes layout listings c h (renames nodes layout listings c g) owners owned;
+}
