@@ -35,4 +35,5 @@ pub mod GrownImageLemmas
 pub mod GrownAddedLemmas
 pub mod GrownAskedLemmas
 pub mod GrownMayLemmas
+pub mod GrownMovingMayLemmas
 pub mod GrownFiledLemmas

@@ -11,3 +11,4 @@ pub mod Moving
 pub mod Copying
 pub mod Growth
 pub mod GrownAddition
+pub mod GrownMoving

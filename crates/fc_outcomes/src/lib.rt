@@ -6,6 +6,7 @@ ghost use Rattle.fc_outcomes.specs.Copying.{CopyingLaw};
 ghost use Rattle.fc_outcomes.specs.Deletion.{DeletionLaw};
 ghost use Rattle.fc_outcomes.specs.Done.{DoneLaw, KeptLaw};
 ghost use Rattle.fc_outcomes.specs.GrownAddition.{GrownAdditionLaw};
+ghost use Rattle.fc_outcomes.specs.GrownMoving.{GrownMovingLaw};
 ghost use Rattle.fc_outcomes.specs.Moving.{MovingLaw};
 ghost use Rattle.fc_outcomes.specs.NewImage.{NewImageLaw};
 ghost use Rattle.fc_outcomes.specs.OldImage.{OldImageLaw};
@@ -88,4 +89,9 @@ pub fn copying()
 /// `save`, `create` and `cdir` do what they promise in a directory that grows, the root too, on new maps.
 pub fn grown_addition()
     ensures { GrownAdditionLaw }
+{}
+
+/// `rename` without a copy, in a directory that grows, may write where it writes at every exit, on new maps.
+pub fn grown_moving()
+    ensures { GrownMovingLaw }
 {}

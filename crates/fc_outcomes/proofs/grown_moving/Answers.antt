@@ -1,0 +1,5 @@
+use Rattle.fc_outcomes.proofs.lemmas.GrownMovingMayLemmas.{grown_moving_law}
+use Rattle.fc_outcomes.proofs.grown_moving.Goals as goal
+
+pub returns : goal.returns
+returns c = grown_moving_law
