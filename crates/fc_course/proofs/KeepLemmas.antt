@@ -1,0 +1,61 @@
+-- What every answer leaves.
+use Rattle.std.proofs.Common.{◌≡◌, ◌≤◌, ℕ, List, refl, sym, subst, arith}
+use Rattle.std.specs.Prelude.{Err, IsFalse, Ok, Result}
+use Rattle.fc_device.specs.declared.disk.Disk.{Ghosts}
+use Rattle.fc_device.specs.Calls.{SameForm}
+use Rattle.fc_device.specs.Faults.{Rose}
+use Rattle.fc_device.proofs.DiskLaws.{form_same}
+use Rattle.fc_image.specs.Layout.{Layout, dir_form}
+use Rattle.fc_space.specs.Space.{layout_of}
+use Rattle.fc_tree.specs.Parts.{Parts}
+use Rattle.fc_change.specs.declared.job.Job.{Job}
+use Rattle.fc_course.specs.declared.error.CommandError.{CommandError}
+use Rattle.fc_course.specs.declared.error.CommandError.TheVariants.{Refused, NoMemory, DiskFault}
+use Rattle.fc_course.specs.declared.holdings.Holdings.{Holdings}
+use Rattle.fc_course.specs.Answers.{UnlessFault}
+use Rattle.fc_course.specs.Holdings.{IsSameKind, Stands, parts_of}
+use Rattle.fc_course.specs.Promises.{ChangeKeeps}
+use Rattle.fc_course.specs.Stages.{RefusesJob}
+
+-- ---- a refusal, or no memory
+
+unless_refused : (h : Parts) (job : Job) (name : List ℕ) (error : CommandError) (P : Type 0) → RefusesJob h job name error → P → UnlessFault {T = Unit {0}} (Err error) P
+unless_refused h job name (Refused r) P is p = p
+unless_refused h job name NoMemory P is p = p
+unless_refused h job name DiskFault P is p = absurd is
+
+no_fault : (h : Parts) (job : Job) (name : List ℕ) (error : CommandError) → RefusesJob h job name error → (let r : Result (Unit {0}) CommandError = Err error in r) ≡ Err DiskFault → ⊥
+no_fault h job name (Refused r) is e = cc
+no_fault h job name NoMemory is e = cc
+no_fault h job name DiskFault is e = absurd is
+
+same_kind : (layout : Layout) → IsSameKind layout layout
+same_kind (Layout.New m) = tt
+same_kind (Layout.Old space) = tt
+
+pub kept_refused : {D : Type 0} (d : Ghosts D) (disk : D) (was now : Holdings) (job : Job) (name : List ℕ) (error : CommandError) → Stands d was disk → IsFalse (d.pending disk) → now ≡ was
+    → RefusesJob (parts_of was) job name error → ChangeKeeps d disk disk was now (Err error)
+kept_refused d disk was now job name error stands quiet same is =
+    subst (λ (h : Holdings). ChangeKeeps d disk disk was h (Err error)) (sym same)
+    (record {
+      unchanged = λ no. (refl, refl);
+      stands = unless_refused (parts_of was) job name error _ is stands;
+      settled = unless_refused (parts_of was) job name error _ is quiet;
+      map = same_kind (layout_of was.places);
+      dirs = unless_refused (parts_of was) job name error _ is refl;
+      form = form_same d disk;
+      faults = omega arith;
+      cause = λ e. absurd (no_fault (parts_of was) job name error is e);
+    })
+
+-- ---- done, or a fault of the disk
+
+pub kept_done : {D : Type 0} (d : Ghosts D) (old new : D) (was now : Holdings) → Stands d now new → IsFalse (d.pending new) → IsSameKind (layout_of was.places) (layout_of now.places)
+    → dir_form (layout_of now.places) ≡ dir_form (layout_of was.places) → SameForm d old new → d.faults old ≤ d.faults new → ChangeKeeps d old new was now (Ok tt)
+kept_done d old new was now stands quiet map dirs form later =
+    record { unchanged = tt; stands = stands; settled = quiet; map = map; dirs = dirs; form = form; faults = later; cause = λ e. absurd (cc) }
+
+pub kept_fault : {D : Type 0} (d : Ghosts D) (old new : D) (was now : Holdings) → IsSameKind (layout_of was.places) (layout_of now.places) → SameForm d old new → d.faults old ≤ d.faults new
+    → Rose (d.faults old) (d.faults new) → ChangeKeeps d old new was now (Err DiskFault)
+kept_fault d old new was now map form later rose =
+    record { unchanged = λ no. absurd (no refl); stands = tt; settled = tt; map = map; dirs = tt; form = form; faults = later; cause = λ e. rose }

@@ -1,0 +1,8 @@
+pub mod Answers
+pub mod Holdings
+pub mod Jobs
+pub mod Laws
+pub mod Promises
+pub mod Run
+pub mod Stages
+pub mod Written

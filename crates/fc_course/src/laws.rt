@@ -1,0 +1,9 @@
+// Laws of jobs.
+ghost use Rattle.fc_course.specs.Laws.{CourseLaw};
+
+/// A law: what is asked of a job for its course holds of those that have laws.
+pub fn jobs()
+    ensures { CourseLaw }
+{
+    fc_outcomes::deletion();
+}

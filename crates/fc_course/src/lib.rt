@@ -1,0 +1,19 @@
+//! The course of a change, from its job to the disc and the volume that it leaves: made ready in memory, written, and taken over, by one
+//! path for all jobs, on new maps and old ones.
+#![tactic(auto)]
+
+mod course;
+mod error;
+mod holdings;
+mod laws;
+mod maps;
+mod stages;
+mod writing;
+
+pub use course::change;
+pub use error::CommandError;
+pub use holdings::Holdings;
+pub use laws::jobs;
+pub use maps::is_map;
+pub use stages::{Prepared, prepare_job};
+pub use writing::write_change;
