@@ -14,6 +14,3 @@ pub use course::change;
 pub use error::CommandError;
 pub use holdings::Holdings;
 pub use laws::jobs;
-pub use maps::is_map;
-pub use stages::{Prepared, prepare_job};
-pub use writing::write_change;
