@@ -3,6 +3,13 @@ mod TurningLemmas
 mod DraftLemmas
 mod PieceLemmas
 mod PlanLemmas
+mod LeadsLemmas
+mod RoomLemmas
+mod ShortageLemmas
+mod GrownLemmas
+mod SpacesLemmas
+mod StepLemmas
+mod LeavingsLemmas
 mod OldCopyLemmas
 mod OldTakingLemmas
 mod OldGivingLemmas

@@ -8,6 +8,8 @@ pub mod After
 pub mod Refused
 pub mod OldSpace
 pub mod Shortage
+pub mod GrownSpace
+pub mod Planning
 pub mod Places
 pub mod Steps
 pub mod Prepared

@@ -23,6 +23,7 @@ use Rattle.fc_oldchanges.specs.Owed.{holding}
 use Rattle.fc_placing.specs.Extents.{IsOwnPlace}
 use Rattle.fc_placing.specs.Leaving.{LeavesIds, LeavesUsed}
 use Rattle.fc_placing.specs.Places.{IsOwnPlan, address_in, shared_id, slack_left}
+use Rattle.fc_slack.specs.declared.share.Share.{Share}
 use Rattle.fc_slack.specs.Slack.{place_in}
 use Rattle.fc_placing.specs.declared.placing.Placing.{Placing}
 use Rattle.fc_placing.specs.declared.placing.Placing.TheVariants as placings
@@ -31,6 +32,7 @@ use Rattle.fc_plan.specs.Parts.{fronts}
 use Rattle.fc_tree.specs.Parts.{ArePartsOf, Parts}
 use Rattle.fc_tree.specs.declared.node.Node.{Node}
 use Rattle.fc_laws.specs.nodes.Edits.{Nodes}
+use Rattle.fc_change.specs.declared.job.Growth.{Growth}
 use Rattle.fc_change.specs.declared.job.Wants.{Wants}
 use Rattle.fc_writing.specs.declared.ready.MapStep.{MapStep}
 use Rattle.fc_writing.specs.declared.ready.MapStep.TheVariants as steps
@@ -42,7 +44,9 @@ use Rattle.fc_change.specs.declared.spaces.SpaceError.TheVariants as errors
 use Rattle.fc_change.specs.declared.spaces.Spaces.{Spaces}
 use Rattle.fc_change.specs.OldSpace.{CanFree, IsMapNow, LieBehind, map_given, map_taken}
 use Rattle.fc_change.specs.declared.placing.old.Taken.{Taken}
+use Rattle.fc_change.specs.GrownSpace.{IsGrown, freed, gone_at_once, kept_parts, plans_of, root_of}
 use Rattle.fc_change.specs.Prepared.{HasPlace}
+use Rattle.fc_change.specs.Shortage.{is_grown_alone}
 use Rattle.fc_change.specs.Steps.{IsStep}
 
 -- ---- an object, on a new map
@@ -52,6 +56,12 @@ abbrev pub IsPlacingFor : Map → List Owner → Wants → Placing → Type 0
 IsPlacingFor m owners w placings.Nowhere = w.bytes ≡ 0
 IsPlacingFor m owners w (placings.Shared share) = (dir : ℕ) × (w.shares ≡ Some dir) × (slack_left m owners dir w.bytes ≡ Some (place_in share))
 IsPlacingFor m owners w (placings.New plan) = ((dir : ℕ) → w.shares ≡ Some dir → slack_left m owners dir w.bytes ≡ None) × IsOwnPlan m w.bytes plan
+
+-- that of a file in slack, or of an object with this plan
+abbrev pub placing_of : Option Share → Option Plan → Placing
+placing_of (Some share) own = placings.Shared share
+placing_of None None = placings.Nowhere
+placing_of None (Some plan) = placings.New plan
 
 -- what is taken for an object that is placed so
 abbrev pub plan_in : Placing → Option Plan
@@ -106,18 +116,21 @@ abbrev pub AreLeft : List Owner → Option ℕ → Option ℕ → List ℕ → T
 AreLeft owners None shared gone = gone ≡ []
 AreLeft owners (Some node) shared gone = LeavesIds owners node shared gone × LeavesUsed owners gone
 
--- ---- all of it, on a new map, if no directory grows
+-- ---- all of it, on a new map
 
+-- The object is placed first, and then a directory that grows, whose plan is `dir` if it gets new space. Both plans are taken by one
+-- step, with the root's new place; what nothing names any more goes back by another.
 pub record ArePlaced (m : Map) (h : Parts) (w : Wants) (s : Spaces) : Type 0 where
   pub placing : Placing
+  pub dir : Option Plan
   pub gone : List ℕ
   pub is : IsPlacingFor m h.owners w placing
   pub object : IsPlaceFor m w placing s.object
   pub copied : IsCopiedFrom (Layout.New m) h.nodes w.copied (extents_in s.copied)
-  pub no_growth : s.grown ≡ None
-  pub take : IsStep m (option_to_list (plan_in placing)) [] [] None s.take
+  pub grown : IsGrown m h (plan_in placing) w.grows dir s.grown
+  pub take : IsStep m (plans_of (plan_in placing) dir) (gone_at_once dir (is_grown_alone h w.grows)) (kept_parts dir (is_grown_alone h w.grows)) (root_of s.grown) s.take
   pub left : AreLeft h.owners w.goes (shared_id placing) gone
-  pub give : IsStep m [] gone [] None s.give
+  pub give : IsStep m [] (freed h w dir ++ gone) [] None s.give
 
 -- ---- on an old map
 
@@ -167,10 +180,11 @@ ArePlacesFor h w s = ArePlacesOn h.layout h w s
 
 -- ---- what has to be known
 
--- A copied file has a place. On an old map space can be given back.
+-- A copied file has a place, and a directory grows to some bytes. On an old map none grows, and space can be given back.
 pub record CanPlace (h : Parts) (w : Wants) : Type 0 where
   pub few : w.bytes < 2 ^ 32
-  pub no_growth : w.grows ≡ None
+  pub grows : (g : Growth) → w.grows ≡ Some g → 0 < g.len
   pub copied : (n : ℕ) → w.copied ≡ Some n → HasPlace h n
+  pub no_growth : (space : OldMapContent) → h.layout ≡ Layout.Old space → w.grows ≡ None
   pub behind : (space : OldMapContent) → h.layout ≡ Layout.Old space → LieBehind space
   pub free : (space : OldMapContent) (n : ℕ) → h.layout ≡ Layout.Old space → w.goes ≡ Some n → CanFree space w.bytes h.nodes n

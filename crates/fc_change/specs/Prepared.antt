@@ -1,5 +1,5 @@
 -- A change, ready to be written.
-use Rattle.std.specs.Prelude.{◌≡◌, ℕ, Bool, true, false, ◌==◌, List, [], ◌∷◌, ◌++◌, filter, not, length, Option, Some, None, IsSome, Contains, Vec}
+use Rattle.std.specs.Prelude.{◌≡◌, ℕ, Bool, true, false, ◌==◌, ◌&&◌, List, [], ◌∷◌, ◌++◌, filter, not, length, Option, Some, None, IsSome, Contains, Vec}
 use Rattle.std.specs.declared.alloc.Global.{Global}
 use Rattle.std.specs.FinMap.{get}
 use Rattle.fc_device.specs.declared.disk.Extent.{Extent}
@@ -42,20 +42,29 @@ pub record IsPieceOf (layout : Layout) (nodes : Nodes) (s : Says) (p : Piece) : 
 
 -- ---- before the map, and after it
 
--- The directory grows.
-abbrev pub is_grown : Option GrownPlace → ℕ → Bool
-is_grown None n = false
-is_grown (Some g) n = g.directory.node == n
+-- The directory grows into new space, so that it is written before the map names that.
+abbrev pub is_moved : Option GrownPlace → ℕ → Bool
+is_moved None n = false
+is_moved (Some g) n = g.moves && (g.directory.node == n)
+
+-- Of a directory that grows where it lies the piece goes to all its sectors then, of another to those of the node's object.
+abbrev pub IsPieceIn : (grown : Bool) → Layout → Nodes → List Extent → Says → Piece → Type 0
+IsPieceIn true layout nodes extents s p = (p.place.items ≡ extents) × IsDrafted s.draft p
+IsPieceIn false layout nodes extents s p = IsPieceOf layout nodes s p
+
+abbrev pub IsLatePiece : Layout → Nodes → Option GrownPlace → Says → Piece → Type 0
+IsLatePiece layout nodes None s p = IsPieceOf layout nodes s p
+IsLatePiece layout nodes (Some g) s p = IsPieceIn (g.directory.node == s.node) layout nodes g.extents.items s p
 
 -- a piece for each, in this order
-abbrev pub PiecesMatch : Layout → Nodes → List Says → List Piece → Type 0
-PiecesMatch layout nodes [] [] = Unit {0}
-PiecesMatch layout nodes (s ∷ ss) (p ∷ ps) = IsPieceOf layout nodes s p × PiecesMatch layout nodes ss ps
-PiecesMatch layout nodes _ _ = ⊥
+abbrev pub PiecesMatch : Layout → Nodes → Option GrownPlace → List Says → List Piece → Type 0
+PiecesMatch layout nodes grown [] [] = Unit {0}
+PiecesMatch layout nodes grown (s ∷ ss) (p ∷ ps) = IsLatePiece layout nodes grown s p × PiecesMatch layout nodes grown ss ps
+PiecesMatch layout nodes grown _ _ = ⊥
 
--- those of the directories that don't grow
+-- those of the directories that are written over, each in its place of the order: a directory that gets new space isn't among them
 abbrev pub ArePiecesOf : Layout → Nodes → Option GrownPlace → List Says → List Piece → Type 0
-ArePiecesOf layout nodes grown says ps = PiecesMatch layout nodes (filter (λ (s : Says). not (is_grown grown s.node)) says) ps
+ArePiecesOf layout nodes grown says ps = PiecesMatch layout nodes grown (filter (λ (s : Says). not (is_moved grown s.node)) says) ps
 
 -- After the pieces that were there come those of these directories.
 pub record HasMorePieces (h : Parts) (grown : Option GrownPlace) (says : List Says) (was now : List Piece) : Type 0 where
@@ -68,10 +77,14 @@ abbrev pub IsNewPiece : Turned → Option Place → List Piece → Type 0
 IsNewPiece (turns.Comes dir e (Some d)) (Some place) ps = (p : Piece) × (ps ≡ p ∷ []) × (p.place.items ≡ place.extents.items) × IsDrafted d p
 IsNewPiece _ _ ps = ps ≡ []
 
--- the one that grows
+-- the one that grows, if it gets new space
+abbrev pub IsMovedPiece : (moves : Bool) → GrownPlace → List Says → List Piece → Type 0
+IsMovedPiece true g says ps = (s : Says) × Contains says s × (s.node ≡ g.directory.node) × (p : Piece) × (ps ≡ p ∷ []) × (p.place.items ≡ g.extents.items) × IsDrafted s.draft p
+IsMovedPiece false g says ps = ps ≡ []
+
 abbrev pub IsGrownPiece : Option GrownPlace → List Says → List Piece → Type 0
 IsGrownPiece None says ps = ps ≡ []
-IsGrownPiece (Some g) says ps = (s : Says) × Contains says s × (s.node ≡ g.directory.node) × (p : Piece) × (ps ≡ p ∷ []) × (p.place.items ≡ g.extents.items) × IsDrafted s.draft p
+IsGrownPiece (Some g) says ps = IsMovedPiece g.moves g says ps
 
 -- ---- the object
 
@@ -84,6 +97,8 @@ IsSourceOf object None from source = source ≡ sources.Nothing
 
 -- ---- all of it
 
+-- What is new comes early, and so does a directory that grows into new space; the others are written over late. A directory that grows
+-- where it lies is among these, since the map and its entry name its old bytes until then.
 pub record IsReadyFor (h : Parts) (c : Change) (s : Spaces) (r : Ready) : Type 0 where
   pub made : List Piece
   pub grown : List Piece

@@ -6,6 +6,7 @@ use Rattle.std.specs.Option.{option_and_then, option_map_or}
 use Rattle.fc_names.specs.declared.refusal.Refusal.{Refusal}
 use Rattle.fc_names.specs.declared.refusal.Refusal.TheVariants as refusals
 use Rattle.fc_alloc.specs.declared.owner.Owner.{Owner}
+use Rattle.fc_record.specs.declared.Geometry.{Geometry}
 use Rattle.fc_newmap.specs.Map.{Map, bits_in, hole_runs}
 use Rattle.fc_oldmap.specs.Holes.{first_fit_place, hole_limit, hole_sum}
 use Rattle.fc_oldmap.specs.OldMap.{OldMapContent}
@@ -19,8 +20,6 @@ use Rattle.fc_image.specs.effects.Short.{old_need, one_if, short}
 use Rattle.fc_placing.specs.Leaving.{has_other}
 use Rattle.fc_placing.specs.Places.{slack_left}
 use Rattle.fc_slack.specs.Slack.{leaves_free}
-use Rattle.fc_plan.specs.declared.supply.PlanError.{PlanError}
-use Rattle.fc_plan.specs.declared.supply.PlanError.TheVariants as plans
 use Rattle.fc_tree.specs.Counts.{address_in}
 use Rattle.fc_tree.specs.Parts.{ArePartsOf, Parts}
 use Rattle.fc_change.specs.declared.job.Growth.{Growth}
@@ -38,11 +37,15 @@ use Rattle.fc_change.specs.OldSpace.{map_given, map_taken}
 abbrev pub leaves_free_for : ℕ → ℕ → ℕ → ℕ → Owner → Bool
 leaves_free_for node id first need o = (o.node == node) || leaves_free id first need o
 
+-- no owner of another node has any of them
+abbrev pub others_leave_free : List Owner → ℕ → ℕ → ℕ → ℕ → Bool
+others_leave_free owners node id first need = list_all (leaves_free_for node id first need) owners
+
 -- The identifier has the sectors of so many bytes from the address on, and no owner of another node has any of them.
 abbrev pub has_room_by : Map → List Owner → ℕ → ℕ → ℕ → Bool
 has_room_by m owners node address bytes =
     not (id_of address == 2)
-    && (is_some (new_sectors m address bytes) && list_all (leaves_free_for node (id_of address) (low_start m (low_of address)) (div_ceil bytes m.geometry.sector)) owners)
+    && (is_some (new_sectors m address bytes) && others_leave_free owners node (id_of address) (low_start m (low_of address)) (div_ceil bytes m.geometry.sector))
 
 -- No owner of another node has the identifier, which isn't the map's, and the address is the identifier's first.
 abbrev pub is_alone_by : List Owner → ℕ → ℕ → Bool
@@ -50,9 +53,13 @@ is_alone_by owners node address = (not (id_of address == 2) && not (has_other ow
 
 -- ---- a new map
 
+-- the slack that the object may have
+abbrev pub slack_for : Map → List Owner → Wants → Option (ℕ × ℕ)
+slack_for m owners w = option_and_then (λ (dir : ℕ). slack_left m owners dir w.bytes) w.shares
+
 -- the bytes that need new space: none in slack
 abbrev pub bytes_left : Map → List Owner → Wants → ℕ
-bytes_left m owners w = if is_some (option_and_then (λ (dir : ℕ). slack_left m owners dir w.bytes) w.shares) then 0 else w.bytes
+bytes_left m owners w = if is_some (slack_for m owners w) then 0 else w.bytes
 
 -- those of a directory that grows, unless it has room where it lies
 abbrev pub grown_bytes : Map → Parts → Option Growth → ℕ
@@ -64,26 +71,23 @@ is_grown_alone h None = true
 is_grown_alone h (Some g) = is_alone_by h.owners g.node (address_in h.nodes g.node)
 
 -- the bits that the holes must have together
-abbrev pub bits_for : Map → (object dir : ℕ) → ℕ
-bits_for m object dir = if nat_lt 0 object && nat_lt 0 dir then object + dir + 2 * m.geometry.min else object + dir
+abbrev pub bits_for : Geometry → (object dir : ℕ) → ℕ
+bits_for g object dir = if nat_lt 0 object && nat_lt 0 dir then object + dir + 2 * g.min else object + dir
 
 -- the new identifiers: a directory that was alone in its own keeps that
 abbrev pub ids_for : ℕ → Bool → ℕ → ℕ
 ids_for object alone dir = one_if (nat_lt 0 object) + (if nat_lt 0 dir then one_if (not alone) else 0)
 
-abbrev pub short_new : Map → Parts → Wants → Option Refusal
-short_new m h w =
-    let object = units m.geometry (bytes_left m h.owners w) in
-    let dir = units m.geometry (grown_bytes m h w.grows) in
-    first_of (when (nat_lt (length (new_ids m)) (ids_for object (is_grown_alone h w.grows) dir)) refusals.IdsFull
-    ∷ when (nat_lt (bits_in (hole_runs m)) (bits_for m object dir)) refusals.DiscFull ∷ [])
+-- why there is no space for an object of so many bytes, or of none, and for a directory that gets so many new ones, or none
+abbrev pub short_of : Map → ℕ → Bool → ℕ → Option Refusal
+short_of m bytes alone len =
+    let object = units m.geometry bytes in
+    let dir = units m.geometry len in
+    first_of (when (nat_lt (length (new_ids m)) (ids_for object alone dir)) refusals.IdsFull
+    ∷ when (nat_lt (bits_in (hole_runs m)) (bits_for m.geometry object dir)) refusals.DiscFull ∷ [])
 
--- A plan of so many bytes is refused exactly so, and none is if there are none.
-abbrev pub AnswersPlan : {T : Type 0} → Map → ℕ → Result T PlanError → Type 0
-AnswersPlan m bytes (Ok value) = (nat_le (one_if (nat_lt 0 (units m.geometry bytes))) (length (new_ids m)) ≡ true) × (nat_le (units m.geometry bytes) (bits_in (hole_runs m)) ≡ true)
-AnswersPlan m bytes (Err plans.IdsFull) = nat_lt (length (new_ids m)) (one_if (nat_lt 0 (units m.geometry bytes))) ≡ true
-AnswersPlan m bytes (Err plans.DiscFull) = (nat_lt (length (new_ids m)) (one_if (nat_lt 0 (units m.geometry bytes))) ≡ false) × (nat_lt (bits_in (hole_runs m)) (units m.geometry bytes) ≡ true)
-AnswersPlan m bytes (Err plans.NoMemory) = Unit {0}
+abbrev pub short_new : Map → Parts → Wants → Option Refusal
+short_new m h w = short_of m (bytes_left m h.owners w) (is_grown_alone h w.grows) (grown_bytes m h w.grows)
 
 -- ---- an old map
 
@@ -109,7 +113,12 @@ shortage_on (Layout.Old space) h w = short_old space h w
 abbrev pub shortage : Parts → Wants → Option Refusal
 shortage h w = shortage_on h.layout h w
 
--- The answer is this refusal, or none if there is none, unless memory is short.
+-- The answer is this refusal, or none if there is none.
+abbrev pub AnswersRefusal : {T : Type 0} → Result T Refusal → Option Refusal → Type 0
+AnswersRefusal (Ok value) refusal = refusal ≡ None
+AnswersRefusal (Err r) refusal = refusal ≡ Some r
+
+-- The same, unless memory is short.
 abbrev pub AnswersSpace : {T : Type 0} → Result T SpaceError → Option Refusal → Type 0
 AnswersSpace (Ok value) refusal = refusal ≡ None
 AnswersSpace (Err (errors.Refused r)) refusal = refusal ≡ Some r

@@ -12,7 +12,7 @@ ghost use Rattle.fc_change.specs.declared.change.Says.{Says};
 ghost use Rattle.fc_change.specs.declared.change.Turned.TheVariants as turns;
 ghost use Rattle.fc_change.specs.Held.{parts_of};
 ghost use Rattle.fc_change.specs.Places.{IsPlaceOf};
-ghost use Rattle.fc_change.specs.Prepared.{ArePiecesOf, CanPrepare, HasMorePieces, HasPlace, IsDrafted, IsGrownPiece, IsNewPiece, IsPieceOf, IsReadyFor, IsSourceOf, is_grown};
+ghost use Rattle.fc_change.specs.Prepared.{ArePiecesOf, CanPrepare, HasMorePieces, HasPlace, IsDrafted, IsGrownPiece, IsLatePiece, IsNewPiece, IsPieceOf, IsReadyFor, IsSourceOf, is_moved};
 
 use crate::change::{Change, Says, Turned};
 use crate::directories::bytes_of;
@@ -73,7 +73,7 @@ pub fn place_of_node(alloc: Global, held: &Held, n: u64) -> Result<Vec<Extent>, 
 }
 
 // What a directory says, for the sectors where it lies.
-fn late_piece(alloc: Global, held: &Held, said: &Says) -> Result<Piece, NoMemory>
+fn placed_piece(alloc: Global, held: &Held, said: &Says) -> Result<Piece, NoMemory>
     requires { HasPlace (parts_of held.now) said.now.node }
     ensures { IfOk result (IsPieceOf (parts_of held.now).layout (parts_of held.now).nodes said.now) }
 {
@@ -82,17 +82,36 @@ fn late_piece(alloc: Global, held: &Held, said: &Says) -> Result<Piece, NoMemory
     piece_of(alloc, &said.draft, place)
 }
 
-// Whether the directory of a node grows.
-fn is_grown(grown: &Option<GrownPlace>, n: u64) -> bool
-    ensures { result ≡ is_grown grown.now n }
+// What a directory says, for the sectors that it has once it is written over: more than before, if it grows there.
+fn late_piece(
+    alloc: Global,
+    held: &Held,
+    grown: &Option<GrownPlace>,
+    said: &Says,
+) -> Result<Piece, NoMemory>
+    requires { HasPlace (parts_of held.now) said.now.node }
+    ensures { IfOk result (IsLatePiece (parts_of held.now).layout (parts_of held.now).nodes grown.now said.now) }
+{
+    let Some(g) = grown else {
+        return placed_piece(alloc, held, said);
+    };
+    if g.directory.node != said.node {
+        return placed_piece(alloc, held, said);
+    }
+    piece_of(alloc, &said.draft, copy_of(alloc, &g.extents)?)
+}
+
+// Whether the directory of a node grows into new space.
+fn is_moved(grown: &Option<GrownPlace>, n: u64) -> bool
+    ensures { result ≡ is_moved grown.now n }
 {
     match grown {
-        Some(g) => g.directory.node == n,
+        Some(g) => g.moves && g.directory.node == n,
         None => false,
     }
 }
 
-// Adds the piece of a directory, unless that grows.
+// Adds the piece of a directory, unless that gets new space.
 fn push_late(
     alloc: Global,
     held: &Held,
@@ -103,14 +122,14 @@ fn push_late(
     requires { HasPlace (parts_of held.now) said.now.node }
     ensures { OnOk result (HasMorePieces (parts_of held.now) grown.now (said.now ∷ []) pieces.old.items pieces.new.items) }
 {
-    if is_grown(grown, said.node) {
+    if is_moved(grown, said.node) {
         return Ok(());
     }
-    let piece = late_piece(alloc, held, said)?;
+    let piece = late_piece(alloc, held, grown, said)?;
     push(pieces, piece)
 }
 
-// The pieces of the directories that don't grow, in the order in which they are told.
+// The pieces of the directories that are written over, in the order in which they are told.
 fn late_pieces(
     alloc: Global,
     held: &Held,
@@ -166,7 +185,7 @@ fn copy_of(alloc: Global, extents: &[Extent]) -> Result<Vec<Extent>, NoMemory>
     Ok(copy)
 }
 
-// Adds the one that grows, for the sectors where it is to lie.
+// Adds the one that grows, for the sectors where it is to lie, if it gets new space.
 fn add_grown(
     alloc: Global,
     says: &[Says],
@@ -179,6 +198,9 @@ fn add_grown(
     let Some(g) = grown else {
         return Ok(());
     };
+    if !g.moves {
+        return Ok(());
+    }
     let said = said_of(says, g.directory.node);
     let piece = piece_of(alloc, &said.draft, copy_of(alloc, &g.extents)?)?;
     push(pieces, piece)?;
@@ -212,7 +234,7 @@ fn source_of(object: &Turned, place: Option<Place>, copied: Option<Vec<Extent>>)
 }
 
 /// Makes a change ready to be written in its space: the bytes of each draft, and the sectors of its place. What is new comes early, and
-/// so does a directory that grows; the others are written over late.
+/// so does a directory that grows into new space; the others are written over late, one that grows where it lies in its new length.
 pub fn prepare(
     alloc: Global,
     held: &Held,

@@ -4,8 +4,13 @@ ghost use Rattle.fc_change.specs.Held.{parts_of};
 ghost use Rattle.fc_change.specs.Places.{ArePlacesFor, CanPlace};
 ghost use Rattle.fc_change.specs.Shortage.{AnswersSpace, shortage};
 
+mod growth;
+mod leavings;
 mod new;
 mod old;
+mod room;
+mod shortage;
+mod steps;
 
 use crate::held::Held;
 use crate::job::Wants;

@@ -1,12 +1,10 @@
 // The space that a change takes and gives back.
 ghost use Rattle.std.specs.Prelude.{◌≡◌};
 ghost use Rattle.fc_change.specs.declared.spaces.SpaceError.TheVariants as errors;
-ghost use Rattle.fc_change.specs.Refused.{no_plan};
 
 use crate::change::Regrowth;
 use fc_device::{Extent, NoMemory};
 use fc_names::Refusal;
-use fc_plan::PlanError;
 use fc_writing::MapStep;
 
 /// Where an object is to lie: its address, and its sectors.
@@ -21,6 +19,8 @@ pub struct Place {
 pub struct GrownPlace {
     pub directory: Regrowth,
     pub extents: Vec<Extent>,
+    /// It gets new space. Else it grows where it lies: its address stays, and its sectors are those of its new length there.
+    pub moves: bool,
 }
 
 /// The space of a change: where a new object is to lie, where the file lies of which it is a copy, where a directory that grows is
@@ -51,16 +51,12 @@ impl From<NoMemory> for SpaceError {
     }
 }
 
-impl From<PlanError> for SpaceError {
-    ghost from_gives = { λ error answer. answer ≡ no_plan error };
+impl From<Refusal> for SpaceError {
+    ghost from_gives = { λ refusal answer. answer ≡ errors.Refused refusal };
 
-    fn from(error: PlanError) -> Self
-        ensures { result ≡ no_plan error }
+    fn from(refusal: Refusal) -> Self
+        ensures { result ≡ errors.Refused refusal }
     {
-        match error {
-            PlanError::IdsFull => SpaceError::Refused(Refusal::IdsFull),
-            PlanError::DiscFull => SpaceError::Refused(Refusal::DiscFull),
-            PlanError::NoMemory => SpaceError::NoMemory,
-        }
+        SpaceError::Refused(refusal)
     }
 }

@@ -1,133 +1,70 @@
 // Places on new maps.
-ghost use Rattle.std.specs.Prelude.{◌≡◌, ◌<◌, ◌^◌, [], ℕ, AllPairs, None, Some, IfOk};
-ghost use Rattle.std.specs.Option.{option_to_list};
+ghost use Rattle.std.specs.Prelude.{◌≡◌, ◌<◌, ◌^◌, ℕ, None, Some, IfOk, if◌then◌else◌, is_some};
+ghost use Rattle.std.specs.Option.{option_map};
 ghost use Rattle.fc_image.specs.Layout.{Layout};
-ghost use Rattle.fc_image.specs.effects.Placed.{BeginsBefore};
 ghost use Rattle.fc_objects.specs.Extents.{sectors_in};
-ghost use Rattle.fc_placing.specs.Places.{IsOwnPlan, id_in, shared_id};
-ghost use Rattle.fc_plan.specs.Parts.{fronts};
+ghost use Rattle.fc_placing.specs.Places.{id_in, shared_id};
+ghost use Rattle.fc_slack.specs.Slack.{place_in};
 ghost use Rattle.fc_space.specs.Space.{layout_of};
 ghost use Rattle.fc_change.specs.Held.{parts_of};
-ghost use Rattle.fc_change.specs.Places.{AreLeft, ArePlaced, AreSectors, CanPlace, HasSectorsAt, IsCopiedFrom, IsPlaceFor, IsPlacingFor, address_for, extents_in, is_directory, plan_in};
+ghost use Rattle.fc_change.specs.Places.{ArePlaced, AreSectors, CanPlace, HasSectorsAt, IsCopiedFrom, IsPlaceFor, IsPlacingFor, address_for, extents_in, is_directory, placing_of, plan_in};
+ghost use Rattle.fc_change.specs.Planning.{ArePlanned, IsJudged};
 ghost use Rattle.fc_change.specs.Prepared.{HasPlace};
-ghost use Rattle.fc_change.specs.Shortage.{AnswersPlan, AnswersSpace, bytes_left, short_new};
-ghost use Rattle.fc_change.specs.Steps.{IsStep};
+ghost use Rattle.fc_change.specs.Shortage.{AnswersSpace, bytes_left, short_new, slack_for};
 
 use crate::held::Held;
 use crate::job::Wants;
-use crate::lists::push;
 use crate::pieces::{place_at, place_of_node};
+use crate::placing::growth::{Growing, Plans, alone_in, check, judge, place_grown, plan_both};
+use crate::placing::leavings::gone_at_last;
+use crate::placing::steps::{give_step, root_of, take_step};
 use crate::spaces::{Place, SpaceError, Spaces};
 use fc_alloc::Owners;
 use fc_device::{Extent, NoMemory};
 use fc_newmap::NewMap;
-use fc_placing::{Placing, address_of, directory_address, extents_of, left_by_replaced};
-use fc_plan::{Plan, PlanError, Supply, changed_zones};
+use fc_placing::{Placing, Share, address_of, directory_address, extents_of};
+use fc_plan::Plan;
 use fc_slack::slack;
-use fc_writing::{MapStep, SpaceStep};
 use std::alloc::Global;
-
-// ---- what goes back
-
-// The identifier of an object that goes, unless another owner has it, or it is the one that the new object shares.
-fn gone_by(
-    alloc: Global,
-    owners: &Owners,
-    goes: Option<u64>,
-    shared: Option<u32>,
-) -> Result<Vec<u32>, NoMemory>
-    ensures { IfOk result (λ gone. AreLeft owners.now goes shared gone.items) }
-{
-    let Some(node) = goes else {
-        return Ok(Vec::new(alloc));
-    };
-    let gone = as_list(alloc, left_by_replaced(owners, node, shared))?;
-    Ok(gone)
-}
-
-// An identifier, or none, as a list.
-fn as_list(alloc: Global, id: Option<u32>) -> Result<Vec<u32>, NoMemory>
-    ensures { IfOk result (λ list. list.items ≡ option_to_list id) }
-{
-    let mut list = Vec::new(alloc);
-    if let Some(id) = id {
-        push(&mut list, id)?;
-    }
-    Ok(list)
-}
-
-// The step by which identifiers go back, if any do.
-fn give_step(alloc: Global, map: &NewMap, gone: Vec<u32>) -> Result<MapStep, NoMemory>
-    ensures { IfOk result (IsStep map.now [] gone.items [] None) }
-{
-    if gone.is_empty() {
-        return Ok(MapStep::Nothing);
-    }
-    let mut zones = Vec::new(alloc);
-    changed_zones(map, None, None, &gone, &mut zones)?;
-    Ok(MapStep::New(SpaceStep {
-        plans: Vec::new(alloc),
-        gone,
-        kept: Vec::new(alloc),
-        root: None,
-        zones,
-    }))
-}
-
-// The step by which a plan is taken, if there is one.
-fn take_step(alloc: Global, map: &NewMap, plan: Option<Plan>) -> Result<MapStep, NoMemory>
-    requires { (own : Plan) → plan ≡ Some own → AllPairs BeginsBefore (fronts own.parts.items) }
-    ensures { IfOk result (IsStep map.now (option_to_list plan) [] [] None) }
-{
-    let Some(plan) = plan else {
-        return Ok(MapStep::Nothing);
-    };
-    let mut zones = Vec::new(alloc);
-    changed_zones(map, Some(&plan), None, &[], &mut zones)?;
-    let mut plans = Vec::new(alloc);
-    push(&mut plans, plan)?;
-    Ok(MapStep::New(SpaceStep {
-        plans,
-        gone: Vec::new(alloc),
-        kept: Vec::new(alloc),
-        root: None,
-        zones,
-    }))
-}
 
 // ---- the object
 
-// What is planned for some bytes.
-fn plan_bytes(alloc: Global, map: &NewMap, bytes: u64) -> Result<Plan, PlanError>
-    requires some { 0 < bytes }
-    requires few { bytes < 2 ^ 32 }
-    ensures own { IfOk result (IsOwnPlan map.now bytes) }
-    ensures id { IfOk result (λ plan. plan.id < 2 ^ 24) }
-    ensures refused { AnswersPlan map.now bytes result }
+// The slack that a new object gets, if it may have any and there is some.
+fn share_for(
+    alloc: Global,
+    map: &NewMap,
+    owners: &Owners,
+    wants: &Wants,
+) -> Result<Option<Share>, NoMemory>
+    ensures { IfOk result (λ share. option_map place_in share ≡ slack_for map.now owners.now wants.now) }
 {
-    map.is_map();
-    let mut supply = Supply::new(alloc, map)?;
-    supply.plan(alloc, bytes)
+    let Some(dir) = wants.shares else {
+        return Ok(None);
+    };
+    slack(alloc, map, owners, dir, u64::from(wants.bytes))
 }
 
-// Where a new object is to lie: in slack if it may and there is some, else in a new identifier; without bytes nowhere.
-fn find(alloc: Global, map: &NewMap, owners: &Owners, wants: &Wants) -> Result<Placing, PlanError>
-    requires few { wants.now.bytes < 2 ^ 32 }
-    ensures place { IfOk result (IsPlacingFor map.now owners.now wants.now) }
-    ensures id { IfOk result (λ place. id_in place < 2 ^ 24) }
-    ensures refused { AnswersPlan map.now (bytes_left map.now owners.now wants.now) result }
+// The bytes of the object that need new space: none in slack.
+fn bytes_left(share: &Option<Share>, bytes: u32) -> u32
+    ensures { result ≡ (if is_some share.now then 0 else bytes) }
 {
-    map.is_map();
-    let bytes = u64::from(wants.bytes);
-    if bytes == 0 {
-        return Ok(Placing::Nowhere);
+    match share {
+        Some(_) => 0,
+        None => bytes,
     }
-    if let Some(dir) = wants.shares {
-        if let Some(share) = slack(alloc, map, owners, dir, bytes)? {
-            return Ok(Placing::Shared(share));
-        }
+}
+
+// Where the object is to lie: in slack if there is some, else in new space; without bytes nowhere.
+fn placing_of(share: Option<Share>, own: Option<Plan>) -> Placing
+    ensures { result ≡ placing_of share own }
+{
+    match share {
+        Some(share) => Placing::Shared(share),
+        None => match own {
+            Some(plan) => Placing::New(plan),
+            None => Placing::Nowhere,
+        },
     }
-    Ok(Placing::New(plan_bytes(alloc, map, bytes)?))
 }
 
 // The address of an object that is placed so: a directory begins with its identifier.
@@ -230,35 +167,45 @@ fn copied_from(
 
 // ---- all of it
 
-// The space of an object that is placed so, and what goes back.
+// The space of an object in slack or with this plan, and of a directory that grows, and what goes back.
 fn spaces_for(
     alloc: Global,
     held: &Held,
     map: &NewMap,
     wants: &Wants,
-    placing: Placing,
+    share: Option<Share>,
+    growing: Growing,
+    plans: Plans,
 ) -> Result<Spaces, NoMemory>
     requires map { layout_of held.now.places.now ≡ Layout.New map.now }
     requires can { CanPlace (parts_of held.now) wants.now }
-    requires id { id_in placing < 2 ^ 24 }
-    requires placing { IsPlacingFor map.now held.now.owners.now wants.now placing }
+    requires judged { IsJudged map.now (parts_of held.now) wants.now.grows growing }
+    requires shared { option_map place_in share ≡ slack_for map.now held.now.owners.now wants.now }
+    requires planned { ArePlanned map.now (bytes_left map.now held.now.owners.now wants.now) growing plans }
     ensures { IfOk result (ArePlaced map.now (parts_of held.now) wants.now) }
 {
+    map.is_map();
+    let Plans { object: own, dir } = plans;
+    let alone = alone_in(&growing);
+    let placing = placing_of(share, own);
     let object = object_place(alloc, held, map, wants, &placing)?;
     let copied = copied_from(alloc, held, wants.copied)?;
-    let gone = gone_by(alloc, held.owners, wants.goes, shared_id(&placing))?;
-    let take = take_step(alloc, map, plan_in(placing))?;
+    let gone = gone_at_last(alloc, held.owners, wants, shared_id(&placing), &dir, alone)?;
+    let grown = place_grown(alloc, map, growing, &dir)?;
+    let take = take_step(alloc, map, plan_in(placing), dir, alone, root_of(&grown))?;
     let give = give_step(alloc, map, gone)?;
     Ok(Spaces {
         object,
         copied,
-        grown: None,
+        grown,
         take,
         give,
     })
 }
 
-/// Finds the space that a job wants of a new map, and what goes back. No directory grows.
+/// Finds the space that a job wants of a new map, and what goes back. The object's comes first: slack that other files of its directory
+/// leave, else new space. A directory that has to grow does so where it lies, if it has room there, else in new space from what the
+/// object's left. The map's holes are gone over twice.
 pub fn place_new(
     alloc: Global,
     held: &Held,
@@ -270,6 +217,10 @@ pub fn place_new(
     ensures places { IfOk result (ArePlaced map.now (parts_of held.now) wants.now) }
     ensures refused { AnswersSpace result (short_new map.now (parts_of held.now) wants.now) }
 {
-    let placing = find(alloc, map, held.owners, wants)?;
-    Ok(spaces_for(alloc, held, map, wants, placing)?)
+    let share = share_for(alloc, map, held.owners, wants)?;
+    let growing = judge(alloc, held, map, wants.grows)?;
+    let bytes = bytes_left(&share, wants.bytes);
+    check(map, bytes, &growing)?;
+    let plans = plan_both(alloc, map, bytes, &growing)?;
+    Ok(spaces_for(alloc, held, map, wants, share, growing, plans)?)
 }

@@ -1,12 +1,11 @@
-use Rattle.std.proofs.Common.{◌∷◌, [], Option, refl, sym, subst, ◌∙◌}
-use Rattle.fc_change.specs.declared.spaces.GrownPlace.{GrownPlace}
-use Rattle.fc_change.specs.Prepared.{IsGrownPiece}
+use Rattle.std.proofs.Common.{◌∷◌, [], refl, sym, ◌∙◌, append-nil}
+use Rattle.fc_change.proofs.PieceLemmas.{none_early, one_early}
 use Rattle.fc_change.proofs.pieces.add_grown.Goals as goal
 
 pub returns : goal.returns
 returns c = (
   c.in_ok-piece.piece ∷ [],
-  subst (λ (o : Option GrownPlace). IsGrownPiece o c.args.says.now (c.in_ok-piece.piece ∷ [])) (sym c.in-Some.is) (
+  one_early c.args.grown.now c.in-Some.g c.args.says.now (c.in_ok-piece.piece ∷ []) c.in-Some.is c.if-not-g.false (
     c.said_of-said.result.now,
     c.said_of-said.ensures.told,
     c.said_of-said.ensures.node,
