@@ -1,13 +1,10 @@
 -- A directory that grows, from how it is judged to where it lies.
-use Rattle.std.proofs.Common.{◌≡◌, ◌<◌, ◌≤◌, ◌⊎◌, inl, inr, ◌+◌, ◌==◌, ◌*◌, ℕ, Bool, true, false, cond, List, [], ◌∷◌, Option, Some, None, refl, sym, ap, ap₂, subst, ◌∙◌, ◌^◌, arith}
-use Rattle.std.specs.Prelude.{All, AllPairs, Contains, IfSome, nat_lt, nat_le, ◌&&◌, not}
-use Rattle.fc_newmap.specs.Map.{Map, ZoneRun, hole_runs}
+use Rattle.std.proofs.Common.{◌≡◌, ◌<◌, ◌⊎◌, inl, inr, ℕ, Bool, true, false, cond, Option, Some, None, refl, sym, ap, ap₂, subst, ◌∙◌}
+use Rattle.std.specs.Prelude.{AllPairs, IfSome}
+use Rattle.fc_newmap.specs.Map.{Map}
 use Rattle.fc_newmap.specs.NewMap.{IsNewMap}
-use Rattle.fc_image.specs.Layout.{Layout, id_of, is_object_id, sectors_at}
-use Rattle.fc_image.specs.effects.Placed.{BeginsBefore, IsPlan, holes_left}
-use Rattle.fc_image.specs.effects.Sharing.{units}
+use Rattle.fc_image.specs.effects.Placed.{BeginsBefore}
 use Rattle.fc_plan.specs.declared.plan.Plan.{Plan}
-use Rattle.fc_plan.specs.Applied.{IsTakenIn, parts_in}
 use Rattle.fc_plan.specs.Parts.{fronts}
 use Rattle.fc_plan.specs.Supply.{Stock, stock_of}
 use Rattle.fc_tree.specs.Counts.{address_in}
@@ -20,7 +17,7 @@ use Rattle.fc_change.specs.declared.job.Growth.{Growth}
 use Rattle.fc_change.specs.declared.placing.growth.Growing.{Growing}
 use Rattle.fc_change.specs.declared.placing.growth.Growing.TheVariants as growings
 use Rattle.fc_change.specs.declared.spaces.GrownPlace.{GrownPlace}
-use Rattle.fc_change.specs.GrownSpace.{IsGrown, IsNewSpace, LeadsTo, address_moved, gone_at_once, has_room, is_alone, kept_parts, place_of_plan, plans_of}
+use Rattle.fc_change.specs.GrownSpace.{IsGrown, IsNewSpace, LeadsTo, address_moved, gone_at_once, is_alone, kept_parts, plans_of}
 use Rattle.fc_change.specs.Planning.{IsGrowthPlan, IsGrowthTaken, IsGrownTo, IsJudged, IsLonger, IsMovedIf, IsMovedTo, IsNewSpaceOf, IsObjectTaken, IsPlannedAfter, alone_in, len_moved}
 use Rattle.fc_change.specs.Shortage.{grown_bytes, is_grown_alone, short_of}
 use Rattle.fc_change.specs.Steps.{IsStep}

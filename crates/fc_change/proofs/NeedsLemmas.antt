@@ -1,9 +1,8 @@
 -- What a node's directory says, to whom its room is asked.
-use Rattle.std.proofs.Common.{◌≡◌, Option, Some, None, List, ℕ}
+use Rattle.std.proofs.Common.{◌≡◌, Option, Some, None}
 use Rattle.fc_dirs.specs.Directory.{Directory}
 use Rattle.fc_tree.specs.Nodes.{body_in}
 use Rattle.fc_tree.specs.declared.node.Body.TheVariants as bodies
-use Rattle.fc_tree.specs.declared.node.Body.{Body}
 use Rattle.fc_tree.specs.declared.node.Node.{Node}
 
 -- a body says one directory

@@ -1,5 +1,5 @@
 -- Space that goes back on an old map, and both steps of it.
-use Rattle.std.proofs.Common.{◌≡◌, ◌<◌, ◌≤◌, ◌==◌, ℕ, Bool, true, false, cond, List, length, Option, Some, None, refl, sym, ap, subst, ◌∙◌}
+use Rattle.std.proofs.Common.{◌≡◌, ◌<◌, ◌≤◌, ℕ, false, List, length, Option, Some, None, refl, sym, subst, ◌∙◌}
 use Rattle.std.specs.Prelude.{IsSome, nat_lt}
 use Rattle.std.specs.Option.{option_map}
 use Rattle.std.specs.FinMap.{get}
@@ -17,7 +17,6 @@ use Rattle.fc_tree.specs.declared.node.Node.{Node}
 use Rattle.fc_writing.specs.declared.ready.MapStep.{MapStep}
 use Rattle.fc_change.specs.declared.job.Wants.{Wants}
 use Rattle.fc_change.specs.declared.placing.old.Taken.{Taken}
-use Rattle.fc_change.specs.declared.spaces.Spaces.{Spaces}
 use Rattle.fc_change.specs.OldSpace.{CanFreeFrom, IsMapNow, map_after, map_given, map_taken, space_at, units_of}
 use Rattle.fc_change.specs.Places.{ArePlacedOld, IsOldStep, IsTakenFor}
 use Rattle.fc_change.proofs.OldTakingLemmas.{after_is}

@@ -1,12 +1,10 @@
 -- Space that is taken from an old map, and why there is none.
-use Rattle.std.proofs.Common.{◌≡◌, ◌<◌, ◌≤◌, ◌⊎◌, inl, inr, ◌+◌, ◌*◌, ◌/◌, ◌%◌, ◌^◌, ◌==◌, ℕ, zero, suc, Bool, true, false, cond, List, [], ◌∷◌, length, refl, sym, ap, subst, ◌∙◌, arith, Some, None, Option}
-use Rattle.std.specs.Prelude.{◌&&◌, is_none, nat_le, nat_lt, Result, Ok, Err, Vec}
-use Rattle.std.specs.declared.alloc.Global.{Global}
+use Rattle.std.proofs.Common.{◌≡◌, ◌<◌, ◌≤◌, inl, inr, ◌+◌, ◌*◌, ◌%◌, ◌^◌, ◌==◌, ℕ, zero, suc, Bool, true, false, cond, List, [], ◌∷◌, length, refl, sym, ap, subst, ◌∙◌, arith, Some, None, Option}
+use Rattle.std.specs.Prelude.{◌&&◌, is_none, nat_le, nat_lt, Result, Ok, Err}
 use Rattle.std.specs.Int.{div_ceil}
 use Rattle.std.proofs.lemmas.Bool.{leb-true, lt-ltb, le-ltb}
 use Rattle.std.proofs.lemmas.Bool.Decides.{nat_tests}
 use Rattle.std.proofs.lemmas.List.Sums.{sum_by-cons}
-use Rattle.fc_device.specs.declared.disk.Extent.{Extent}
 use Rattle.fc_names.specs.declared.refusal.Refusal.{Refusal}
 use Rattle.fc_names.specs.declared.refusal.Refusal.TheVariants as refusals
 use Rattle.fc_oldmap.specs.declared.Hole.{Hole}
@@ -18,7 +16,7 @@ use Rattle.fc_oldmap.proofs.MapLemmas.{length-after_take, take_answer-none, take
 use Rattle.fc_oldmap.proofs.SpaceLemmas.{AreHoles-after_take, sum-inside}
 use Rattle.fc_model.specs.Answer.{first_of, when}
 use Rattle.fc_image.specs.Layout.{Layout, sectors_at}
-use Rattle.fc_image.specs.effects.Short.{holes_without, old_need}
+use Rattle.fc_image.specs.effects.Short.{old_need}
 use Rattle.fc_objects.specs.Extents.{sectors_in}
 use Rattle.fc_tree.proofs.WalkedLemmas.{same_some}
 use Rattle.fc_oldlaws.specs.agree.Spaces.{SpaceLaw}

@@ -1,5 +1,5 @@
 -- Why an old map has no space, from what it answers.
-use Rattle.std.proofs.Common.{◌≡◌, ◌&&◌, Bool, true, false, [], ◌∷◌, length, Option, Some, None, refl, ap, ◌∙◌}
+use Rattle.std.proofs.Common.{◌≡◌, ◌&&◌, Bool, false, [], ◌∷◌, length, Option, Some, None, refl, ap, ◌∙◌}
 use Rattle.std.specs.Prelude.{is_none, nat_lt}
 use Rattle.fc_image.specs.effects.Short.{old_need}
 use Rattle.fc_model.specs.Answer.{first_of, when}

@@ -8,7 +8,7 @@ use Rattle.fc_newmap.specs.Map.{Map}
 use Rattle.fc_image.specs.Layout.{Layout, id_of, low_of, low_start, new_sectors, sectors_at}
 use Rattle.fc_changes.proofs.BasicLemmas.{and_false}
 use Rattle.fc_placing.specs.Leaving.{has_other}
-use Rattle.fc_change.specs.Shortage.{has_room_by, leaves_free_for, others_leave_free}
+use Rattle.fc_change.specs.Shortage.{has_room_by, others_leave_free}
 
 -- ---- room that is asked of the map
 

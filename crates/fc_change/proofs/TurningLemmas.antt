@@ -1,15 +1,13 @@
 -- What stays of nodes and owners while a change is taken over.
 use Rattle.std.proofs.Common.{◌≡◌, ◌<◌, ◌+◌, ◌==◌, ◌||◌, ℕ, zero, suc, Bool, true, false, cond, List, [], ◌∷◌, Option, Some, None, refl, sym, ap, ap₂, subst, ◌∙◌}
-use Rattle.std.specs.Prelude.{Contains, IfSome, IsSome, IsTrue, is_none, slice_set}
+use Rattle.std.specs.Prelude.{IfSome, IsSome, is_none, slice_set}
 use Rattle.std.specs.List.{position_or_len}
 use Rattle.std.specs.Option.{option_map_or}
-use Rattle.std.specs.Ordering.{nat_cmp, eq_by_cmp}
 use Rattle.std.specs.Cmp.{nat_cmp_total}
 use Rattle.std.specs.FinMap.{get, insert as put, get-insert}
 use Rattle.std.proofs.lemmas.Bool.{eqb-true}
 use Rattle.fc_alloc.specs.declared.owner.Owner.{Owner}
 use Rattle.fc_alloc.specs.Owners.{has_node, is_node, with_changed}
-use Rattle.fc_dirs.specs.declared.Entry.{Entry}
 use Rattle.fc_drafts.specs.Entries.{regrown}
 use Rattle.fc_image.specs.Layout.{Layout}
 use Rattle.fc_laws.specs.nodes.Edits.{Nodes, with_edited}

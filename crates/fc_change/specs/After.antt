@@ -1,9 +1,8 @@
 -- A volume's nodes and owners after a change.
-use Rattle.std.specs.Prelude.{◌≡◌, ◌+◌, ◌<◌, ℕ, List, [], ◌∷◌, Option, Some, None, IsSome, IsTrue, Contains}
+use Rattle.std.specs.Prelude.{◌≡◌, ◌<◌, ℕ, List, [], ◌∷◌, Option, Some, None, IsSome, IsTrue, Contains}
 use Rattle.std.specs.FinMap.{get, insert as put, remove as take}
 use Rattle.fc_alloc.specs.declared.owner.Owner.{Owner}
 use Rattle.fc_alloc.specs.Owners.{has_node, with_changed}
-use Rattle.fc_dirs.specs.declared.Entry.{Entry}
 use Rattle.fc_drafts.specs.declared.draft.Draft.{Draft}
 use Rattle.fc_drafts.specs.Draft.{directory_in}
 use Rattle.fc_drafts.specs.Entries.{regrown}

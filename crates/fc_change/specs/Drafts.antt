@@ -1,6 +1,6 @@
 -- What a job's change is.
-use Rattle.std.specs.Prelude.{◌≡◌, ◌<◌, ℕ, Bool, true, false, ◌==◌, List, [], ◌∷◌, ◌++◌, Option, Some, None, if◌then◌else◌, slice_get, Contains, IsSome}
-use Rattle.std.specs.Option.{option_map, option_map_or, unwrap_or}
+use Rattle.std.specs.Prelude.{◌≡◌, ◌<◌, ℕ, ◌==◌, List, [], ◌∷◌, ◌++◌, Option, Some, None, if◌then◌else◌, slice_get, Contains, IsSome}
+use Rattle.std.specs.Option.{option_map, unwrap_or}
 use Rattle.fc_dirs.specs.declared.Entry.{Entry}
 use Rattle.fc_drafts.specs.declared.draft.Draft.{Draft}
 use Rattle.fc_drafts.specs.Draft.{CanAddress, CanBeCalled, directory_in}
@@ -15,7 +15,6 @@ use Rattle.fc_tree.specs.Nodes.{is_directory_node}
 use Rattle.fc_tree.specs.Parts.{Parts}
 use Rattle.fc_change.specs.declared.change.Change.{Change}
 use Rattle.fc_change.specs.declared.change.Regrowth.{Regrowth}
-use Rattle.fc_change.specs.declared.change.Says.{Says}
 use Rattle.fc_change.specs.declared.change.Turned.{Turned}
 use Rattle.fc_change.specs.declared.change.Turned.TheVariants as turns
 use Rattle.fc_change.specs.declared.job.Job.{Job}

@@ -19,7 +19,6 @@ use Rattle.fc_plan.specs.Parts.{fronts}
 use Rattle.fc_tree.specs.Counts.{address_in}
 use Rattle.fc_tree.specs.Parts.{Parts}
 use Rattle.fc_writing.specs.declared.ready.RootPlace.{RootPlace}
-use Rattle.fc_change.specs.declared.change.Regrowth.{Regrowth}
 use Rattle.fc_change.specs.declared.job.Growth.{Growth}
 use Rattle.fc_change.specs.declared.job.Wants.{Wants}
 use Rattle.fc_change.specs.declared.spaces.GrownPlace.{GrownPlace}

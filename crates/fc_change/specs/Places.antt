@@ -1,25 +1,17 @@
 -- Places for what a job wants.
-use Rattle.std.specs.Prelude.{◌≡◌, ◌<◌, ◌≤◌, ◌^◌, ◌⊎◌, ℕ, ◌+◌, ◌*◌, Bool, true, false, List, [], ◌∷◌, ◌++◌, length, Option, Some, None, Vec, IsSome, is_none, ◌&&◌}
+use Rattle.std.specs.Prelude.{◌≡◌, ◌<◌, ◌^◌, ◌⊎◌, ℕ, ◌*◌, Bool, true, false, List, [], ◌++◌, Option, Some, None, Vec, IsSome, is_none, ◌&&◌}
 use Rattle.std.specs.declared.alloc.Global.{Global}
-use Rattle.std.specs.Option.{option_map, option_map_or, option_to_list}
+use Rattle.std.specs.Option.{option_map}
 use Rattle.std.specs.FinMap.{get}
 use Rattle.fc_alloc.specs.declared.owner.Owner.{Owner}
 use Rattle.fc_device.specs.declared.disk.Extent.{Extent}
-use Rattle.fc_dirs.specs.declared.Entry.{Entry}
-use Rattle.fc_names.specs.declared.refusal.Refusal.{Refusal}
-use Rattle.fc_newmap.specs.Map.{Map, bits_in}
-use Rattle.fc_oldmap.specs.declared.Hole.{Hole}
-use Rattle.fc_oldmap.specs.Holes.{AreHoles, after_give, after_take, first_fit_place, hole, hole_limit}
-use Rattle.fc_oldmap.specs.OldMap.{OldMapContent, map_units}
-use Rattle.fc_model.specs.Command.{Command}
+use Rattle.fc_newmap.specs.Map.{Map}
+use Rattle.fc_oldmap.specs.Holes.{first_fit_place}
+use Rattle.fc_oldmap.specs.OldMap.{OldMapContent}
 use Rattle.fc_image.specs.Layout.{Layout, dir_form, sectors_at}
-use Rattle.fc_image.specs.Opening.{Opened}
-use Rattle.fc_image.specs.Sound.{AreSound}
 use Rattle.fc_image.specs.Walk.{object_size}
-use Rattle.fc_image.specs.effects.Placed.{file_low}
-use Rattle.fc_image.specs.effects.Short.{holes_without, old_need, short}
+use Rattle.fc_image.specs.effects.Short.{old_need}
 use Rattle.fc_objects.specs.Extents.{sectors_in}
-use Rattle.fc_oldchanges.specs.Owed.{holding}
 use Rattle.fc_placing.specs.Extents.{IsOwnPlace}
 use Rattle.fc_placing.specs.Leaving.{LeavesIds, LeavesUsed}
 use Rattle.fc_placing.specs.Places.{IsOwnPlan, address_in, shared_id, slack_left}
@@ -28,19 +20,14 @@ use Rattle.fc_slack.specs.Slack.{place_in}
 use Rattle.fc_placing.specs.declared.placing.Placing.{Placing}
 use Rattle.fc_placing.specs.declared.placing.Placing.TheVariants as placings
 use Rattle.fc_plan.specs.declared.plan.Plan.{Plan}
-use Rattle.fc_plan.specs.Parts.{fronts}
-use Rattle.fc_tree.specs.Parts.{ArePartsOf, Parts}
+use Rattle.fc_tree.specs.Parts.{Parts}
 use Rattle.fc_tree.specs.declared.node.Node.{Node}
 use Rattle.fc_laws.specs.nodes.Edits.{Nodes}
 use Rattle.fc_change.specs.declared.job.Growth.{Growth}
 use Rattle.fc_change.specs.declared.job.Wants.{Wants}
 use Rattle.fc_writing.specs.declared.ready.MapStep.{MapStep}
 use Rattle.fc_writing.specs.declared.ready.MapStep.TheVariants as steps
-use Rattle.fc_writing.specs.declared.ready.RootPlace.{RootPlace}
-use Rattle.fc_change.specs.declared.spaces.GrownPlace.{GrownPlace}
 use Rattle.fc_change.specs.declared.spaces.Place.{Place}
-use Rattle.fc_change.specs.declared.spaces.SpaceError.{SpaceError}
-use Rattle.fc_change.specs.declared.spaces.SpaceError.TheVariants as errors
 use Rattle.fc_change.specs.declared.spaces.Spaces.{Spaces}
 use Rattle.fc_change.specs.OldSpace.{CanFree, IsMapNow, LieBehind, map_given, map_taken}
 use Rattle.fc_change.specs.declared.placing.old.Taken.{Taken}

@@ -11,7 +11,6 @@ use Rattle.fc_plan.specs.Parts.{fronts}
 use Rattle.fc_plan.specs.Supply.{Stock}
 use Rattle.fc_tree.specs.Counts.{address_in}
 use Rattle.fc_tree.specs.Parts.{Parts}
-use Rattle.fc_change.specs.declared.change.Regrowth.{Regrowth}
 use Rattle.fc_change.specs.declared.job.Growth.{Growth}
 use Rattle.fc_change.specs.declared.placing.growth.Growing.{Growing}
 use Rattle.fc_change.specs.declared.placing.growth.Growing.TheVariants as growings

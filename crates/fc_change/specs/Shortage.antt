@@ -1,8 +1,8 @@
 -- Why there is no space for what a job wants.
-use Rattle.std.specs.Prelude.{◌≡◌, ℕ, ◌+◌, ◌*◌, Bool, not, ◌&&◌, nat_le, nat_lt, ◌==◌, ◌||◌, [], ◌∷◌, List, length, if◌then◌else◌, false, true, Option, Some, None, is_none, is_some, Result, Ok, Err}
+use Rattle.std.specs.Prelude.{◌≡◌, ℕ, ◌+◌, ◌*◌, Bool, not, ◌&&◌, nat_le, nat_lt, ◌==◌, ◌||◌, [], ◌∷◌, List, length, if◌then◌else◌, true, Option, Some, None, is_none, is_some, Result, Ok, Err}
 use Rattle.std.specs.Int.{div_ceil}
 use Rattle.std.specs.List.{list_all}
-use Rattle.std.specs.Option.{option_and_then, option_map_or}
+use Rattle.std.specs.Option.{option_and_then}
 use Rattle.fc_names.specs.declared.refusal.Refusal.{Refusal}
 use Rattle.fc_names.specs.declared.refusal.Refusal.TheVariants as refusals
 use Rattle.fc_alloc.specs.declared.owner.Owner.{Owner}

@@ -1,5 +1,5 @@
-use Rattle.std.proofs.Common.{◌∷◌, [], refl, sym, ◌∙◌, append-nil}
-use Rattle.fc_change.proofs.PieceLemmas.{none_early, one_early}
+use Rattle.std.proofs.Common.{◌∷◌, [], refl, ◌∙◌}
+use Rattle.fc_change.proofs.PieceLemmas.{one_early}
 use Rattle.fc_change.proofs.pieces.add_grown.Goals as goal
 
 pub returns : goal.returns

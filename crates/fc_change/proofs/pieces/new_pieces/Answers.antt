@@ -1,4 +1,4 @@
-use Rattle.std.proofs.Common.{List, ℕ, sym, subst}
+use Rattle.std.proofs.Common.{ℕ, sym, subst}
 use Rattle.std.proofs.lemmas.Result.{IfOk-weaker}
 use Rattle.fc_dirs.specs.declared.Entry.{Entry}
 use Rattle.fc_change.specs.declared.change.Turned.{Turned}

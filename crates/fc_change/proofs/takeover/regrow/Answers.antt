@@ -1,4 +1,4 @@
-use Rattle.std.proofs.Common.{◌≡◌, Option, refl, sym, subst, ap, ◌∙◌}
+use Rattle.std.proofs.Common.{Option, sym, subst, ap, ◌∙◌}
 use Rattle.std.specs.FinMap.{get}
 use Rattle.fc_drafts.specs.Entries.{regrown}
 use Rattle.fc_laws.specs.nodes.Edits.{Nodes}

@@ -1,4 +1,4 @@
-use Rattle.std.proofs.Common.{◌≡◌, ◌++◌, ◌∙◌, Bool, ℕ, List, Option, ap, sym, subst}
+use Rattle.std.proofs.Common.{◌++◌, ◌∙◌, Bool, ℕ, Option, ap, sym, subst}
 use Rattle.std.specs.Prelude.{AllPairs, IfSome}
 use Rattle.std.specs.Option.{option_to_list}
 use Rattle.fc_image.specs.Layout.{Layout}

@@ -1,4 +1,3 @@
-use Rattle.std.proofs.Common.{◌≡◌}
 use Rattle.fc_change.specs.Held.{parts_of}
 use Rattle.fc_change.proofs.OldGivingLemmas.{never_full, placed_old}
 use Rattle.fc_change.proofs.RefusalLemmas.{none_refused}

@@ -1,9 +1,8 @@
-use Rattle.std.proofs.Common.{◌≡◌, ℕ, List, Option, Some, refl, sym, ap, ap₂, subst, ◌∙◌}
+use Rattle.std.proofs.Common.{◌≡◌, ℕ, Some, refl, sym, ap, ap₂, subst, ◌∙◌}
 use Rattle.std.specs.Prelude.{IsSome, Ok}
 use Rattle.fc_image.specs.Layout.{Layout, sectors_at}
 use Rattle.fc_image.specs.effects.Short.{old_need}
 use Rattle.fc_oldmap.specs.Holes.{after_take, take_answer}
-use Rattle.fc_oldmap.specs.OldMap.{OldMapContent}
 use Rattle.fc_oldchanges.specs.Owed.{holding}
 use Rattle.fc_objects.specs.Extents.{sectors_in}
 use Rattle.fc_change.proofs.OldTakingLemmas.{fits_at, is_taken, no_lack, nothing_taken, some_bytes}

@@ -1,4 +1,4 @@
-use Rattle.std.proofs.Common.{◌≡◌, ◌∙◌, List, ℕ, Option, Some, ap, sym, subst, filter}
+use Rattle.std.proofs.Common.{◌≡◌, ◌∙◌, Option, ap, sym, subst, filter}
 use Rattle.std.proofs.lemmas.Result.{IfOk-weaker}
 use Rattle.std.specs.Prelude.{IfOk}
 use Rattle.fc_newmap.specs.Map.{zone_numbers}
