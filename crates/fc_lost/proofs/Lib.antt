@@ -1,0 +1,4 @@
+mod OwnersLemmas
+mod PlacesLemmas
+mod StandsLemmas
+mod KeepsLemmas
