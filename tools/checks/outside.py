@@ -65,7 +65,7 @@ class Place:
                      "fresh.adf.old": self.fresh["E"], "short.adf": b"fresh.adf"}
         for name, content in self.kept.items():
             write(os.path.join(self.folder, name), content)
-        for name, content in (("script", SCRIPT.encode()), ("empty", b""), ("change", b"load $.hello\nreclaim\n"),
+        for name, content in (("script", SCRIPT.encode()), ("empty", b""),
                               ("refused", b"load $.none\n"), ("long", bytes([10]) * ((1 << 24) + 1))):
             write(os.path.join(self.root, name), content)
         self.passed = 0
@@ -191,10 +191,10 @@ def reads(place: Place) -> None:
 STATUSES = [
     (0, ["disc.adf"], "empty"), (1, ["disc.adf"], "refused"), (2, ["--unknown", "disc.adf"], "script"),
     (3, ["zeros.adf"], "script"), (3, ["/dev/null"], "script"), (4, ["."], "script"),
-    (8, ["disc.adf"], "long"), (9, ["disc.adf"], "change"), (9, ["--safe", "disc.adf"], "script"), (12, ["none.adf"], "script"),
+    (8, ["disc.adf"], "long"), (9, ["--safe", "disc.adf"], "script"), (12, ["none.adf"], "script"),
     (12, ["--new", "E", "disc.adf"], "script"), (12, ["--new", "E", "victim.adf"], "script"),
     (8, ["--new", "E", "fresh.adf"], "long"), (4, ["--new", "E", "none/fresh.adf"], "script"),
-    (9, ["--new", "E", "fresh.adf"], "change"),
+    (9, ["--safe", "--new", "E", "fresh.adf"], "script"),
     (2, [b"d\xffsc.adf"], "script"), (2, ["--new", "E", b"fresh\xff.adf"], "script"), (2, [""], "script"),
     (12, ["n" * 300], "script"), (12, ["n" * 5000], "script"), (12, ["disc.adf/"], "script"),
     (4, ["--new", "E", "n" * 300], "script"), (4, ["--new", "E", "n" * 5000], "script"),
@@ -219,7 +219,7 @@ def statuses(place: Place) -> None:
 
 STREAM_WORDS = [
     (["disc.adf"], "script"), (["--read-only", "disc.adf"], "script"), (["--new", "L", "fresh.adf"], "script"),
-    (["none.adf"], "script"), (["--unknown"], "script"), (["disc.adf"], "empty"), (["disc.adf"], "change"),
+    (["none.adf"], "script"), (["--unknown"], "script"), (["disc.adf"], "empty"), (["--safe", "disc.adf"], "script"),
     (["zeros.adf"], "script"),
 ]
 SUBSETS = [subset for count in range(4) for subset in itertools.combinations(range(3), count)]
@@ -229,10 +229,10 @@ def wanted_of_closed(words: List[str], script: str, closed: Tuple[int, ...]) -> 
     """Status and what is left of fresh.adf: the words come first, then the script, the image, the replies."""
     if "--unknown" in words:
         return 2, "absent"
+    if "--safe" in words:
+        return 9, "absent"
     if 0 in closed:
         return 5, "absent"
-    if script == "change":
-        return 9, "absent"
     if "none.adf" in words:
         return 12, "absent"
     left = "whole" if "--new" in words else "absent"

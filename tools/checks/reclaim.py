@@ -5,9 +5,9 @@
 usage: tools/run checks/reclaim PROGRAM [DISCS]    30 discs, if no number is given
        tools/run checks/reclaim --self-test        the same looks over a stand-in for the program, and over it with planted faults
 
-Each disc has lost runs in many zones, next to holes that touch each other, at the ends of zones, and two in a row. No disc here has
-a lost run where a boot block would lie or on a sector of the map, so those two cases aren't looked at. What the program answers and
-leaves is judged by `expected`, which is written from docs/FORMAT.md and says what becomes of each run. What it writes is recorded as
+Each disc has lost runs in many zones, next to holes that touch each other, at the ends of zones, and two in a row; on some the map or
+the boot block lies in a lost run, which stays. What the program answers and leaves is judged by `expected`, which is written from
+docs/FORMAT.md and says what becomes of each run. What it writes is recorded as
 in checks/crash: at each crash every object has its address and bytes, and every identifier that is owned, 1 and 2 keep their runs;
 no byte outside the two copies of the map differs. Runs in which a write or a sync fails are judged as crashes are.
 """
@@ -156,6 +156,16 @@ def lose(volume: NewVolume, chance: random.Random) -> None:
                         continue
                 runs[at] = length, one
             at += 1
+    lose_reserved(volume, chance, lost)
+
+
+def lose_reserved(volume: Any, chance: random.Random, lost: List[int]) -> None:
+    """The runs in which the map and the boot block lie, but the one with the root, are lost in half of all cases."""
+    holds_root = volume.root.address // 256 == 2
+    for zone, runs in enumerate(volume.runs):
+        for at, (length, owner) in enumerate(runs):
+            if owner == 2 and not (holds_root and zone == len(volume.runs) // 2) and chance.random() < 0.5:
+                runs[at] = length, chance.choice(lost)
 
 
 def losing(name: str, seed: int) -> bytes:
@@ -266,10 +276,10 @@ def joined_bits(row: List[Tuple[int, Optional[int], bool]]) -> List[Part]:
 
 def self_test() -> bool:
     failures = []
-    for fault in (None, "owned", "nothing", "touching"):
+    for fault in (None, "owned", "nothing", "touching", "reserved"):
         caught, discs = 0, 0
         for seed in range(1, 9, 2):
-            for name in ("F", "nine-zones"):
+            for name in ("F", "nine-zones") if fault != "reserved" else ("four-zones", "nine-zones"):
                 image, steps, answer = stand_in(name, seed, fault)
                 found, end = look(image, steps, answer, random.Random(seed))
                 caught += bool(found)

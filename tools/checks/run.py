@@ -48,6 +48,7 @@ LONG: Dict[str, Long] = {
     "demo": Long(["checks/demo", "{}"], True),
     "outside": Long(["checks/outside", "{}"], False),
     "crash": Long(["checks/crash", "{}"], True),
+    "reclaim": Long(["checks/reclaim", "{}", "12"], True),
     "changes": Long(["checks/changes", "--program", "{}", "--images", "16", "--commands", "20"], True),
     "changes-old": Long(["checks/changes", "--program", "{}", "--images", "14", "--commands", "20", "--old"], True),
     "runs": Long(["checks/runs", "--program", "{}"], True),

@@ -1,12 +1,12 @@
 # SPDX-License-Identifier: MIT
-"""Runs of fcore beside the answers over single images: words, scripts, lines that are refused, fresh volumes, what isn't built."""
+"""Runs of fcore beside the answers over single images: words, scripts, lines that are refused, fresh volumes, what isn't implemented."""
 from __future__ import annotations
 
 from typing import Iterator, List, Optional, Sequence, Tuple, Union
 
 from tools.images.volumes import FRESH
 from tools.reference.filecore import (BAD_COMMAND, BAD_NAME, EXISTS, INTO_ITSELF, IS_DIRECTORY, LOCKED, NOT_DIRECTORY, NOT_EMPTY,
-                                      NOT_FOUND, READ_ONLY, ROOT_REFUSED, SCRIPT_LIMIT)
+                                      NOT_FOUND, NOT_NEW_MAP, READ_ONLY, ROOT_REFUSED, SCRIPT_LIMIT)
 
 ZEROS = "00000000 00000000"
 
@@ -83,7 +83,7 @@ def long_scripts() -> Iterator[Case]:
     yield Case("script-too-long-no-image", ["nothing.adf"], b"compact\n".ljust(SCRIPT_LIMIT + 1, b"\n"), 8)
 
 
-# ---- what isn't built yet: status 9 before anything is attached
+# ---- commands that keep the tree
 
 
 def compaction() -> Iterator[Case]:
@@ -94,6 +94,24 @@ def compaction() -> Iterator[Case]:
     for form in ("F", "D", "L"):
         image = "compacted-%s.adf" % form
         yield Case("compact-fresh-" + form, ["--new", form, image], "compact\nfree\n", 0, "ok\n" + FRESH[form]().free_line() + "ok\n",
+                   made=(image, "fresh-%s.adf" % form))
+
+
+def lost_space() -> Iterator[Case]:
+    """Where no lost space can go back, nothing is written: no image of the table may change. What goes back: tools/checks/reclaim.py."""
+    nothing = "reclaimed 0\nok\n"
+    yield Case("reclaim-nothing", ["hello.adf"], "load $.hello\nreclaim\n", 0, "48656c6c6f\nok\n" + nothing)
+    yield Case("reclaim-without-end", ["hello.adf"], "lod\nreclaim", 1, BAD_COMMAND + nothing)
+    yield Case("reclaim-held", ["f-map-in-lost-run.adf"], "reclaim\n", 0, nothing)
+    yield Case("reclaim-no-image", ["nothing.adf"], "reclaim\n", 12)
+    yield Case("reclaim-bad-image", ["zeros.adf"], "reclaim\n", 3, "bad-image NoKind\n")
+    yield Case("reclaim-read-only", ["--read-only", "hello.adf"], "reclaim\n", 1, READ_ONLY)
+    for image in ("d-files.adf", "l-files.adf"):
+        yield Case("reclaim-old-map-" + image[0], [image], "reclaim\ncat $.None\n", 1, NOT_NEW_MAP + NOT_FOUND)
+        yield Case("reclaim-read-only-old-map-" + image[0], ["--read-only", image], "reclaim\n", 1, READ_ONLY)
+    for form in ("E", "F+"):
+        image = "reclaimed-%s.adf" % form
+        yield Case("reclaim-fresh-" + form, ["--new", form, image], "reclaim\nfree\n", 0, nothing + FRESH[form]().free_line() + "ok\n",
                    made=(image, "fresh-%s.adf" % form))
 
 
@@ -138,20 +156,17 @@ def refused_changes() -> Iterator[Case]:
                    ROOT_REFUSED + NOT_FOUND, made=("set-%s.adf" % form, "fresh-%s.adf" % form))
 
 
+# ---- what isn't implemented yet: status 9 before anything is attached; and images that can't be changed
+
+
 def unbuilt() -> Iterator[Case]:
-    yield Case("reclaim", ["hello.adf"], "load $.hello\nreclaim\n", 9)
-    yield Case("change-without-end", ["hello.adf"], "lod\nreclaim", 9)
     yield Case("change-no-image", ["nothing.adf"], "cdir $.A\n", 12)
-    yield Case("reclaim-no-image", ["nothing.adf"], "reclaim\n", 9)
     yield Case("delete-no-image", ["nothing.adf"], "delete $.A\n", 12)
     yield Case("set-bad-image", ["zeros.adf"], f"set $.A {ZEROS} R\n", 3, "bad-image NoKind\n")
-    yield Case("change-bad-image", ["zeros.adf"], "reclaim\n", 9)
-    yield Case("change-read-only", ["--read-only", "hello.adf"], "reclaim\n", 9)
     yield Case("compact-bad-image", ["zeros.adf"], "compact\n", 3, "bad-image NoKind\n")
     for at, words in enumerate((["--safe"], ["--safe", "--demo", "1"])):
         yield Case("option-%d" % at, [*words, "hello.adf"], "load $.hello\n", 9)
         yield Case("option-%d-no-image" % at, ["nothing.adf", *words], "", 9)
-    yield Case("new-and-change", ["--new", "E", "unmade.adf"], "free\nreclaim\n", 9, absent="unmade.adf")
     yield Case("new-and-safe", ["--new", "E+", "--safe", "unmade.adf"], "free\n", 9, absent="unmade.adf")
 
 
@@ -216,5 +231,5 @@ def fresh() -> Iterator[Case]:
 
 
 def all_cases() -> Iterator[Case]:
-    for group in (grammar, long_scripts, compaction, refused_changes, unbuilt, words, fresh):
+    for group in (grammar, long_scripts, compaction, lost_space, refused_changes, unbuilt, words, fresh):
         yield from group()

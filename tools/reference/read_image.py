@@ -15,7 +15,7 @@ from collections import deque
 from typing import Dict, Iterator, List, Optional, Set, Tuple, Union
 
 from tools.reference.filecore import (AGREED, BAD_COMMAND, BAD_NAME, BIG_LIMIT, BOOT_BLOCK, BOOT_SIZE, EXISTS, INTO_ITSELF,
-                                      IS_DIRECTORY, LOCKED, NOT_DIRECTORY, NOT_EMPTY, NOT_FOUND, NOT_SPELLED, READ_ONLY,
+                                      IS_DIRECTORY, LOCKED, NOT_DIRECTORY, NOT_EMPTY, NOT_FOUND, NOT_NEW_MAP, NOT_SPELLED, READ_ONLY,
                                       RECORD_SIZE, ROOT_REFUSED, SCRIPT_LIMIT, SMALL_SIZE, UNIT, Geometry, Record,
                                       big_directory_check, boot_check, entry_line, folded, number, old_map_check,
                                       small_directory_check, spelled_path, zone_check)
@@ -444,7 +444,6 @@ FORMS = {  # what follows the words that are paths
 }
 READING = ("cat", "load", "digest", "free", "check")
 ADDING = ("save", "create", "cdir", "rename")  # a directory gets an entry
-UNBUILT = "reclaim"
 
 
 def read_path(text: str) -> Optional[List[bytes]]:
@@ -530,6 +529,8 @@ def adding_reply(disc: Disc, word: str, paths: List[List[bytes]], read_only: boo
 def reply(disc: Disc, word: str, paths: List[List[bytes]], read_only: bool) -> str:
     if word == "compact":  # of a disc on which nothing is left to do: this reader changes nothing
         return READ_ONLY if read_only else "ok\n"
+    if word == "reclaim":  # of a disc of which nothing goes back
+        return READ_ONLY if read_only else "reclaimed 0\nok\n" if isinstance(disc.map, NewMap) else NOT_NEW_MAP
     if word == "free":
         return "free %d %d\nok\n" % (sum(disc.map.free), max(disc.map.free, default=0))
     if word == "check":
@@ -554,8 +555,6 @@ def answer(data: bytes, script: bytes, read_only: bool = False) -> Tuple[int, st
     if len(script) > SCRIPT_LIMIT:
         return 8, ""
     commands = [read_line(line) for line in lines_of(script)]
-    if any(word == UNBUILT for word, paths, refused in commands):
-        return 9, ""
     try:
         disc = Disc(data)
     except Fault as fault:

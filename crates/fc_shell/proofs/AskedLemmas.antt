@@ -1,10 +1,9 @@
 -- Which script a run has, and what is told of it.
-use Rattle.std.proofs.Common.{◌≡◌, ◌⊎◌, ◌<◌, ◌≤◌, inl, inr, ℕ, true, List, length, Option, Some, None, refl, sym, ap, subst, ◌∙◌, arith}
+use Rattle.std.proofs.Common.{◌≡◌, ◌<◌, ◌≤◌, ℕ, List, length, Option, Some, None, refl, sym, ap, subst, ◌∙◌, arith}
 use Rattle.std.specs.Option.{ForSome}
 use Rattle.fc_runs.specs.Demo.{demo_script}
 use Rattle.fc_words.specs.CommandLine.{Request}
-use Rattle.fc_shell.specs.Built.{has_unbuilt}
-use Rattle.fc_shell.specs.Replies.{AsksNoDemo, AsksUnbuilt, asked_script, script_limit, told_script}
+use Rattle.fc_shell.specs.Replies.{AsksNoDemo, asked_script, script_limit, told_script}
 
 -- Without a demo it is the source's,
 pub told_plain : (demo : Option ℕ) (told : Option (List ℕ)) → demo ≡ None → told_script demo told ≡ told
@@ -22,12 +21,9 @@ told_demo_script demo n told is text left =
 
 -- ---- of a script that was run
 
-module _ (told : Option (List ℕ)) (text : List ℕ) (is : (other : List ℕ) → told ≡ Some other → text ≡ other) (short : length text ≤ script_limit) where
-  pub unattached_told : (X : Type 0) → (has_unbuilt text ≡ true → X) → ForSome told (λ other. (script_limit < length other) ⊎ (has_unbuilt other ≡ true) → X)
-  unattached_told X then other left (inl long) =
-      let few = subst (λ (t : List ℕ). length t ≤ script_limit) (is other left) short in
-      absurd (omega (arith, long, few))
-  unattached_told X then other left (inr unbuilt) = then (ap has_unbuilt (is other left) ∙ unbuilt)
-
-  pub unbuilt_told : (r : Request) → has_unbuilt text ≡ true → AsksUnbuilt r told
-  unbuilt_told r unbuilt = inr (λ other left. (subst (λ (t : List ℕ). length t ≤ script_limit) (is other left) short, sym (ap has_unbuilt (is other left)) ∙ unbuilt))
+-- It isn't too long.
+pub never_long : (told : Option (List ℕ)) (text : List ℕ) → ((other : List ℕ) → told ≡ Some other → text ≡ other) → length text ≤ script_limit
+    → (X : Type 0) → ForSome told (λ other. script_limit < length other → X)
+never_long told text is short X other left long =
+    let few = subst (λ (t : List ℕ). length t ≤ script_limit) (is other left) short in
+    absurd (omega (arith, long, few))

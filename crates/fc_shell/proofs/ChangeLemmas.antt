@@ -39,8 +39,8 @@ use Rattle.fc_volume.specs.Compacting.{UnlessFault}
 use Rattle.fc_volume.specs.Volume.{StandsFor, Volume, parts_of}
 use Rattle.fc_shell.specs.declared.answer.LineFault.{LineFault}
 use Rattle.fc_shell.specs.Answered.{Answered, IsCaused}
-use Rattle.fc_shell.specs.Built.{is_reading_line}
-use Rattle.fc_shell.specs.Changing.{IsAsked, KeepsVolume, Tells}
+use Rattle.fc_shell.specs.Reads.{is_reading_line}
+use Rattle.fc_shell.specs.Changing.{IsAsked, KeepsVolume, Tells, TellsBy, done_reply}
 use Rattle.fc_shell.specs.Line.{IsDone, IsReady, KeepsGoing, LineEnds}
 use Rattle.fc_shell.specs.Modes.{plain_mode}
 use Rattle.fc_shell.specs.Writing.{Wrote, WrotePart}
@@ -296,28 +296,28 @@ module _ {D K : Type 0} {d : Ghosts D} (law : Laws d) (k : Sinks K) (kind : Kind
 
 -- ---- what it keeps
 
-module _ {D K : Type 0} {d : Ghosts D} (law : Laws d) (k : Sinks K) (line : List ℕ) (was v : Volume) (old new : D) (before after : K) where
+module _ {D K T : Type 0} {d : Ghosts D} (law : Laws d) (k : Sinks K) (reply : T → List ℕ) (line : List ℕ) (was v : Volume) (old new : D) (before after : K) where
   -- Unless the disk failed, the volume takes the next line.
-  ready : (done : Result (Unit {0}) CommandError) → KeepsVolume d old new was v done → UnlessFault done (IsReady d new was v)
+  ready : (done : Result T CommandError) → KeepsVolume d old new was v done → UnlessFault done (IsReady d new was v)
   ready done keeps = by done keeps.fit keeps.stands keeps.settled
     where
       takes : v.fit ≡ true → StandsFor d v new → d.pending new ≡ false → IsReady d new was v
       takes fit stands settled = record { fit = fit; stands = stands; settled = settled; read_only = keeps.rights }
 
-      by : (x : Result (Unit {0}) CommandError) → UnlessFault x (v.fit ≡ true) → UnlessFault x (StandsFor d v new) → UnlessFault x (d.pending new ≡ false) → UnlessFault x (IsReady d new was v)
+      by : (x : Result T CommandError) → UnlessFault x (v.fit ≡ true) → UnlessFault x (StandsFor d v new) → UnlessFault x (d.pending new ≡ false) → UnlessFault x (IsReady d new was v)
       by (Ok value) fit stands settled = takes fit stands settled
       by (Err (Refused r)) fit stands settled = takes fit stands settled
       by (Err NoMemory) fit stands settled = takes fit stands settled
       by (Err DiskFault) fit stands settled = tt
 
-  ready_if : (done : Result (Unit {0}) CommandError) (result : Result Bool LineFault) → UnlessFault done (IsReady d new was v) → Tells k before after done result → IfOk result (λ refused. IsReady d new was v)
+  ready_if : (done : Result T CommandError) (result : Result Bool LineFault) → UnlessFault done (IsReady d new was v) → TellsBy reply k before after done result → IfOk result (λ refused. IsReady d new was v)
   ready_if done (Err fault) takes tells = tt
   ready_if (Ok value) (Ok refused) takes tells = takes
   ready_if (Err (Refused r)) (Ok refused) takes tells = takes
   ready_if (Err NoMemory) (Ok refused) takes tells = takes
   ready_if (Err DiskFault) (Ok refused) takes tells = absurd (let no = tells.0 in cc)
 
-  settled_if : (done : Result (Unit {0}) CommandError) (result : Result Bool LineFault) → UnlessFault done (IsReady d new was v) → Tells k before after done result → (result ≡ Err LineFault.Disk → ⊥)
+  settled_if : (done : Result T CommandError) (result : Result Bool LineFault) → UnlessFault done (IsReady d new was v) → TellsBy reply k before after done result → (result ≡ Err LineFault.Disk → ⊥)
       → d.pending new ≡ false
   settled_if (Ok value) result takes tells never = takes.settled
   settled_if (Err (Refused r)) result takes tells never = takes.settled
@@ -327,7 +327,7 @@ module _ {D K : Type 0} {d : Ghosts D} (law : Laws d) (k : Sinks K) (line : List
   same_faults : after ≡ before → k.faults before ≤ k.faults after
   same_faults same = let e = ap k.faults same in omega (arith, e)
 
-  caused : (done : Result (Unit {0}) CommandError) (result : Result Bool LineFault) → KeepsVolume d old new was v done → Tells k before after done result → IsCaused d k old new before after result
+  caused : (done : Result T CommandError) (result : Result Bool LineFault) → KeepsVolume d old new was v done → TellsBy reply k before after done result → IsCaused d k old new before after result
   caused (Ok value) result keeps tells = caused_alone d k old new before after result tells.1
   caused (Err (Refused r)) result keeps tells = caused_alone d k old new before after result tells.1
   caused (Err NoMemory) result keeps tells = record {
@@ -342,9 +342,9 @@ module _ {D K : Type 0} {d : Ghosts D} (law : Laws d) (k : Sinks K) (line : List
   }
 
   -- It is so over a line that doesn't read, and that leaves everything if the volume may not be changed.
-  pub going : (done : Result (Unit {0}) CommandError) (result : Result Bool LineFault) → KeepsVolume d old new was v done
+  pub going : (done : Result T CommandError) (result : Result Bool LineFault) → KeepsVolume d old new was v done
       → (was.read_only ≡ true → (v ≡ was) × (new ≡ old)) → is_reading_line (command_of line) ≡ false
-      → Tells k before after done result → KeepsGoing d k old new before after was v line result
+      → TellsBy reply k before after done result → KeepsGoing d k old new before after was v line result
   going done result keeps spared writes tells = record {
     goes = record { form = keeps.form; stops = keeps.goes; faults = keeps.faults };
     ready = ready_if done result (ready done keeps) tells;
@@ -396,4 +396,4 @@ module _ {D K : Type 0} {d : Ghosts D} (law : Laws d) (k : Sinks K) (line : List
   pub change_keeps : (done : Result (Unit {0}) CommandError) (result : Result Bool LineFault) → IsAsked d c was v old new done → Tells k before after done result
       → KeepsGoing d k old new before after was v line result
   change_keeps done result asked tells =
-      going law k line was v old new before after done result asked.keeps (spared done asked) (ap is_reading_line is ∙ not_reading c changes) tells
+      going law k done_reply line was v old new before after done result asked.keeps (spared done asked) (ap is_reading_line is ∙ not_reading c changes) tells

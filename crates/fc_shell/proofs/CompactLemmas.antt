@@ -39,8 +39,8 @@ use Rattle.fc_volume.specs.Volume.{Volume, parts_of}
 use Rattle.fc_oldvolume.specs.Changing.{IsOldLayout}
 use Rattle.fc_shell.specs.declared.answer.LineFault.{LineFault}
 use Rattle.fc_shell.specs.Answered.{Answered}
-use Rattle.fc_shell.specs.Built.{is_reading_line}
-use Rattle.fc_shell.specs.Changing.{IsCompacting, Tells}
+use Rattle.fc_shell.specs.Reads.{is_reading_line}
+use Rattle.fc_shell.specs.Changing.{IsCompacting, Tells, done_reply}
 use Rattle.fc_shell.specs.Line.{IsDone, KeepsGoing, LeavesTree, LineEnds}
 use Rattle.fc_shell.specs.Modes.{plain_mode}
 use Rattle.fc_shell.specs.Writing.{Wrote, WrotePart}
@@ -233,4 +233,4 @@ module _ {D K : Type 0} {d : Ghosts D} (law : Laws d) (k : Sinks K) (line : List
   pub compact_keeps : (done : Result (Unit {0}) CommandError) (result : Result Bool LineFault) → IsCompacting d was v old new done → Tells k before after done result
       → KeepsGoing d k old new before after was v line result
   compact_keeps done result asked tells =
-      going law k line was v old new before after done result asked.keeps (spared done asked) (ap is_reading_line is) tells
+      going law k done_reply line was v old new before after done result asked.keeps (spared done asked) (ap is_reading_line is) tells

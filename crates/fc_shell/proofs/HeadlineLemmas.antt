@@ -12,10 +12,9 @@ use Rattle.fc_runs.specs.Stops.{MayHaveLeft}
 use Rattle.fc_words.specs.CommandLine.{Request}
 use Rattle.fc_shell.specs.declared.ending.End.{End}
 use Rattle.fc_shell.specs.declared.ending.End.TheVariants.{Done, Refused, BadWords, BadImage, DiskFault, ScriptFault, OutFault, NoMemory, ScriptTooLong, NotBuilt, NoImage}
-use Rattle.fc_shell.specs.Built.{has_unbuilt}
 use Rattle.fc_shell.specs.Headline.{IsAnsweredByMap, start_of}
 use Rattle.fc_shell.specs.Modes.{plain_mode}
-use Rattle.fc_shell.specs.Promise.{EndsBefore, EndsByGiving, EndsByLength, EndsByOpening, EndsByScript, EndsByWords, EndsOnFault, EndsOver, EndsWithout, Promise}
+use Rattle.fc_shell.specs.Promise.{EndsBefore, EndsByGiving, EndsByLength, EndsByOpening, EndsByWords, EndsOnFault, EndsOver, EndsWithout, Promise}
 use Rattle.fc_shell.specs.Replies.{blank_size, image_for, is_unbuilt, script_limit}
 use Rattle.fc_shell.proofs.ServingLemmas.{steps_weaker}
 
@@ -102,13 +101,9 @@ module _ {D : Type 0} (d : Ghosts D) (old new : D) (headline : HeadlineLaw) (acc
   by_giving true end w x = by_opening (open_image (image_for r.new image)) end refl w x
 
   module _ (gives : List ℕ → Option ℕ → Bool) where
-    by_script : (unbuilt : Bool) (end : End) → IsWhole end → EndsByScript d old new gives r image script text unbuilt end → IsAnsweredByMap d new r image script text
-    by_script true end w x = absurd (early NotBuilt end (λ never. never) w x)
-    by_script false end w x = by_giving (gives r.image (blank_size r)) end w x
-
     by_length : (long : Bool) (end : End) → IsWhole end → EndsByLength d old new gives r image script text long end → IsAnsweredByMap d new r image script text
     by_length true end w x = absurd (early ScriptTooLong end (λ never. never) w x)
-    by_length false end w x = by_script (has_unbuilt script) end w x
+    by_length false end w x = by_giving (gives r.image (blank_size r)) end w x
 
     by_words : (unbuilt : Bool) (end : End) → IsWhole end → EndsByWords d old new gives r image script text unbuilt end → IsAnsweredByMap d new r image script text
     by_words true end w x = absurd (early NotBuilt end (λ never. never) w x)

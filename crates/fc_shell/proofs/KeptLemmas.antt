@@ -17,13 +17,13 @@ use Rattle.fc_words.specs.CommandLine.{Request}
 use Rattle.fc_words.specs.declared.Format.{Format as Word}
 use Rattle.fc_shell.specs.declared.ending.End.{End}
 use Rattle.fc_shell.specs.declared.ending.End.TheVariants.{Done, Refused, BadWords, BadImage, DiskFault, ScriptFault, OutFault, NoMemory, ScriptTooLong, NotBuilt, NoImage}
-use Rattle.fc_shell.specs.Built.{Spares, has_unbuilt, only_reads}
+use Rattle.fc_shell.specs.Reads.{Spares, only_reads}
 use Rattle.fc_shell.specs.Ends.{AsksFor, is_late, is_over_image}
 use Rattle.fc_shell.specs.Kept.{RunKeeps, RunSpares, SessionKeeps}
-use Rattle.fc_shell.specs.Promise.{EndsByGiving, EndsByLength, EndsByOpening, EndsByScript, EndsByWords, EndsWithout, Promise}
+use Rattle.fc_shell.specs.Promise.{EndsByGiving, EndsByLength, EndsByOpening, EndsByWords, EndsWithout, Promise}
 use Rattle.fc_shell.specs.Reading.{IsUnwritten}
 use Rattle.fc_shell.specs.Replies.{blank_size, format_in, image_for, is_unbuilt, script_limit}
-use Rattle.fc_shell.proofs.PromiseLemmas.{Accepts, begun_fault, memory_ends, no_fresh, no_run, none, rose_earlier}
+use Rattle.fc_shell.proofs.PromiseLemmas.{Accepts, begun_fault, memory_giving, no_fresh, no_run, none, rose_earlier}
 
 -- the same by what says as much
 pub keeps_by : {D K : Type 0} (d : Ghosts D) (k : Sinks K) (r : Request) (reads less : Type 0) (old new : D) (before after : K) (end : End) → (less → reads) → RunKeeps d k r reads old new before after end
@@ -118,7 +118,7 @@ module _ {D : Type 0} {d : Ghosts D} (law : Laws d) (r : Request) (old new : D) 
 module _ {D : Type 0} {d : Ghosts D} (law : Laws d) (accepts : Accepts) (disk : D) (gives : List ℕ → Option ℕ → Bool) (image script : List ℕ) (told : d.bytes disk ≡ Some image) where
   memory_length : (r : Request) (long : Bool) → EndsByLength d disk disk gives r image script [] long NoMemory
   memory_length r true = (inr (inr refl), none law disk)
-  memory_length r false = memory_ends law disk accepts gives r image script (has_unbuilt script) told
+  memory_length r false = memory_giving law disk accepts r image script (gives r.image (blank_size r)) told
 
   pub memory_words : (r : Request) (unbuilt : Bool) → EndsByWords d disk disk gives r image script [] unbuilt NoMemory
   memory_words r true = (inr (inr refl), none law disk)
@@ -136,7 +136,7 @@ too_long_ends {d = d} law disk gives image script r built long =
     (subst (λ (b : Bool). EndsByLength d disk disk gives r image script [] b ScriptTooLong) (sym test) (inl refl, none law disk))
 
 pub script_ends : {D : Type 0} (d : Ghosts D) (old new : D) (gives : List ℕ → Option ℕ → Bool) (image script text : List ℕ) (r : Request) (end : End) → is_unbuilt r ≡ false
-    → length script ≤ script_limit → EndsByScript d old new gives r image script text (has_unbuilt script) end → EndsByWords d old new gives r image script text (is_unbuilt r) end
+    → length script ≤ script_limit → EndsByGiving d old new r image script text (gives r.image (blank_size r)) end → EndsByWords d old new gives r image script text (is_unbuilt r) end
 script_ends d old new gives image script text r end built short x =
     let test : nat_lt script_limit (length script) ≡ false = grind (arith, nat_tests, short) in
     subst (λ (b : Bool). EndsByWords d old new gives r image script text b end) (sym built)

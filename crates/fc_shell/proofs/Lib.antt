@@ -12,6 +12,7 @@ mod MapsLemmas
 mod OutcomeLemmas
 mod PromiseLemmas
 mod ReadsLemmas
+mod ReclaimLemmas
 mod ScriptLemmas
 mod ServingLemmas
 mod StepLemmas

@@ -21,13 +21,13 @@ use Rattle.fc_runs.proofs.ReadLemmas.{read_law}
 use Rattle.fc_words.specs.CommandLine.{Request}
 use Rattle.fc_shell.specs.declared.ending.End.{End}
 use Rattle.fc_shell.specs.declared.ending.End.TheVariants.{Done, Refused, BadWords, BadImage, DiskFault, ScriptFault, OutFault, NoMemory, ScriptTooLong, NotBuilt, NoImage}
-use Rattle.fc_shell.specs.Built.{all_read, has_unbuilt, is_reading_line, only_reads}
+use Rattle.fc_shell.specs.Reads.{all_read, is_reading_line, only_reads}
 use Rattle.fc_shell.specs.Modes.{plain_mode}
-use Rattle.fc_shell.specs.Promise.{EndsBefore, EndsByGiving, EndsByLength, EndsByOpening, EndsByScript, EndsByWords, EndsOnFault, EndsOver, EndsWithout, Promise}
+use Rattle.fc_shell.specs.Promise.{EndsBefore, EndsByGiving, EndsByLength, EndsByOpening, EndsByWords, EndsOnFault, EndsOver, EndsWithout, Promise}
 use Rattle.fc_shell.specs.Replies.{AsksNoDemo, EndsAs, attached_reply, blank_size, command_reply, image_for, is_unbuilt, line_reply, opened_reply, replies_of, request_reply, script_limit, script_reply, served, silent}
 use Rattle.fc_shell.specs.Writing.{Wrote, WrotePart}
 use Rattle.fc_shell.proofs.ReadsLemmas.{one_row, one_step}
-use Rattle.fc_shell.proofs.ServingLemmas.{both_true, neither, steps_weaker, true_both}
+use Rattle.fc_shell.proofs.ServingLemmas.{both_true, steps_weaker, true_both}
 use Rattle.fc_shell.proofs.WritingLemmas.{part_of_first}
 
 -- ---- nothing was written
@@ -38,13 +38,6 @@ wrote_none (Some taken) after text wrote is = wrote ∙ ap Some (ap (λ (t : Lis
 
 part_none : (before after : Option (List ℕ)) (text whole : List ℕ) → Wrote before after text → text ≡ [] → WrotePart before after whole
 part_none before after text whole wrote is = (0, subst (Wrote before after) is wrote)
-
--- ---- which scripts only read
-
--- if every command is built, and the end is settled by words, script and image
-built_reads : (script : List ℕ) → has_unbuilt script ≡ false → (has_unbuilt script ≡ true) ⊎ (only_reads script ≡ true) → only_reads script ≡ true
-built_reads script built (inl unbuilt) = absurd (let clash : false ≡ true = sym built ∙ unbuilt in cc)
-built_reads script built (inr reads) = reads
 
 -- ---- a part of the replies
 
@@ -160,22 +153,17 @@ module _ {D : Type 0} (d : Ghosts D) (old new : D) (before after : Option (List 
       opening_as r.read_only (is_some r.new) (image_for r.new image) script (open_image (image_for r.new image)) end reads
       (subst (λ (demo : Option ℕ). EndsByOpening d old new r.read_only (is_some r.new) demo (image_for r.new image) script text (open_image (image_for r.new image)) end) plain x)
 
-  script_as : (gives : List ℕ → Option ℕ → Bool) (r : Request) (image script : List ℕ) (unbuilt : Bool) (end : End) → r.demo ≡ None → (has_unbuilt script ≡ true) ⊎ (only_reads script ≡ true) → has_unbuilt script ≡ unbuilt
-      → EndsByScript d old new gives r image script text unbuilt end → EndsAs (if unbuilt then silent NotBuilt else attached_reply (gives r.image (blank_size r)) r script image) end before after
-  script_as gives r image script true end plain settled is x = before_as NotBuilt end (λ w. (refl, w)) x
-  script_as gives r image script false end plain settled is x = giving_as r image script (gives r.image (blank_size r)) end plain (built_reads script is settled) x
+  length_as : (gives : List ℕ → Option ℕ → Bool) (r : Request) (image script : List ℕ) (long : Bool) (end : End) → r.demo ≡ None → only_reads script ≡ true → EndsByLength d old new gives r image script text long end
+      → EndsAs (if long then silent ScriptTooLong else attached_reply (gives r.image (blank_size r)) r script image) end before after
+  length_as gives r image script true end plain reads x = before_as ScriptTooLong end (λ w. (refl, w)) x
+  length_as gives r image script false end plain reads x = giving_as r image script (gives r.image (blank_size r)) end plain reads x
 
-  length_as : (gives : List ℕ → Option ℕ → Bool) (r : Request) (image script : List ℕ) (long : Bool) (end : End) → r.demo ≡ None → (has_unbuilt script ≡ true) ⊎ (only_reads script ≡ true) → EndsByLength d old new gives r image script text long end
-      → EndsAs (if long then silent ScriptTooLong else if has_unbuilt script then silent NotBuilt else attached_reply (gives r.image (blank_size r)) r script image) end before after
-  length_as gives r image script true end plain settled x = before_as ScriptTooLong end (λ w. (refl, w)) x
-  length_as gives r image script false end plain settled x = script_as gives r image script (has_unbuilt script) end plain settled refl x
-
-  words_as : (gives : List ℕ → Option ℕ → Bool) (r : Request) (image script : List ℕ) (unbuilt : Bool) (end : End) → r.demo ≡ None → (has_unbuilt script ≡ true) ⊎ (only_reads script ≡ true) → EndsByWords d old new gives r image script text unbuilt end
+  words_as : (gives : List ℕ → Option ℕ → Bool) (r : Request) (image script : List ℕ) (unbuilt : Bool) (end : End) → r.demo ≡ None → only_reads script ≡ true → EndsByWords d old new gives r image script text unbuilt end
       → EndsAs (if unbuilt then silent NotBuilt else script_reply gives r script image) end before after
-  words_as gives r image script true end plain settled x = before_as NotBuilt end (λ w. (refl, w)) x
-  words_as gives r image script false end plain settled x = length_as gives r image script (nat_lt script_limit (length script)) end plain settled x
+  words_as gives r image script true end plain reads x = before_as NotBuilt end (λ w. (refl, w)) x
+  words_as gives r image script false end plain reads x = length_as gives r image script (nat_lt script_limit (length script)) end plain reads x
 
-  pub promise_as : (gives : List ℕ → Option ℕ → Bool) (image script : List ℕ) (o : Option Request) (end : End) → AsksNoDemo o → (has_unbuilt script ≡ true) ⊎ (only_reads script ≡ true) → Promise d old new gives image script text o end
+  pub promise_as : (gives : List ℕ → Option ℕ → Bool) (image script : List ℕ) (o : Option Request) (end : End) → AsksNoDemo o → only_reads script ≡ true → Promise d old new gives image script text o end
       → EndsAs (request_reply gives script image o) end before after
-  promise_as gives image script None end plain settled x = before_as BadWords end (λ w. (refl, w)) x
-  promise_as gives image script (Some r) end plain settled x = words_as gives r image script (is_unbuilt r) end plain settled x
+  promise_as gives image script None end plain reads x = before_as BadWords end (λ w. (refl, w)) x
+  promise_as gives image script (Some r) end plain reads x = words_as gives r image script (is_unbuilt r) end plain reads x

@@ -26,9 +26,9 @@ use Rattle.fc_words.specs.declared.Format.{Format as Word}
 use Rattle.fc_shell.specs.Counted.{has_refused}
 use Rattle.fc_shell.specs.Ends.{end_after, end_of, is_late}
 use Rattle.fc_shell.specs.Modes.{plain_mode}
-use Rattle.fc_shell.specs.Promise.{EndsByGiving, EndsByOpening, EndsByScript, EndsOnFault, EndsOver}
+use Rattle.fc_shell.specs.Promise.{EndsByGiving, EndsByOpening, EndsOnFault, EndsOver}
 use Rattle.fc_shell.specs.Reading.{IsUnwritten}
-use Rattle.fc_shell.specs.Replies.{blank_size, image_for}
+use Rattle.fc_shell.specs.Replies.{image_for}
 use Rattle.fc_shell.specs.Serving.{ServesAs}
 use Rattle.fc_shell.specs.Kept.{SessionKeeps}
 use Rattle.fc_shell.specs.Writing.{Wrote, WrotePart}
@@ -238,7 +238,7 @@ module _ {D : Type 0} {d : Ghosts D} (law : Laws d) (disk : D) where
   none = record { told = refl; bytes = refl; stops = started law disk (d.left_since disk (d.moment disk)) (λ image left. left) }
 
   -- out of memory before the image was asked for
-  memory_giving : Accepts → (r : Request) (image script : List ℕ) (given : Bool) → d.bytes disk ≡ Some image → EndsByGiving d disk disk r image script [] given NoMemory
+  pub memory_giving : Accepts → (r : Request) (image script : List ℕ) (given : Bool) → d.bytes disk ≡ Some image → EndsByGiving d disk disk r image script [] given NoMemory
   memory_giving accepts r image script false told = none
   memory_giving accepts r image script true told = by r.new refl
     where
@@ -250,11 +250,6 @@ module _ {D : Type 0} {d : Ghosts D} (law : Laws d) (disk : D) where
           → EndsByOpening d disk disk r.read_only (is_some new) r.demo (image_for new image) script [] (open_image (image_for new image)) NoMemory
       by None e = begun_memory law disk disk accepts r.read_only r.demo image script told same_unwritten (inr refl)
       by (Some f) e = made (open_image (image_for (Some f) image)) (image_for (Some f) image)
-
-  pub memory_ends : Accepts → (gives : List ℕ → Option ℕ → Bool) (r : Request) (image script : List ℕ) (unbuilt : Bool) → d.bytes disk ≡ Some image
-      → EndsByScript d disk disk gives r image script [] unbuilt NoMemory
-  memory_ends accepts gives r image script true told = (inr (inr refl), none)
-  memory_ends accepts gives r image script false told = memory_giving accepts r image script (gives r.image (blank_size r)) told
 
 -- ---- a run over an attached image
 

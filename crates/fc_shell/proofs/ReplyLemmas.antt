@@ -21,7 +21,6 @@ use Rattle.fc_tree.specs.declared.node.Node.{Node}
 use Rattle.fc_volume.specs.declared.lines.Line.{Line}
 use Rattle.fc_volume.specs.Answers.{line_in, lines_in}
 use Rattle.fc_volume.specs.Volume.{Volume}
-use Rattle.fc_shell.specs.Built.{is_built}
 use Rattle.fc_shell.specs.Answered.{IsReply, volume_reply}
 use Rattle.fc_shell.specs.Modes.{plain_mode}
 use Rattle.fc_shell.specs.Told.{told_line, told_lines}
@@ -71,29 +70,21 @@ pub check_answer : (t : Tree) (form : NameForm) (read_only : Bool) → answer t 
 unfolding answer
 check_answer t form read_only = refl
 
--- a command that isn't unbuilt is built
-pub not_false : (asked : Told) → not (is_built (command asked)) ≡ false → is_built (command asked) ≡ true
-not_false asked = by (is_built (command asked))
-  where
-    by : (b : Bool) → not b ≡ false → b ≡ true
-    by true e = refl
-    by false e = absurd (cc)
-
--- a command that is built and doesn't read changes the tree, but for `compact`
-pub built_changing : (asked : Told) → is_built (command asked) ≡ true → is_reading (command asked) ≡ false → (asked ≡ Told.Compact → ⊥) → keeps_tree (command asked) ≡ false
-built_changing (Told.Cat path) built changes other = absurd (cc)
-built_changing (Told.Load path) built changes other = absurd (cc)
-built_changing (Told.Digest path) built changes other = absurd (cc)
-built_changing Told.Free built changes other = absurd (cc)
-built_changing Told.Check built changes other = absurd (cc)
-built_changing (Told.Cdir path) built changes other = refl
-built_changing (Told.Delete path) built changes other = refl
-built_changing (Told.Save path w x bytes) built changes other = refl
-built_changing (Told.Create path w x len) built changes other = refl
-built_changing (Told.Rename from to) built changes other = refl
-built_changing (Told.Set path w x access) built changes other = refl
-built_changing Told.Compact built changes other = absurd (other refl)
-built_changing Told.Reclaim built changes other = absurd (cc)
+-- A command that doesn't read changes the tree, but for `compact` and `reclaim`.
+pub changing : (asked : Told) → is_reading (command asked) ≡ false → (asked ≡ Told.Compact → ⊥) → (asked ≡ Told.Reclaim → ⊥) → keeps_tree (command asked) ≡ false
+changing (Told.Cat path) changes compact reclaim = absurd (cc)
+changing (Told.Load path) changes compact reclaim = absurd (cc)
+changing (Told.Digest path) changes compact reclaim = absurd (cc)
+changing Told.Free changes compact reclaim = absurd (cc)
+changing Told.Check changes compact reclaim = absurd (cc)
+changing (Told.Cdir path) changes compact reclaim = refl
+changing (Told.Delete path) changes compact reclaim = refl
+changing (Told.Save path w x bytes) changes compact reclaim = refl
+changing (Told.Create path w x len) changes compact reclaim = refl
+changing (Told.Rename from to) changes compact reclaim = refl
+changing (Told.Set path w x access) changes compact reclaim = refl
+changing Told.Compact changes compact reclaim = absurd (compact refl)
+changing Told.Reclaim changes compact reclaim = absurd (reclaim refl)
 
 -- no other command reads
 pub no_other : (asked : Told) → is_reading (command asked) ≡ true → ((path : Path) → asked ≡ Told.Cat path → ⊥) → ((path : Path) → asked ≡ Told.Load path → ⊥)

@@ -25,7 +25,7 @@ use Rattle.fc_volume.specs.Volume.{Volume, parts_of}
 use Rattle.fc_shell.specs.declared.answer.LineFault.{LineFault}
 use Rattle.fc_shell.specs.declared.answer.LineFault.TheVariants as lines
 use Rattle.fc_shell.specs.declared.tally.Tally.{Tally}
-use Rattle.fc_shell.specs.Built.{Spares, all_read, is_reading_line}
+use Rattle.fc_shell.specs.Reads.{Spares, all_read, is_reading_line}
 use Rattle.fc_shell.specs.Counted.{AreCounted, has_refused}
 use Rattle.fc_shell.specs.Line.{BreaksOff, GoesOn, IsAnswered, IsCutOff, IsDone, LineEnds}
 use Rattle.fc_shell.specs.Modes.{plain_mode}
@@ -35,11 +35,6 @@ use Rattle.fc_shell.proofs.StepLemmas.{has_tree, step_keeps, step_leaves}
 use Rattle.fc_shell.proofs.WritingLemmas.{wrote_nothing, wrote_both}
 
 -- ---- tests
-
--- one test of two is enough
-pub neither : (a b : Bool) → (a || b) ≡ false → (a ≡ false) × (b ≡ false)
-neither true b h = absurd (cc)
-neither false b h = (refl, h)
 
 pub both_true : (a b : Bool) → (a && b) ≡ true → (a ≡ true) × (b ≡ true)
 both_true true b h = (refl, h)

@@ -1,5 +1,5 @@
 -- Commands that change the disc, and what is answered to them.
-use Rattle.std.specs.Prelude.{◌≡◌, ◌⊎◌, ◌↔◌, ◌≤◌, ℕ, Bool, true, false, List, Some, Result, Ok, Err, IfErr, IsFalse, OnOk}
+use Rattle.std.specs.Prelude.{◌≡◌, ◌⊎◌, ◌↔◌, ◌≤◌, ◌++◌, ℕ, Bool, true, false, List, Some, Result, Ok, Err, IfErr, IfOk, IsFalse, OnOk}
 use Rattle.std.specs.Option.{ForSome}
 use Rattle.fc_device.specs.declared.disk.Disk.{Ghosts}
 use Rattle.fc_device.specs.declared.streams.Sink.{Ghosts as Sinks}
@@ -10,8 +10,9 @@ use Rattle.fc_names.specs.declared.refusal.Refusal.{Refusal}
 use Rattle.fc_newmap.specs.Map.{Map}
 use Rattle.fc_image.specs.Layout.{Layout}
 use Rattle.fc_image.specs.Moves.{KeepsObjects}
+use Rattle.fc_image.specs.Stays.{IsNewLayout}
 use Rattle.fc_model.specs.Command.{Command}
-use Rattle.fc_script.specs.Texts.{ok_line, refusal_line}
+use Rattle.fc_script.specs.Texts.{ok_line, reclaimed_line, refusal_line}
 use Rattle.fc_tree.specs.Parts.{Parts}
 use Rattle.fc_volume.specs.declared.lines.CommandError.{CommandError}
 use Rattle.fc_volume.specs.declared.lines.CommandError.TheVariants.{DiskFault, NoMemory, Refused}
@@ -19,12 +20,13 @@ use Rattle.fc_volume.specs.Changing.{AnswersOver, HasChanged}
 use Rattle.fc_volume.specs.Compacting.{CompactsParts, UnlessFault}
 use Rattle.fc_volume.specs.Volume.{StandsFor, Volume, parts_of}
 use Rattle.fc_oldvolume.specs.Changing.{IsOldLayout}
+use Rattle.fc_lost.specs.Reclaiming.{HasReclaimed, LeavesOwnedOf, reclaim_refusal}
 use Rattle.fc_shell.specs.declared.answer.LineFault.{LineFault}
 use Rattle.fc_shell.specs.Answered.{Answered, OnlyTells}
 
 -- What stays over a command that changes a volume, whatever is known of the disk's bytes: what `ChangeKeeps` of fc_volume and of
--- fc_oldvolume say alike.
-pub record KeepsVolume {D : Type 0} (d : Ghosts D) (old new : D) (was v : Volume) (answer : Result (Unit {0}) CommandError) : Type 0 where
+-- fc_oldvolume and `ReclaimKeeps` of fc_lost say alike.
+pub record KeepsVolume {D T : Type 0} (d : Ghosts D) (old new : D) (was v : Volume) (answer : Result T CommandError) : Type 0 where
   pub unchanged : IfErr answer (λ error. (error ≡ DiskFault → ⊥) → (v ≡ was) × (new ≡ old))
   pub stands : UnlessFault answer (StandsFor d v new)
   pub settled : UnlessFault answer (IsFalse (d.pending new))
@@ -54,9 +56,34 @@ pub record IsCompacting {D : Type 0} (d : Ghosts D) (was v : Volume) (old new : 
   pub keeps : KeepsVolume d old new was v answer
   pub objects : (m : Map) → (parts_of was).layout ≡ Layout.New m → StopsAndExitsLeave d old new (KeepsObjects m.geometry)
 
--- Its answer as a line: `ok`, or the line of the refusal. After any other error nothing is.
+-- A volume was asked to give its lost space back. On a new map every crash and every exit keeps what is owned.
+pub record IsReclaiming {D : Type 0} (d : Ghosts D) (was v : Volume) (old new : D) (answer : Result ℕ CommandError) : Type 0 where
+  pub refused : (reason : Refusal) → (answer ≡ Err (Refused reason)) ↔ (reclaim_refusal was.read_only (parts_of was).layout ≡ Some reason)
+  pub errors : IfErr answer (λ error. ((reason : Refusal) × (error ≡ Refused reason)) ⊎ (error ≡ DiskFault))
+  pub reclaimed : IfOk answer (λ bytes. HasReclaimed d (parts_of was) (parts_of v) bytes old new)
+  pub owned : IsNewLayout (parts_of was).layout → StopsAndExitsLeave d old new (LeavesOwnedOf (parts_of was))
+  pub keeps : KeepsVolume d old new was v answer
+
+-- ---- the answer as a line
+
+-- The line of a refusal. After any other error nothing is written.
+abbrev pub TellsError : {K : Type 0} → Sinks K → K → K → CommandError → Result Bool LineFault → Type 0
+TellsError k before after (Refused refusal) result = Answered (refusal_line refusal) (k.taken before) (k.taken after) result × OnlyTells k before after result
+TellsError k before after NoMemory result = (result ≡ Err LineFault.NoMemory) × (after ≡ before)
+TellsError k before after DiskFault result = (result ≡ Err LineFault.Disk) × (after ≡ before)
+
+-- The reply to what was done, or the error.
+abbrev pub TellsBy : {K T : Type 0} → (T → List ℕ) → Sinks K → K → K → Result T CommandError → Result Bool LineFault → Type 0
+TellsBy reply k before after (Ok value) result = Answered (reply value) (k.taken before) (k.taken after) result × OnlyTells k before after result
+TellsBy reply k before after (Err error) result = TellsError k before after error result
+
+-- what is replied to a change, and to giving so many bytes of lost space back
+abbrev pub done_reply : Unit {0} → List ℕ
+done_reply done = ok_line
+
+abbrev pub reclaimed_reply : ℕ → List ℕ
+reclaimed_reply bytes = reclaimed_line bytes ++ ok_line
+
+-- `ok` for a change
 abbrev pub Tells : {K : Type 0} → Sinks K → K → K → Result (Unit {0}) CommandError → Result Bool LineFault → Type 0
-Tells k before after (Ok done) result = Answered ok_line (k.taken before) (k.taken after) result × OnlyTells k before after result
-Tells k before after (Err (Refused refusal)) result = Answered (refusal_line refusal) (k.taken before) (k.taken after) result × OnlyTells k before after result
-Tells k before after (Err NoMemory) result = (result ≡ Err LineFault.NoMemory) × (after ≡ before)
-Tells k before after (Err DiskFault) result = (result ≡ Err LineFault.Disk) × (after ≡ before)
+Tells k before after answer result = TellsBy done_reply k before after answer result

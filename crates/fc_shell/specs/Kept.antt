@@ -11,7 +11,7 @@ use Rattle.fc_shell.specs.declared.ending.End.{End}
 use Rattle.fc_shell.specs.declared.ending.End.TheVariants.{DiskFault, OutFault, NoMemory, NoImage}
 use Rattle.fc_shell.specs.Ends.{AsksFor, FitsGiven, is_late, is_over_image}
 use Rattle.fc_shell.specs.Reading.{IsUnwritten}
-use Rattle.fc_shell.specs.Built.{only_reads}
+use Rattle.fc_shell.specs.Reads.{only_reads}
 use Rattle.fc_shell.specs.Replies.{blank_size, image_for}
 
 -- The disk has the image that was asked for, as it was or fresh.

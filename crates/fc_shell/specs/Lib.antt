@@ -1,5 +1,4 @@
 pub mod Answered
-pub mod Built
 pub mod Changing
 pub mod Counted
 pub mod Ends
@@ -12,6 +11,7 @@ pub mod Modes
 pub mod Promise
 pub mod Readable
 pub mod Reading
+pub mod Reads
 pub mod ReadsLaw
 pub mod Replies
 pub mod Script

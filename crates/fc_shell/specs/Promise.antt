@@ -10,7 +10,6 @@ use Rattle.fc_runs.specs.Run.{Mode}
 use Rattle.fc_words.specs.CommandLine.{Request}
 use Rattle.fc_shell.specs.declared.ending.End.{End}
 use Rattle.fc_shell.specs.declared.ending.End.TheVariants.{Done, Refused, BadWords, BadImage, DiskFault, ScriptFault, OutFault, NoMemory, ScriptTooLong, NotBuilt, NoImage}
-use Rattle.fc_shell.specs.Built.{has_unbuilt}
 use Rattle.fc_shell.specs.Modes.{plain_mode}
 use Rattle.fc_shell.specs.Replies.{blank_size, image_for, is_unbuilt, script_limit}
 
@@ -58,15 +57,10 @@ EndsByGiving d old new r image script text false end = EndsWithout d old new (is
 EndsByGiving d old new r image script text true end =
     EndsByOpening d old new r.read_only (is_some r.new) r.demo (image_for r.new image) script text (open_image (image_for r.new image)) end
 
--- by whether a command of the script isn't built
-abbrev pub EndsByScript : {D : Type 0} → Ghosts D → D → D → (List ℕ → Option ℕ → Bool) → Request → List ℕ → List ℕ → List ℕ → Bool → End → Type 0
-EndsByScript d old new gives r image script text true end = EndsBefore d old new NotBuilt text end
-EndsByScript d old new gives r image script text false end = EndsByGiving d old new r image script text (gives r.image (blank_size r)) end
-
 -- by whether the script is too long
 abbrev pub EndsByLength : {D : Type 0} → Ghosts D → D → D → (List ℕ → Option ℕ → Bool) → Request → List ℕ → List ℕ → List ℕ → Bool → End → Type 0
 EndsByLength d old new gives r image script text true end = EndsBefore d old new ScriptTooLong text end
-EndsByLength d old new gives r image script text false end = EndsByScript d old new gives r image script text (has_unbuilt script) end
+EndsByLength d old new gives r image script text false end = EndsByGiving d old new r image script text (gives r.image (blank_size r)) end
 
 -- by whether the words ask for what isn't built
 abbrev pub EndsByWords : {D : Type 0} → Ghosts D → D → D → (List ℕ → Option ℕ → Bool) → Request → List ℕ → List ℕ → List ℕ → Bool → End → Type 0

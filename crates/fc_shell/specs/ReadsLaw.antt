@@ -5,7 +5,7 @@ use Rattle.fc_runs.specs.Run.{Mode, Run, text_of}
 use Rattle.fc_words.specs.declared.Format.{Format as Word}
 use Rattle.fc_shell.specs.declared.ending.End.TheVariants.{Done, Refused}
 use Rattle.fc_shell.specs.Replies.{image_for, image_reply, replies_of}
-use Rattle.fc_shell.specs.Built.{only_reads}
+use Rattle.fc_shell.specs.Reads.{only_reads}
 
 pub record ReadsLaw : Type 0 where
   -- If a script only reads, its replies are those of a run that leaves everything: the image is the same

@@ -20,7 +20,6 @@ use Rattle.fc_words.specs.declared.Format.{Format as Word}
 use Rattle.fc_words.specs.declared.Format.TheVariants as words
 use Rattle.fc_shell.specs.declared.ending.End.{End}
 use Rattle.fc_shell.specs.declared.ending.End.TheVariants.{Done, Refused, BadWords, BadImage, DiskFault, ScriptFault, OutFault, NoMemory, ScriptTooLong, NotBuilt, NoImage}
-use Rattle.fc_shell.specs.Built.{has_unbuilt}
 use Rattle.fc_shell.specs.Modes.{plain_mode}
 use Rattle.fc_shell.specs.Writing.{Wrote, WrotePart}
 
@@ -116,15 +115,10 @@ attached_reply true r script image = image_reply r.read_only script (image_for r
 abbrev pub is_unbuilt : Request → Bool
 is_unbuilt r = r.safe
 
--- What the words ask for isn't built yet, or, if the script is known, it isn't too long and has a command that isn't.
-abbrev pub AsksUnbuilt : Request → Option (List ℕ) → Type 0
-AsksUnbuilt r told = (is_unbuilt r ≡ true) ⊎ ForSome told (λ text. (length text ≤ script_limit) × (has_unbuilt text ≡ true))
-
 -- what the words ask for, over a script that was read
 abbrev pub script_reply : (List ℕ → Option ℕ → Bool) → Request → List ℕ → List ℕ → Outcome
 script_reply gives r script image =
     if nat_lt script_limit (length script) then silent ScriptTooLong
-    else if has_unbuilt script then silent NotBuilt
     else attached_reply (gives r.image (blank_size r)) r script image
 
 -- a run of what the words ask for

@@ -1,17 +1,15 @@
 // The answer to a line of the script.
-ghost use Rattle.std.specs.Prelude.{◌≡◌, ◌≤◌, List, ℕ, length, true, Ok, IsFalse, IsTrue};
+ghost use Rattle.std.specs.Prelude.{◌≡◌, ◌≤◌, List, ℕ, length, Ok, IsFalse, IsTrue};
 ghost use Rattle.fc_device.specs.Calls.{OnlyReads};
 ghost use Rattle.fc_runs.specs.ReadLaw.{is_reading};
 ghost use Rattle.fc_script.specs.Lines.{command_of};
 ghost use Rattle.fc_script.specs.Reading.{command};
 ghost use Rattle.fc_volume.specs.Volume.{StandsFor};
 ghost use Rattle.fc_shell.specs.Answered.{Answered, ForState, IsCaused, volume_reply};
-ghost use Rattle.fc_shell.specs.Built.{is_built, is_unbuilt_command};
 ghost use Rattle.fc_shell.specs.Replies.{script_limit};
 ghost use Rattle.fc_shell.specs.Line.{KeepsGoing, LineEnds};
 ghost use Rattle.fc_shell.specs.declared.answer.LineFault.TheVariants as errors;
 
-use crate::built::is_reading;
 use crate::cat::cat;
 use crate::change::answer_change;
 use crate::check::check;
@@ -19,6 +17,7 @@ use crate::compact::compact;
 use crate::digest::digest;
 use crate::free::free;
 use crate::load::load;
+use crate::reclaim::reclaim;
 use crate::reply::{refusal, tell};
 use fc_device::{Disk, DiskFault, Failed, NoMemory, Sink};
 use fc_names::Refusal;
@@ -67,6 +66,27 @@ impl From<NoMemory> for LineFault {
     }
 }
 
+// Whether a command changes nothing.
+fn is_reading(asked: &Command) -> bool
+    ensures { result ≡ is_reading (command asked.now) }
+{
+    match asked {
+        Command::Cat { .. }
+        | Command::Load { .. }
+        | Command::Digest { .. }
+        | Command::Free
+        | Command::Check => true,
+        Command::Cdir { .. }
+        | Command::Delete { .. }
+        | Command::Save { .. }
+        | Command::Create { .. }
+        | Command::Rename { .. }
+        | Command::Set { .. }
+        | Command::Compact
+        | Command::Reclaim => false,
+    }
+}
+
 // Answers a command that changes nothing.
 fn answer_reading<D: Disk, K: Sink>(
     alloc: Global,
@@ -102,7 +122,7 @@ fn renew_index(alloc: Global, volume: &mut Volume, asked: &Command)
     }
 }
 
-// Answers a command that is built. `line` of the clauses is each line that spells it.
+// Answers a command. `line` of the clauses is each line that spells it.
 fn answer_command<D: Disk, K: Sink>(
     alloc: Global,
     volume: &mut Volume,
@@ -114,7 +134,6 @@ fn answer_command<D: Disk, K: Sink>(
     requires fit { IsTrue volume.old.fit }
     requires stands { StandsFor D.Disk volume.old disk.old }
     requires settled { IsFalse (D.pending disk.old) }
-    requires built { is_built (command asked.now) ≡ true }
     requires spelled { (line : List ℕ) × (command_of line ≡ Ok (command asked.now)) × (length line ≤ script_limit) }
     ensures step { (line : List ℕ) → command_of line ≡ Ok (command asked.now) → ForState (D.bytes disk.old) volume.old (λ kind s.
         LineEnds D.Disk disk.old disk.new kind volume.old.read_only s volume.new line (K.taken out.old) (K.taken out.new) result) }
@@ -127,12 +146,12 @@ fn answer_command<D: Disk, K: Sink>(
     }
     match asked {
         Command::Compact => compact(alloc, volume, disk, out),
+        Command::Reclaim => reclaim(alloc, volume, disk, out),
         _ => answer_change(alloc, volume, disk, out, asked),
     }
 }
 
-/// Answers a command line of the script, whose command is built: does it, and writes its whole reply. Answers whether the reply is
-/// an error line.
+/// Answers a command line of the script: does it, and writes its whole reply. Answers whether the reply is an error line.
 pub fn answer_line<D: Disk, K: Sink>(
     alloc: Global,
     volume: &mut Volume,
@@ -145,7 +164,6 @@ pub fn answer_line<D: Disk, K: Sink>(
     requires stands { StandsFor D.Disk volume.old disk.old }
     requires settled { IsFalse (D.pending disk.old) }
     requires short { length line.now ≤ script_limit }
-    requires built { IsFalse (is_unbuilt_command (command_of line.now)) }
     ensures step { ForState (D.bytes disk.old) volume.old (λ kind s.
         LineEnds D.Disk disk.old disk.new kind volume.old.read_only s volume.new line.now (K.taken out.old) (K.taken out.new) result) }
     ensures keeps { KeepsGoing D.Disk K.Sink disk.old disk.new out.old out.new volume.old volume.new line.now result }

@@ -8,8 +8,7 @@ ghost use Rattle.fc_script.specs.Reading.{command};
 ghost use Rattle.fc_script.specs.Texts.{ok_line};
 ghost use Rattle.fc_volume.specs.Volume.{StandsFor, parts_of};
 ghost use Rattle.fc_shell.specs.Answered.{Answered, ForState, OnlyTells};
-ghost use Rattle.fc_shell.specs.Built.{is_built};
-ghost use Rattle.fc_shell.specs.Changing.{IsAsked, Tells};
+ghost use Rattle.fc_shell.specs.Changing.{IsAsked, Tells, TellsError};
 ghost use Rattle.fc_shell.specs.Replies.{script_limit};
 ghost use Rattle.fc_shell.specs.Line.{KeepsGoing, LineEnds};
 
@@ -31,9 +30,9 @@ fn tell_done<K: Sink>(out: &mut K) -> Result<bool, LineFault>
     Ok(false)
 }
 
-// Writes the line of a refusal. After any other error nothing is written.
-fn tell_error<K: Sink>(alloc: Global, out: &mut K, error: CommandError) -> Result<bool, LineFault>
-    ensures { Tells K.Sink out.old out.new (Err error) result }
+/// Writes the line of a refusal. After any other error nothing is written.
+pub fn tell_error<K: Sink>(alloc: Global, out: &mut K, error: CommandError) -> Result<bool, LineFault>
+    ensures { TellsError K.Sink out.old out.new error result }
 {
     match error {
         CommandError::Refused(reason) => tell(out, refusal(alloc, reason)),
@@ -76,7 +75,6 @@ fn change_new<D: Disk>(
     requires stands { StandsFor D.Disk volume.old disk.old }
     requires settled { IsFalse (D.pending disk.old) }
     requires new_map { IsNewLayout (parts_of volume.old).layout }
-    requires built { is_built (command asked.now) ≡ true }
     requires changes { keeps_tree (command asked.now) ≡ false }
     requires spelled { (line : List ℕ) × (command_of line ≡ Ok (command asked.now)) × (length line ≤ script_limit) }
     ensures { IsAsked D.Disk (command asked.now) volume.old volume.new disk.old disk.new result }
@@ -119,7 +117,6 @@ fn change_old<D: Disk>(
     requires stands { StandsFor D.Disk volume.old disk.old }
     requires settled { IsFalse (D.pending disk.old) }
     requires old_map { IsOldLayout (parts_of volume.old).layout }
-    requires built { is_built (command asked.now) ≡ true }
     requires changes { keeps_tree (command asked.now) ≡ false }
     requires spelled { (line : List ℕ) × (command_of line ≡ Ok (command asked.now)) × (length line ≤ script_limit) }
     ensures { IsAsked D.Disk (command asked.now) volume.old volume.new disk.old disk.new result }
@@ -161,7 +158,6 @@ fn change<D: Disk>(
     requires fit { IsTrue volume.old.fit }
     requires stands { StandsFor D.Disk volume.old disk.old }
     requires settled { IsFalse (D.pending disk.old) }
-    requires built { is_built (command asked.now) ≡ true }
     requires changes { keeps_tree (command asked.now) ≡ false }
     requires spelled { (line : List ℕ) × (command_of line ≡ Ok (command asked.now)) × (length line ≤ script_limit) }
     ensures { IsAsked D.Disk (command asked.now) volume.old volume.new disk.old disk.new result }
@@ -172,8 +168,7 @@ fn change<D: Disk>(
     change_new(alloc, volume, disk, asked)
 }
 
-/// Answers a command that changes the tree and is built: does it, and then writes the reply. Answers whether the reply is an error
-/// line.
+/// Answers a command that changes the tree: does it, and then writes the reply. Answers whether the reply is an error line.
 pub fn answer_change<D: Disk, K: Sink>(
     alloc: Global,
     volume: &mut Volume,
@@ -185,7 +180,6 @@ pub fn answer_change<D: Disk, K: Sink>(
     requires fit { IsTrue volume.old.fit }
     requires stands { StandsFor D.Disk volume.old disk.old }
     requires settled { IsFalse (D.pending disk.old) }
-    requires built { is_built (command asked.now) ≡ true }
     requires changes { keeps_tree (command asked.now) ≡ false }
     requires spelled { (line : List ℕ) × (command_of line ≡ Ok (command asked.now)) × (length line ≤ script_limit) }
     ensures step { (line : List ℕ) → command_of line ≡ Ok (command asked.now) → ForState (D.bytes disk.old) volume.old (λ kind s.

@@ -1,12 +1,10 @@
 //! The top of the filing system: a run of a script over an image.
 //!
-//! Every command but `reclaim` is served, over images of every kind and over fresh volumes. `reclaim` and the option `--safe` aren't
-//! implemented: a run that asks for one ends as `End::NotBuilt`, before an image is asked for, if neither memory nor the script
-//! ended it before.
+//! Every command is served, over images of every kind and over fresh volumes. The option `--safe` isn't implemented: a run that
+//! asks for it ends as `End::NotBuilt`, before the script is read.
 #![tactic(auto)]
 
 mod answer;
-mod built;
 mod cat;
 mod change;
 mod check;
@@ -20,6 +18,7 @@ mod free;
 mod image;
 mod lines;
 mod load;
+mod reclaim;
 mod reply;
 mod script;
 mod session;
@@ -35,18 +34,17 @@ ghost use Rattle.fc_runs.specs.Demo.{demo_script};
 ghost use Rattle.fc_runs.specs.Run.{commands_in, script_for};
 ghost use Rattle.fc_words.specs.CommandLine.{Request, request_of};
 ghost use Rattle.fc_words.specs.Request.{request_in};
-ghost use Rattle.fc_shell.specs.Built.{Spares, has_unbuilt, only_reads};
+ghost use Rattle.fc_shell.specs.Reads.{Spares, only_reads};
 ghost use Rattle.fc_shell.specs.Ends.{AsksFor, FitsGiven, is_early, is_late, is_over_image};
 ghost use Rattle.fc_shell.specs.Headline.{IsAnsweredByMap};
 ghost use Rattle.fc_shell.specs.Kept.{HasImage, LeavesDisk, RunKeeps, RunSpares};
-ghost use Rattle.fc_shell.specs.Promise.{EndsByScript, EndsByWords, Promise};
+ghost use Rattle.fc_shell.specs.Promise.{EndsByGiving, EndsByWords, Promise};
 ghost use Rattle.fc_shell.specs.Reading.{IsUnwritten};
 ghost use Rattle.fc_shell.specs.ReadsLaw.{ReadsLaw};
-ghost use Rattle.fc_shell.specs.Replies.{AsksNoDemo, AsksUnbuilt, EndsAs, asked_script, blank_size, demo_limit, is_unbuilt, run_reply, script_limit, told_script};
+ghost use Rattle.fc_shell.specs.Replies.{AsksNoDemo, EndsAs, asked_script, blank_size, demo_limit, is_unbuilt, run_reply, script_limit, told_script};
 ghost use Rattle.fc_shell.specs.Script.{behind_limit};
 ghost use Rattle.fc_shell.specs.Writing.{Wrote};
 
-use built::has_unbuilt;
 pub use ending::End;
 use fc_demo::demo_script;
 use fc_device::{Disk, NoMemory, Sink, Source};
@@ -55,33 +53,6 @@ use fc_words::{Words, WordsError, read_words};
 use script::{ScriptError, read_script};
 use session::answer_script;
 use std::alloc::Global;
-
-// Runs a script that was read, or a demo's.
-fn run_script<D: Disk, K: Sink>(
-    alloc: Global,
-    asked: &Words,
-    script: &[u8],
-    disk: &mut D,
-    out: &mut K,
-) -> End
-    requires short { length script.now ≤ script_limit }
-    requires own { script_for (request_in asked.now).demo script.now ≡ script.now }
-    ensures promise { let r = request_in asked.now in ForSome (D.gives disk.old) (λ gives. ForSome (D.bytes disk.old) (λ image.
-        (text : List ℕ) × Wrote (K.taken out.old) (K.taken out.new) text
-        × EndsByScript D.Disk disk.old disk.new gives r image script.now text (has_unbuilt script.now) result)) }
-    ensures keeps { RunKeeps D.Disk K.Sink (request_in asked.now) (Spares (request_in asked.now).read_only (commands_in script.now)) disk.old disk.new out.old out.new result }
-    ensures unattached { has_unbuilt script.now ≡ true → (is_early result ≡ true) × (disk.new ≡ disk.old) × (out.new ≡ out.old) }
-    ensures not_built { result ≡ End.NotBuilt → (has_unbuilt script.now ≡ true) × (disk.new ≡ disk.old) × (out.new ≡ out.old) }
-    ensures ended { (is_late result ≡ true) ⊎ ((result ≡ End.NoImage) ⊎ (result ≡ End.NotBuilt)) }
-{
-    // A law, for the proof alone: an image that is accepted opens as its own kind.
-    fc_image::accepted();
-    match has_unbuilt(alloc, script) {
-        Err(NoMemory) => End::NoMemory,
-        Ok(true) => End::NotBuilt,
-        Ok(false) => answer_script(alloc, asked, script, disk, out),
-    }
-}
 
 // Runs a demo.
 fn run_demo<D: Disk, K: Sink>(
@@ -95,17 +66,15 @@ fn run_demo<D: Disk, K: Sink>(
     requires few { n ≤ demo_limit }
     ensures promise { let r = request_in asked.now in ForSome (D.gives disk.old) (λ gives. ForSome (D.bytes disk.old) (λ image.
         (text : List ℕ) × Wrote (K.taken out.old) (K.taken out.new) text
-        × EndsByScript D.Disk disk.old disk.new gives r image (demo_script n) text (has_unbuilt (demo_script n)) result)) }
+        × EndsByGiving D.Disk disk.old disk.new r image (demo_script n) text (gives r.image (blank_size r)) result)) }
     ensures keeps { RunKeeps D.Disk K.Sink (request_in asked.now) (Spares (request_in asked.now).read_only (commands_in (demo_script n))) disk.old disk.new out.old out.new result }
-    ensures unattached { has_unbuilt (demo_script n) ≡ true → (is_early result ≡ true) × (disk.new ≡ disk.old) × (out.new ≡ out.old) }
-    ensures not_built { result ≡ End.NotBuilt → (has_unbuilt (demo_script n) ≡ true) × (disk.new ≡ disk.old) × (out.new ≡ out.old) }
-    ensures ended { (is_late result ≡ true) ⊎ ((result ≡ End.NoImage) ⊎ (result ≡ End.NotBuilt)) }
+    ensures ended { (is_late result ≡ true) ⊎ (result ≡ End.NoImage) }
 {
     // A law, for the proof alone: an image that is accepted opens as its own kind.
     fc_image::accepted();
     match demo_script(alloc, n) {
         Err(NoMemory) => End::NoMemory,
-        Ok(script) => run_script(alloc, asked, &script, disk, out),
+        Ok(script) => answer_script(alloc, asked, &script, disk, out),
     }
 }
 
@@ -123,12 +92,11 @@ fn run_request<D: Disk, S: Source, K: Sink>(
         × EndsByWords D.Disk disk.old disk.new gives r image lines text (is_unbuilt r) result))) }
     ensures keeps { RunKeeps D.Disk K.Sink (request_in asked.now) (RunSpares (request_in asked.now) (told_script (request_in asked.now).demo (S.left script.old))) disk.old disk.new out.old out.new result }
     ensures unbuilt { is_unbuilt (request_in asked.now) ≡ true → (result ≡ End.NotBuilt) × (script.new ≡ script.old) × (disk.new ≡ disk.old) × (out.new ≡ out.old) }
-    ensures unattached { ForSome (told_script (request_in asked.now).demo (S.left script.old)) (λ text. (script_limit < length text) ⊎ (has_unbuilt text ≡ true)
+    ensures unattached { ForSome (told_script (request_in asked.now).demo (S.left script.old)) (λ text. script_limit < length text
         → (is_early result ≡ true) × (disk.new ≡ disk.old) × (out.new ≡ out.old)) }
     ensures too_long { result ≡ End.ScriptTooLong → (disk.new ≡ disk.old) × (out.new ≡ out.old) × ForSome (S.left script.old) (λ text. script_limit < length text)
         × (S.left script.new ≡ behind_limit (S.left script.old)) }
-    ensures not_built { result ≡ End.NotBuilt
-        → AsksUnbuilt (request_in asked.now) (told_script (request_in asked.now).demo (S.left script.old)) × (disk.new ≡ disk.old) × (out.new ≡ out.old) }
+    ensures not_built { result ≡ End.NotBuilt → (is_unbuilt (request_in asked.now) ≡ true) × (disk.new ≡ disk.old) × (out.new ≡ out.old) }
     ensures script_fault { result ≡ End.ScriptFault → Rose (S.faults script.old) (S.faults script.new) × (disk.new ≡ disk.old) × (out.new ≡ out.old) }
     ensures script_end { (request_in asked.now).demo ≡ None → is_early result ≡ false → ForSome (S.left script.new) (λ rest. rest ≡ []) }
     ensures unread { (n : ℕ) → (request_in asked.now).demo ≡ Some n → (script.new ≡ script.old) × (result ≢ End.ScriptFault) × (result ≢ End.ScriptTooLong) }
@@ -146,7 +114,7 @@ fn run_request<D: Disk, S: Source, K: Sink>(
         Err(ScriptError::Source) => End::ScriptFault,
         Err(ScriptError::NoMemory) => End::NoMemory,
         Ok(None) => End::ScriptTooLong,
-        Ok(Some(text)) => run_script(alloc, asked, &text, disk, out),
+        Ok(Some(text)) => answer_script(alloc, asked, &text, disk, out),
     }
 }
 
@@ -158,9 +126,9 @@ fn run_request<D: Disk, S: Source, K: Sink>(
 /// its reply is an error line, and the script goes on. Without `--new`, the image is written only by commands that change the disc,
 /// and never if the words forbid it.
 ///
-/// If the source's content is known, two ends don't depend on the disk. If the words are right and ask for nothing that isn't
-/// implemented, a script that is too long ends as `ScriptTooLong`, any other with a command that isn't implemented as `NotBuilt`,
-/// and no other script ends so; an I/O error of the source or out of memory may come first.
+/// If the source's content is known, one end doesn't depend on the disk: if the words are right and ask for nothing that isn't
+/// implemented, a script that is too long ends as `ScriptTooLong`, and no other does; an I/O error of the source or out of memory
+/// may come first.
 pub fn run<D: Disk, S: Source, K: Sink>(
     alloc: Global,
     words: &Vec<String>,
@@ -176,7 +144,8 @@ pub fn run<D: Disk, S: Source, K: Sink>(
     // If all contents are known: for each end, what was written, and what the disk has then, unless it failed (`Promise`). At Done
     // and Refused the lines are steps from the image as it opened, or from the fresh one, to the one that the disk has, and their
     // replies were written. If all writes were synced before, `Stops` of fc_runs says what a crash leaves. Over a new map, a crash
-    // at any moment of a run whose lines are refused, read or compact leaves an image that opens as before, with the same tree.
+    // at any moment of a run whose lines are refused, read, compact or reclaim leaves an image that opens as before, with the same
+    // tree.
     ensures promise { ForSome (D.gives disk.old) (λ gives. ForSome (asked_script (request_of (map string_bytes words.now.items)) (S.left script.old)) (λ lines. ForSome (D.bytes disk.old) (λ image.
         (text : List ℕ) × Wrote (K.taken out.old) (K.taken out.new) text
         × Promise D.Disk disk.old disk.new gives image lines text (request_of (map string_bytes words.now.items)) result))) }
@@ -184,16 +153,16 @@ pub fn run<D: Disk, S: Source, K: Sink>(
     // The headline. If all lines were done (`Done`, or `Refused` if some got an error line) and the contents are known: the image
     // opens, and its tree is a map from paths to attributes and bytes. Each line is answered by this map and the form of the disc's
     // names (`answer`): by a refusal, which leaves it, or by the map after the command and its reply. Where things lie on the disc
-    // decides two things alone: which commands that the map accepts lack space or room in a directory (`short`), and what `free`
-    // and `check` reply. The replies were written in order, and the image, opened as the kind that it was, holds the last map.
+    // decides three things alone: which commands that the map accepts lack space or room in a directory (`short`), that `reclaim`
+    // asks for a new map, and what `free`, `check` and `reclaim` reply. The replies were written in order, and the image, opened as
+    // the kind that it was, holds the last map.
     ensures headline { (r : Request) → request_of (map string_bytes words.now.items) ≡ Some r → (result ≡ End.Done) ⊎ (result ≡ End.Refused)
         → ForSome (D.gives disk.old) (λ gives. ForSome (told_script r.demo (S.left script.old)) (λ lines. ForSome (D.bytes disk.old) (λ image.
         (text : List ℕ) × Wrote (K.taken out.old) (K.taken out.new) text × IsAnsweredByMap D.Disk disk.new r image lines text))) }
 
-    // If the script only reads, or asks for what isn't implemented, and is no demo's, end and text are even a function of words,
-    // script, image and the names that can be opened (`run_reply`); after an I/O error or out of memory the text is a part of that,
-    // from its front.
-    ensures reply { AsksNoDemo (request_of (map string_bytes words.now.items)) → ForSome (D.gives disk.old) (λ gives. ForSome (S.left script.old) (λ text. ForSome (D.bytes disk.old) (λ image. (has_unbuilt text ≡ true) ⊎ (only_reads text ≡ true) →
+    // If the script only reads, and is no demo's, end and text are even a function of words, script, image and the names that can be
+    // opened (`run_reply`); after an I/O error or out of memory the text is a part of that, from its front.
+    ensures reply { AsksNoDemo (request_of (map string_bytes words.now.items)) → ForSome (D.gives disk.old) (λ gives. ForSome (S.left script.old) (λ text. ForSome (D.bytes disk.old) (λ image. only_reads text ≡ true →
         EndsAs (run_reply (map string_bytes words.now.items) gives text image) result (K.taken out.old) (K.taken out.new)))) }
 
     // Exactly words that aren't of the grammar are bad, also if memory is short; then nothing is read, opened or written.
@@ -205,16 +174,15 @@ pub fn run<D: Disk, S: Source, K: Sink>(
     // format's size. Whether it was asked, the end says (`AsksFor`), unless memory was short.
     ensures asks { (r : Request) → request_of (map string_bytes words.now.items) ≡ Some r → AsksFor (r.image, blank_size r) result (D.asked disk.old) (D.asked disk.new) }
 
-    // If words or script ask for what isn't implemented, or the script is too long, the run ends before an image is asked for.
-    // `NotBuilt` and `ScriptTooLong` have no other cause.
+    // If the words ask for what isn't implemented, or the script is too long, the run ends before an image is asked for. `NotBuilt`
+    // and `ScriptTooLong` have no other cause.
     ensures unbuilt { (r : Request) → request_of (map string_bytes words.now.items) ≡ Some r → is_unbuilt r ≡ true
         → ((result ≡ End.NotBuilt) ⊎ (result ≡ End.NoMemory)) × (script.new ≡ script.old) × (disk.new ≡ disk.old) × (out.new ≡ out.old) }
-    ensures unattached { ForSome (asked_script (request_of (map string_bytes words.now.items)) (S.left script.old)) (λ text. (script_limit < length text) ⊎ (has_unbuilt text ≡ true)
+    ensures unattached { ForSome (asked_script (request_of (map string_bytes words.now.items)) (S.left script.old)) (λ text. script_limit < length text
         → (is_early result ≡ true) × (disk.new ≡ disk.old) × (out.new ≡ out.old)) }
     ensures too_long { result ≡ End.ScriptTooLong → (disk.new ≡ disk.old) × ForSome (S.left script.old) (λ text. script_limit < length text)
         × (S.left script.new ≡ behind_limit (S.left script.old)) }
-    ensures not_built { (r : Request) → request_of (map string_bytes words.now.items) ≡ Some r → result ≡ End.NotBuilt
-        → AsksUnbuilt r (told_script r.demo (S.left script.old)) × (disk.new ≡ disk.old) }
+    ensures not_built { (r : Request) → request_of (map string_bytes words.now.items) ≡ Some r → result ≡ End.NotBuilt → (is_unbuilt r ≡ true) × (disk.new ≡ disk.old) }
 
     // An I/O error is reported only if that object's count of faults rose in this call.
     ensures script_fault { result ≡ End.ScriptFault → Rose (S.faults script.old) (S.faults script.new) × (disk.new ≡ disk.old) }

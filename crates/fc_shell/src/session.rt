@@ -10,7 +10,7 @@ ghost use Rattle.fc_runs.specs.Run.{commands_in, script_for};
 ghost use Rattle.fc_volume.specs.Volume.{StandsFor};
 ghost use Rattle.fc_words.specs.Request.{request_in};
 ghost use Rattle.fc_shell.specs.Answered.{ForState, IsCaused};
-ghost use Rattle.fc_shell.specs.Built.{Spares, has_unbuilt};
+ghost use Rattle.fc_shell.specs.Reads.{Spares};
 ghost use Rattle.fc_shell.specs.Ends.{end_of, is_late};
 ghost use Rattle.fc_shell.specs.Kept.{RunKeeps, SessionKeeps};
 ghost use Rattle.fc_shell.specs.Line.{GoesOn};
@@ -48,7 +48,6 @@ fn serve<D: Disk, K: Sink>(
     requires stands { StandsFor D.Disk volume.old disk.old }
     requires settled { IsFalse (D.pending disk.old) }
     requires short { length script.now ≤ script_limit }
-    requires built { has_unbuilt script.now ≡ false }
     ensures served { ForState (D.bytes disk.old) volume.old (λ kind s.
         ServesAs D.Disk disk.old disk.new kind volume.old.read_only s script.now (K.taken out.old) (K.taken out.new) result) }
     ensures goes { GoesOn D.Disk disk.old disk.new }
@@ -110,7 +109,6 @@ fn answer_demo<D: Disk, K: Sink>(
     requires stands { StandsFor D.Disk volume.old disk.old }
     requires settled { IsFalse (D.pending disk.old) }
     requires short { length script.now ≤ script_limit }
-    requires built { has_unbuilt script.now ≡ false }
     requires own { script_for (Some n) script.now ≡ script.now }
     ensures promise { ForState (D.bytes disk.old) volume.old (λ kind s. (text : List ℕ) × Wrote (K.taken out.old) (K.taken out.new) text
         × EndsOver D.Disk disk.old disk.new (plain_mode kind volume.old.read_only) false (Some n) s script.now text result) }
@@ -141,7 +139,6 @@ fn answer_lines<D: Disk, K: Sink>(
     requires stands { StandsFor D.Disk volume.old disk.old }
     requires settled { IsFalse (D.pending disk.old) }
     requires short { length script.now ≤ script_limit }
-    requires built { has_unbuilt script.now ≡ false }
     requires own { script_for demo script.now ≡ script.now }
     ensures promise { ForState (D.bytes disk.old) volume.old (λ kind s. (text : List ℕ) × Wrote (K.taken out.old) (K.taken out.new) text
         × EndsOver D.Disk disk.old disk.new (plain_mode kind volume.old.read_only) false demo s script.now text result) }
@@ -165,7 +162,6 @@ fn answer_image<D: Disk, K: Sink>(
 ) -> End
     requires fresh { IsFresh D.attached D.pending D.sector_size disk.old }
     requires short { length script.now ≤ script_limit }
-    requires built { has_unbuilt script.now ≡ false }
     requires own { script_for demo script.now ≡ script.now }
     ensures promise { ForSome (D.bytes disk.old) (λ image. (text : List ℕ) × Wrote (K.taken out.old) (K.taken out.new) text
         × EndsByOpening D.Disk disk.old disk.new read_only false demo image script.now text (open_image image) result) }
@@ -181,7 +177,7 @@ fn answer_image<D: Disk, K: Sink>(
     }
 }
 
-/// Answers a script, in which every command is built, over the image that is asked for. Of a demo it is its own.
+/// Answers a script over the image that is asked for. Of a demo it is its own.
 pub fn answer_script<D: Disk, K: Sink>(
     alloc: Global,
     asked: &Words,
@@ -190,7 +186,6 @@ pub fn answer_script<D: Disk, K: Sink>(
     out: &mut K,
 ) -> End
     requires short { length script.now ≤ script_limit }
-    requires built { has_unbuilt script.now ≡ false }
     requires own { script_for (request_in asked.now).demo script.now ≡ script.now }
     ensures promise { let r = request_in asked.now in ForSome (D.gives disk.old) (λ gives. ForSome (D.bytes disk.old) (λ image.
         (text : List ℕ) × Wrote (K.taken out.old) (K.taken out.new) text

@@ -267,7 +267,12 @@ const ONE_FILE: &[(&[&str], &[u8], u8, &[u8])] = &[
         1,
         b"error 3 NotFound\nerror 5 IsDirectory\nerror 3 NotFound\n",
     ),
-    (&["disc"], b"free\nreclaim\n", 9, b""),
+    (
+        &["disc"],
+        b"free\nreclaim\n",
+        0,
+        b"free 813056 813056\nok\nreclaimed 0\nok\n",
+    ),
     (&["other"], b"free\ncdir $.A\nfree\n", 12, b""),
     (
         &["disc"],
@@ -294,7 +299,12 @@ const ONE_FILE: &[(&[&str], &[u8], u8, &[u8])] = &[
         1,
         b"error 11 ReadOnly\n",
     ),
-    (&["disc"], b"reclaim\nlod\n", 9, b""),
+    (
+        &["disc"],
+        b"reclaim\nlod\n",
+        1,
+        b"reclaimed 0\nok\nerror 1 BadCommand\n",
+    ),
 ];
 
 #[test]

@@ -3,11 +3,11 @@ use Rattle.fc_device.proofs.DiskLaws.{laws}
 use Rattle.fc_words.specs.Request.{request_in}
 use Rattle.fc_runs.specs.Demo.{demo_script}
 use Rattle.fc_runs.specs.Run.{commands_in}
-use Rattle.fc_shell.specs.Built.{Spares, has_unbuilt}
+use Rattle.fc_shell.specs.Reads.{Spares}
 use Rattle.fc_shell.specs.Kept.{RunSpares}
-use Rattle.fc_shell.specs.Promise.{EndsByScript}
-use Rattle.fc_shell.specs.Replies.{is_unbuilt, script_limit, told_script}
-use Rattle.fc_shell.proofs.AskedLemmas.{told_demo_script, told_plain, unattached_told, unbuilt_told}
+use Rattle.fc_shell.specs.Promise.{EndsByGiving}
+use Rattle.fc_shell.specs.Replies.{blank_size, is_unbuilt, script_limit, told_script}
+use Rattle.fc_shell.proofs.AskedLemmas.{never_long, told_demo_script, told_plain}
 use Rattle.fc_shell.proofs.DemoLemmas.{demo_short}
 use Rattle.fc_shell.proofs.KeptLemmas.{keeps_by, memory_words, script_ends, told_spares, too_long_ends}
 use Rattle.fc_shell.proofs.WritingLemmas.{wrote_nothing}
@@ -25,26 +25,14 @@ returns-in-Some-clause-promise g c gives given text left image told =
       promise.0,
       promise.1,
       script_ends g.D.Disk c.args.disk.now c.run_demo.new.disk gives image text promise.0 r c.run_demo.result built short
-          (subst (λ (t : List ℕ). EndsByScript g.D.Disk c.args.disk.now c.run_demo.new.disk gives r image t promise.0 (has_unbuilt t) c.run_demo.result) same promise.2),
+          (subst (λ (t : List ℕ). EndsByGiving g.D.Disk c.args.disk.now c.run_demo.new.disk r image t promise.0 (gives r.image (blank_size r)) c.run_demo.result) same promise.2),
     )
 
 pub returns-in-Some-clause-unattached : goal.returns-in-Some-clause-unattached
 returns-in-Some-clause-unattached g c =
     let r = request_in c.args.asked.now in
     let left = told_script r.demo (g.S.Source.left c.args.script.now) in
-    unattached_told left (demo_script c.in-Some.n) (told_demo_script r.demo c.in-Some.n (g.S.Source.left c.args.script.now) c.in-Some.is) (demo_short c.in-Some.n (c.requires.few c.in-Some.n c.in-Some.is)) _
-    c.run_demo.ensures.unattached
-
-pub returns-in-Some-clause-not_built : goal.returns-in-Some-clause-not_built
-returns-in-Some-clause-not_built g c e =
-    let r = request_in c.args.asked.now in
-    let left = told_script r.demo (g.S.Source.left c.args.script.now) in
-    let x = c.run_demo.ensures.not_built e in (
-      unbuilt_told left (demo_script c.in-Some.n) (told_demo_script r.demo c.in-Some.n (g.S.Source.left c.args.script.now) c.in-Some.is) (demo_short c.in-Some.n (c.requires.few c.in-Some.n c.in-Some.is))
-          r x.0,
-      x.1,
-      x.2,
-    )
+    never_long left (demo_script c.in-Some.n) (told_demo_script r.demo c.in-Some.n (g.S.Source.left c.args.script.now) c.in-Some.is) (demo_short c.in-Some.n (c.requires.few c.in-Some.n c.in-Some.is)) _
 
 -- ---- a script of the source
 
@@ -71,11 +59,11 @@ returns-in-Ok-Some-clause-promise g c gives given text left image told =
     let built : is_unbuilt r ≡ false = search rules in
     let same : c.deref.result.now ≡ text = c.deref.ensures.value ∙ is.0 text here in
     let short : length text ≤ script_limit = subst (λ (t : List ℕ). length t ≤ script_limit) (is.0 text here) is.2 in
-    let promise = c.run_script.ensures.promise gives given image told in (
+    let promise = c.answer_script.ensures.promise gives given image told in (
       promise.0,
       promise.1,
-      script_ends g.D.Disk c.args.disk.now c.run_script.new.disk gives image text promise.0 r c.run_script.result built short
-          (subst (λ (t : List ℕ). EndsByScript g.D.Disk c.args.disk.now c.run_script.new.disk gives r image t promise.0 (has_unbuilt t) c.run_script.result) same promise.2),
+      script_ends g.D.Disk c.args.disk.now c.answer_script.new.disk gives image text promise.0 r c.answer_script.result built short
+          (subst (λ (t : List ℕ). EndsByGiving g.D.Disk c.args.disk.now c.answer_script.new.disk r image t promise.0 (gives r.image (blank_size r)) c.answer_script.result) same promise.2),
     )
 
 pub returns-in-Ok-Some-clause-keeps : goal.returns-in-Ok-Some-clause-keeps
@@ -84,5 +72,5 @@ returns-in-Ok-Some-clause-keeps g c =
     let left = g.S.Source.left c.args.script.now in
     let plain : r.demo ≡ None = search rules in
     let is = rw c.in-Ok-Some.field-0-is at c.in-Ok-Some.ensures.script in
-    keeps_by g.D.Disk g.K.Sink r (Spares r.read_only (commands_in c.deref.result.now)) (RunSpares r (told_script r.demo left)) c.args.disk.now c.run_script.new.disk c.args.out.now c.run_script.new.out c.run_script.result
-    (told_spares r (told_script r.demo left) c.deref.result.now (λ text there. c.deref.ensures.value ∙ is.0 text (sym (told_plain r.demo left plain) ∙ there))) c.run_script.ensures.keeps
+    keeps_by g.D.Disk g.K.Sink r (Spares r.read_only (commands_in c.deref.result.now)) (RunSpares r (told_script r.demo left)) c.args.disk.now c.answer_script.new.disk c.args.out.now c.answer_script.new.out c.answer_script.result
+    (told_spares r (told_script r.demo left) c.deref.result.now (λ text there. c.deref.ensures.value ∙ is.0 text (sym (told_plain r.demo left plain) ∙ there))) c.answer_script.ensures.keeps

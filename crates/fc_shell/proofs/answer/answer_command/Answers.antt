@@ -6,7 +6,7 @@ use Rattle.fc_script.specs.Reading.{command}
 use Rattle.fc_volume.specs.Volume.{StandsFor, parts_of}
 use Rattle.fc_shell.specs.Answered.{Answered, ForState, volume_reply}
 use Rattle.fc_shell.specs.Line.{KeepsGoing, LineEnds}
-use Rattle.fc_shell.proofs.ReplyLemmas.{built_changing}
+use Rattle.fc_shell.proofs.ReplyLemmas.{changing}
 use Rattle.fc_shell.proofs.StepLemmas.{reading_ends, reading_keeps}
 use Rattle.fc_shell.proofs.answer.answer_command.Goals as goal
 
@@ -45,9 +45,15 @@ returns-in-Compact-clause-step g c line is = c.compact.ensures.step line (is ∙
 pub returns-in-Compact-clause-keeps : goal.returns-in-Compact-clause-keeps
 returns-in-Compact-clause-keeps g c line is = c.compact.ensures.keeps line (is ∙ ap (λ a. Ok (command a)) c.in-Compact.is)
 
+pub returns-in-Reclaim-clause-step : goal.returns-in-Reclaim-clause-step
+returns-in-Reclaim-clause-step g c line is = c.reclaim.ensures.step line (is ∙ ap (λ a. Ok (command a)) c.in-Reclaim.is)
+
+pub returns-in-Reclaim-clause-keeps : goal.returns-in-Reclaim-clause-keeps
+returns-in-Reclaim-clause-keeps g c line is = c.reclaim.ensures.keeps line (is ∙ ap (λ a. Ok (command a)) c.in-Reclaim.is)
+
 pub answer_change-requires-clause-changes : goal.answer_change-requires-clause-changes
 answer_change-requires-clause-changes g c =
-    built_changing c.args.asked.now c.requires.built (sym c.is_reading.ensures ∙ c.if-is_reading.false) c.in_default.not-Compact
+    changing c.args.asked.now (sym c.is_reading.ensures ∙ c.if-is_reading.false) c.in_default.not-Compact c.in_default.not-Reclaim
 
 pub returns-in_default-clause-step : goal.returns-in_default-clause-step
 returns-in_default-clause-step g c = c.answer_change.ensures.step

@@ -9,14 +9,9 @@ use Rattle.fc_script.specs.Lines.{command_of}
 use Rattle.fc_script.specs.Reading.{Gives, command}
 use Rattle.fc_script.specs.Texts.{refusal_line}
 use Rattle.fc_shell.specs.declared.answer.LineFault.{LineFault}
-use Rattle.fc_shell.specs.Built.{is_unbuilt_command}
 use Rattle.fc_shell.proofs.AnsweredLemmas.{caused_alone}
-use Rattle.fc_shell.proofs.ReplyLemmas.{not_false}
 use Rattle.fc_shell.proofs.StepLemmas.{reading_keeps, refusal_ends, unbegun_ends}
 use Rattle.fc_shell.proofs.answer.answer_line.Goals as goal
-
-pub answer_command-requires-clause-built : goal.answer_command-requires-clause-built
-answer_command-requires-clause-built g c = not_false c.in-Ok.asked (ap is_unbuilt_command (sym c.in-Ok.ensures) ∙ c.requires.built)
 
 pub answer_command-requires-clause-spelled : goal.answer_command-requires-clause-spelled
 answer_command-requires-clause-spelled g c = (c.args.line.now, c.in-Ok.ensures, c.requires.short)

@@ -5,7 +5,7 @@ use Rattle.fc_image.specs.effects.Effect.{State}
 use Rattle.fc_image.specs.Opening.{open_image}
 use Rattle.fc_volume.specs.Answers.{IsFaultOf}
 use Rattle.fc_shell.specs.declared.ending.End.{End}
-use Rattle.fc_shell.specs.Built.{Spares}
+use Rattle.fc_shell.specs.Reads.{Spares}
 use Rattle.fc_shell.specs.Modes.{plain_mode}
 use Rattle.fc_runs.specs.Run.{commands_in}
 use Rattle.fc_shell.specs.Promise.{EndsByOpening, EndsOver}

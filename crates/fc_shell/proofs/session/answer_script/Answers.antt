@@ -4,7 +4,7 @@ use Rattle.std.specs.Option.{option_map}
 use Rattle.fc_device.proofs.DiskLaws.{laws}
 use Rattle.fc_words.specs.Request.{request_in}
 use Rattle.fc_runs.specs.Run.{commands_in}
-use Rattle.fc_shell.specs.Built.{Spares}
+use Rattle.fc_shell.specs.Reads.{Spares}
 use Rattle.fc_shell.specs.Promise.{EndsByGiving}
 use Rattle.fc_shell.specs.Replies.{blank_size, image_for}
 use Rattle.fc_shell.proofs.KeptLemmas.{attach_fault, fresh_opens, not_made, session_run}

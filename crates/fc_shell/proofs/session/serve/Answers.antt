@@ -1,19 +1,17 @@
 use Rattle.std.proofs.Common.{◌≡◌, ◌≤◌, ◌+◌, IfOk, Bool, true, false, cond, Result, Ok, Err, List, ℕ, ◌∷◌, length, refl, sym, ap, subst, ◌∙◌, arith}
-use Rattle.std.specs.List.{list_any}
 use Rattle.std.proofs.lemmas.Result.{err_from_is_err_and}
 use Rattle.fc_device.proofs.DiskLaws.{laws}
 use Rattle.fc_device.proofs.StopLemmas.{reads_start, reads_then}
 use Rattle.fc_image.specs.effects.Effect.{State}
-use Rattle.fc_script.specs.Lines.{command_of}
 use Rattle.fc_shell.specs.declared.answer.LineFault.{LineFault}
 use Rattle.fc_shell.specs.declared.tally.Tally.{Tally}
-use Rattle.fc_shell.specs.Built.{Spares, is_unbuilt_command}
+use Rattle.fc_shell.specs.Reads.{Spares}
 use Rattle.fc_shell.specs.Left.{commands_left}
 use Rattle.fc_shell.specs.Line.{IsReady, LineEnds}
 use Rattle.fc_shell.specs.Serving.{HasServed, ServesAs}
 use Rattle.fc_shell.specs.Replies.{script_limit}
 use Rattle.fc_shell.proofs.LengthLemmas.{AreUpTo, commands_few, commands_up_to}
-use Rattle.fc_shell.proofs.ServingLemmas.{goes_same, goes_then, neither, served_all, served_more, served_part, served_start, spares_first, spares_rest}
+use Rattle.fc_shell.proofs.ServingLemmas.{goes_same, goes_then, served_all, served_more, served_part, served_start, spares_first, spares_rest}
 use Rattle.fc_shell.proofs.StepLemmas.{caused_later, caused_ok, one_fault}
 use Rattle.fc_shell.proofs.session.serve.Goals as goal
 
@@ -37,7 +35,6 @@ count-requires-clause-within g c = c.loop-line.invariant.within
 
 pub loop-line-init : goal.loop-line-init
 loop-line-init g c = record {
-  built = subst (λ (lines : List (List ℕ)). list_any (λ line. is_unbuilt_command (command_of line)) lines ≡ false) (sym c.new-lines.ensures) c.requires.built;
   short = subst (AreUpTo script_limit) (sym c.new-lines.ensures) (commands_up_to script_limit c.args.script.now c.requires.short);
   goes = goes_same (laws g.met.D.Disk) c.args.disk.now;
   ready = record { fit = c.requires.fit; stands = c.requires.stands; settled = c.requires.settled; read_only = refl };
@@ -65,13 +62,6 @@ answer_line-requires-clause-settled g c = c.loop-line.invariant.ready.settled
 pub answer_line-requires-clause-short : goal.answer_line-requires-clause-short
 answer_line-requires-clause-short g c = (subst (AreUpTo script_limit) c.in-Some.ensures c.loop-line.invariant.short).0
 
-pub answer_line-requires-clause-built : goal.answer_line-requires-clause-built
-answer_line-requires-clause-built g c =
-    let line = c.in-Some.line.now in
-    let left = commands_left c.next.new.self in
-    (neither (is_unbuilt_command (command_of line)) (list_any (λ line. is_unbuilt_command (command_of line)) left)
-    (subst (λ (lines : List (List ℕ)). list_any (λ line. is_unbuilt_command (command_of line)) lines ≡ false) c.in-Some.ensures c.loop-line.invariant.built)).0
-
 pub loop-line-preserved : goal.loop-line-preserved
 loop-line-preserved g c =
     let so_far = c.loop-line.invariant in
@@ -83,8 +73,6 @@ loop-line-preserved g c =
     let is : c.answer_line.result ≡ Ok c.in_ok-refused.refused = c.in_ok-refused.was in
     let ready = subst (λ r. IfOk r (λ refused. IsReady g.D.Disk c.answer_line.new.disk c.loop-line.volume c.answer_line.new.volume)) is keeps.ready in
     record {
-      built = (neither (is_unbuilt_command (command_of line)) (list_any (λ line. is_unbuilt_command (command_of line)) left)
-          (subst (λ (lines : List (List ℕ)). list_any (λ line. is_unbuilt_command (command_of line)) lines ≡ false) cut so_far.built)).1;
       short = (subst (AreUpTo script_limit) cut so_far.short).1;
       goes = goes_then (laws g.met.D.Disk) so_far.goes keeps.goes;
       ready = record { fit = ready.fit; stands = ready.stands; settled = ready.settled; read_only = ready.read_only ∙ so_far.ready.read_only };

@@ -1,10 +1,8 @@
-use Rattle.std.proofs.Common.{◌≡◌, ◌≤◌, ◌+◌, false, length}
-use Rattle.std.specs.List.{list_any}
+use Rattle.std.proofs.Common.{◌≡◌, ◌≤◌, ◌+◌, length}
 use Rattle.fc_device.specs.Calls.{OnlyReads}
 use Rattle.fc_runs.specs.Run.{commands_in}
-use Rattle.fc_script.specs.Lines.{command_of}
 use Rattle.fc_shell.specs.Answered.{ForState}
-use Rattle.fc_shell.specs.Built.{Spares, is_unbuilt_command}
+use Rattle.fc_shell.specs.Reads.{Spares}
 use Rattle.fc_shell.specs.Left.{commands_left}
 use Rattle.fc_shell.specs.Line.{GoesOn, IsReady}
 use Rattle.fc_shell.specs.Serving.{HasServed}
@@ -14,7 +12,6 @@ use Rattle.fc_shell.proofs.session.serve.Given as goal
 
 abbrev pub invariant-loop-line : goal.invariant-loop-line
 invariant-loop-line g l = record {
-  built : list_any (λ line. is_unbuilt_command (command_of line)) (commands_left l.lines) ≡ false;
   short : AreUpTo script_limit (commands_left l.lines);
   goes : GoesOn g.D.Disk l.fn.disk l.disk;
   ready : IsReady g.D.Disk l.disk l.fn.volume l.volume;
