@@ -4,7 +4,7 @@
 _fcdisc()
 {
     local word=${COMP_WORDS[COMP_CWORD]} before=${COMP_WORDS[COMP_CWORD-1]} job=${COMP_WORDS[1]}
-    local jobs='list ls get extract check new adl strip put add mkdir rm mv cp access compact undo convert catalogue find diff rescue mend types'
+    local jobs='list ls get extract check new adl strip put add mkdir rm mv cp access compact reclaim undo convert catalogue find diff rescue mend types'
     local change='--order --offset --backup --in-place --help'
     local options='--help'
 
@@ -29,7 +29,7 @@ _fcdisc()
         add) options="--replace --fit --types --verbose $change" ;;
         mkdir) options="-p $change" ;;
         rm|cp) options="-r $change" ;;
-        mv|access|compact) options=$change ;;
+        mv|access|compact|reclaim) options=$change ;;
         undo) options='--back --help' ;;
         convert) options='--order --offset --fit --verbose --help' ;;
         find) options='--order --offset --type --holds --sha256 --help' ;;

@@ -21,7 +21,7 @@ from .unread import files_in_equal_tracks
 from .verdicts import fault_of, is_no_disc
 
 WHOLE, DAMAGED, UNREAD, NO_DISC = "whole", "damaged", "not read", "no disc"
-LOST_ADVICE = "if the space is wanted, extract the files and add them to a fresh disc: nothing gives it back yet"
+LOST_ADVICE = "if the space is wanted, fcdisc reclaim gives it back"
 EQUAL_ADVICE = "look into these files: an imaging tool may have filled in a track that it couldn't read"
 REMARKS = (("lost", "byte", "that nothing owns"), ("unsorted", "directory", "out of order"),
            ("parents", "directory", "with a wrong parent"))

@@ -144,8 +144,7 @@ def add_moving(added: Jobs) -> None:
 def add_whole(added: Jobs) -> None:
     add_change(added, "compact", later("changes", "compact"), "Bring the free space of a disc together.")
 
-    # fcore doesn't have this command yet: until then it isn't listed
-    add_change(added, "reclaim", later("copying", "reclaim"), "Make the space free that nothing on the disc owns.", "+", False)
+    add_change(added, "reclaim", later("copying", "reclaim"), "Make the space free that nothing on the disc owns.", "+")
 
     job = add_job(added, "undo", later("backups", "undo"),
                   "Give an image its state before the first change again. What it was until then is "
@@ -165,10 +164,10 @@ def add_whole(added: Jobs) -> None:
 
 
 def add_change(added: Jobs, name: str, run: Job, text: str,
-               count: Optional[str] = None, is_listed: bool = True) -> argparse.ArgumentParser:
+               count: Optional[str] = None) -> argparse.ArgumentParser:
     """A subcommand that changes an image."""
     job = add_job(added, name, run, text + " The image as it was before the first change is "
-                  "called IMAGE~.", is_listed=is_listed)
+                  "called IMAGE~.")
     add_order(job)
     job.add_argument("--backup", choices=BACKUPS, default=BACKUPS[0], help="`first`: IMAGE~ is the image before the first "
                      "change, and stays; `each`: every change leaves one more, IMAGE~1~, IMAGE~2~ and so on")

@@ -29,12 +29,10 @@ def later(part: str, name: str) -> Job:
     return run
 
 
-def add_job(added: Jobs, name: str, run: Job, text: str, aliases: Sequence[str] = (), is_listed: bool = True) -> argparse.ArgumentParser:
-    """A subcommand. The first sentence of its text stands in the list of them, if it is listed: argparse lists those with a help."""
+def add_job(added: Jobs, name: str, run: Job, text: str, aliases: Sequence[str] = ()) -> argparse.ArgumentParser:
+    """A subcommand. The first sentence of its text stands in the list of them."""
     first = text.split(". ")[0].rstrip(".")
-    listed = {"help": first[0].lower() + first[1:]} if is_listed else {}
-    job = added.add_parser(name, description=text, epilog=EPILOG, allow_abbrev=False, aliases=aliases,
-                           **listed)  # type: ignore[arg-type]
+    job = added.add_parser(name, help=first[0].lower() + first[1:], description=text, epilog=EPILOG, allow_abbrev=False, aliases=aliases)
     job.set_defaults(run=run)
     return job
 

@@ -19,7 +19,6 @@ from .selection import path_of
 from .tree import MAX_DEPTH, Tree, named, read_below
 
 NOT_COPIED = "not copied"
-OLD_MAP = "it has an old map, and space that nothing owns can be found on new maps alone"
 Pair = Tuple[Entry, Path]  # an object, and the path of its copy
 
 
@@ -93,7 +92,7 @@ def reclaim(words: Namespace) -> int:
             try:
                 given = edit.perform(b"reclaim\n", reclaimed)
             except Refused as refused:
-                raise edit.trouble(OLD_MAP if refused.name == "NotNewMap" else refusal_explained(refused.name)) from None
+                raise edit.trouble(refusal_explained(refused.name)) from None
             edit.changes = int(given > 0)
             status = max(status, edit.finish())
             say("%s: %s given back" % (shown(image), counted(given, "byte")))
