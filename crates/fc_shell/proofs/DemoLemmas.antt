@@ -22,7 +22,6 @@ use Rattle.fc_runs.specs.Stops.{MayHaveLeft, Stops, next_keeps_tree, next_leaves
 use Rattle.fc_words.specs.CommandLine.{Request, Settings, Text, format_of, image_of, is_decimal, is_set, number_of, optional, request_from, request_of, settings_after, value_of}
 use Rattle.fc_words.specs.declared.Format.{Format as Word}
 use Rattle.fc_shell.specs.declared.answer.LineFault.{LineFault}
-use Rattle.fc_shell.specs.declared.answer.LineFault.TheVariants as lines
 use Rattle.fc_shell.specs.declared.ending.End.{End}
 use Rattle.fc_shell.specs.declared.ending.End.TheVariants.{DiskFault, OutFault, NoMemory}
 use Rattle.fc_shell.specs.declared.tally.Tally.{Tally}

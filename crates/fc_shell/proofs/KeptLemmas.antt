@@ -1,5 +1,5 @@
 -- A run whose image is attached, or couldn't be.
-use Rattle.std.proofs.Common.{◌≡◌, ◌⊎◌, ◌<◌, ◌≤◌, ◌++◌, ◌∷◌, ◌∙◌, ap, option_map, inl, inr, ⊎_elim, ℕ, nat_lt, Bool, true, false, List, [], length, Option, Some, None, Result, Ok, refl, sym, subst, arith}
+use Rattle.std.proofs.Common.{◌≡◌, ◌<◌, ◌≤◌, ◌++◌, ◌∷◌, ◌∙◌, ap, option_map, inl, inr, ⊎_elim, ℕ, nat_lt, Bool, true, false, List, [], length, Option, Some, None, Result, Ok, refl, sym, subst, arith}
 use Rattle.std.specs.Prelude.{is_some, replicate}
 use Rattle.std.proofs.lemmas.Bool.Decides.{nat_tests}
 use Rattle.fc_device.specs.declared.disk.Disk.{Ghosts}

@@ -1,5 +1,5 @@
 -- A script that only reads: its end and its text are those of words, script and image.
-use Rattle.std.proofs.Common.{◌≡◌, ◌⊎◌, not, inl, inr, ℕ, Bool, true, false, nat_lt, List, [], ◌∷◌, ◌++◌, length, map, take, Option, Some, None, Result, Ok, Err, refl, sym, ap, subst, ◌∙◌, append_assoc}
+use Rattle.std.proofs.Common.{◌≡◌, inl, inr, ℕ, Bool, true, false, nat_lt, List, [], ◌∷◌, ◌++◌, length, map, take, Option, Some, None, Result, Ok, Err, refl, sym, ap, subst, ◌∙◌, append_assoc}
 use Rattle.std.specs.Prelude.{if◌then◌else◌, slice_get, is_some}
 use Rattle.std.specs.List.{list_any}
 use Rattle.std.proofs.lemmas.List.{append-nil}
@@ -13,7 +13,7 @@ use Rattle.fc_script.specs.Lines.{command_of}
 use Rattle.fc_script.specs.Texts.{refusal_line}
 use Rattle.fc_runs.specs.Early.{reply_begun, text_begun}
 use Rattle.fc_runs.specs.Promises.{Cause, HasRun, HasStopped}
-use Rattle.fc_runs.specs.ReadLaw.{is_reading, reading_reply}
+use Rattle.fc_runs.specs.ReadLaw.{reading_reply}
 use Rattle.fc_runs.specs.Replies.{bad_image_line}
 use Rattle.fc_runs.specs.Run.{Mode, Steps, commands_in, is_error, text_of}
 use Rattle.fc_runs.specs.Stops.{MayHaveLeft}
@@ -27,7 +27,7 @@ use Rattle.fc_shell.specs.Promise.{EndsBefore, EndsByGiving, EndsByLength, EndsB
 use Rattle.fc_shell.specs.Replies.{AsksNoDemo, EndsAs, attached_reply, blank_size, command_reply, image_for, is_unbuilt, line_reply, opened_reply, replies_of, request_reply, script_limit, script_reply, served, silent}
 use Rattle.fc_shell.specs.Writing.{Wrote, WrotePart}
 use Rattle.fc_shell.proofs.ReadsLemmas.{one_row, one_step}
-use Rattle.fc_shell.proofs.ServingLemmas.{both_true, steps_weaker, true_both}
+use Rattle.fc_shell.proofs.ServingLemmas.{both_true, steps_weaker}
 use Rattle.fc_shell.proofs.WritingLemmas.{part_of_first}
 
 -- ---- nothing was written

@@ -25,9 +25,9 @@ use Rattle.fc_image.specs.effects.Sharing.{new_ids}
 use Rattle.fc_image.specs.effects.Short.{needed_bits, needed_ids, short, space_reasons}
 use Rattle.fc_image.specs.safe.Reclaim.{Reclaims, reclaimed_bytes}
 use Rattle.fc_script.specs.Lines.{command_of}
-use Rattle.fc_script.specs.Texts.{line_of, ok_line, reclaimed_line, refusal_line}
+use Rattle.fc_script.specs.Texts.{ok_line, reclaimed_line, refusal_line}
 use Rattle.fc_runs.specs.Early.{reply_begun}
-use Rattle.fc_runs.specs.Run.{Answers, Mode, Serves, Step, Takes, is_error, layout_reason, shortage}
+use Rattle.fc_runs.specs.Run.{Answers, Serves, Step, Takes, is_error, layout_reason, shortage}
 use Rattle.fc_runs.specs.Stops.{leaves_image_or}
 use Rattle.fc_tree.specs.Parts.{ArePartsOf}
 use Rattle.fc_volume.specs.declared.lines.CommandError.{CommandError}

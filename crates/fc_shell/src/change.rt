@@ -31,7 +31,11 @@ fn tell_done<K: Sink>(out: &mut K) -> Result<bool, LineFault>
 }
 
 /// Writes the line of a refusal. After any other error nothing is written.
-pub fn tell_error<K: Sink>(alloc: Global, out: &mut K, error: CommandError) -> Result<bool, LineFault>
+pub fn tell_error<K: Sink>(
+    alloc: Global,
+    out: &mut K,
+    error: CommandError,
+) -> Result<bool, LineFault>
     ensures { TellsError K.Sink out.old out.new error result }
 {
     match error {

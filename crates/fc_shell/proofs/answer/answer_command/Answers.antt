@@ -3,7 +3,7 @@ use Rattle.fc_device.proofs.DiskLaws.{laws}
 use Rattle.fc_image.specs.effects.Effect.{State}
 use Rattle.fc_runs.specs.ReadLaw.{is_reading}
 use Rattle.fc_script.specs.Reading.{command}
-use Rattle.fc_volume.specs.Volume.{StandsFor, parts_of}
+use Rattle.fc_volume.specs.Volume.{StandsFor}
 use Rattle.fc_shell.specs.Answered.{Answered, ForState, volume_reply}
 use Rattle.fc_shell.specs.Line.{KeepsGoing, LineEnds}
 use Rattle.fc_shell.proofs.ReplyLemmas.{changing}

@@ -1,4 +1,4 @@
-use Rattle.std.proofs.Common.{rules, Err, refl, sym, ap, subst, ◌∙◌}
+use Rattle.std.proofs.Common.{rules, Err, refl, subst}
 use Rattle.fc_device.proofs.DiskLaws.{laws}
 use Rattle.fc_device.proofs.StopLemmas.{reads_start}
 use Rattle.fc_image.specs.effects.Effect.{State}

@@ -1,8 +1,6 @@
-use Rattle.std.proofs.Common.{◌≡◌, List, ℕ, length, Ok, ap, subst, sym, ◌∙◌, arith}
+use Rattle.std.proofs.Common.{List, ℕ, length, Ok, ap, subst, sym, ◌∙◌, arith}
 use Rattle.fc_model.specs.Command.{Command as Model}
-use Rattle.fc_names.specs.Names.{Path}
 use Rattle.fc_script.specs.Reading.{command}
-use Rattle.fc_script.specs.declared.command.Command.{Command}
 use Rattle.fc_shell.specs.Changing.{IsAsked}
 use Rattle.fc_shell.proofs.AccessLemmas.{access_fits, bytes_fit}
 use Rattle.fc_shell.proofs.MapsLemmas.{asked_new}

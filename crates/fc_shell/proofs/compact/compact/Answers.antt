@@ -1,4 +1,3 @@
-use Rattle.std.proofs.Common.{◌≡◌}
 use Rattle.fc_device.proofs.DiskLaws.{laws}
 use Rattle.fc_image.specs.effects.Effect.{State}
 use Rattle.fc_shell.proofs.CompactLemmas.{compact_ends, compact_keeps}
