@@ -159,7 +159,7 @@ def lose(volume: NewVolume, chance: random.Random) -> None:
     lose_reserved(volume, chance, lost)
 
 
-def lose_reserved(volume: Any, chance: random.Random, lost: List[int]) -> None:
+def lose_reserved(volume: NewVolume, chance: random.Random, lost: List[int]) -> None:
     """The runs in which the map and the boot block lie, but the one with the root, are lost in half of all cases."""
     holds_root = volume.root.address // 256 == 2
     for zone, runs in enumerate(volume.runs):
