@@ -34,7 +34,7 @@ _fcdisc()
         convert) options='--order --offset --fit --verbose --help' ;;
         find) options='--order --offset --type --holds --sha256 --help' ;;
         rescue) options='--order --offset --as --deleted --all --report --to --each --help' ;;
-        mend) options='--order --offset --help' ;;
+        mend) options='--guess --order --offset --help' ;;
         diff) options='--order --offset --verbose --help' ;;
     esac
     case $word in

@@ -36,9 +36,9 @@ if TYPE_CHECKING:
 # Most sound files may be wrong in 1 of these; and at least so many of 100 files have to be right
 SOUND_PER_WRONG, RIGHT = 1000, 85
 UNSEEN = "two discs mixed"  # in a part of another disc without a directory nothing shows the mixture
-UNCHECKED = ("L",)  # formats whose directories have no check: other bytes in one go unnoticed
 FLOPPY_SECONDS, LARGE_SECONDS = 10, 60  # of a processor's time
 LARGE_MEMORY = 1 << 30
+WRITTEN_EACH = 10  # of random damages: one of so many is written to a folder
 
 
 class Rescue:
@@ -187,8 +187,8 @@ def table(rescue: Rescue) -> None:
     print(sum(kinds.values(), Tally()).row("all"))
 
 
-# signs of the bytes, which the second reading doesn't look for
-SIGNS = ("bytes", "discs may be mixed", "whole track", "with its mark")
+# signs of the bytes, of two maps, and in directories without a check, which the second reading doesn't look for
+SIGNS = ("bytes", "discs may be mixed", "different discs", "whole track", "with its mark", "signs of damage", "lies below may have")
 
 
 def compare(checks: Checks, name: str, data: bytes, found: Reading) -> None:
@@ -254,21 +254,27 @@ def hostile_images() -> Iterator[Tuple[str, bytes]]:
 
 def hostile(checks: Checks, rescue: Rescue) -> None:
     for name, data in hostile_images():
-        work = checks.fresh(b"work")
         start = time.process_time()
         found = rescue.read(data)
-        with rescue.writing.empty_folder(os.fsdecode(os.path.join(work, b"out"))) as folder:
-            quietly(lambda: rescue.writing.write_all(found, "x", folder))
-        spent = time.process_time() - start
-        left = snapshot(work)
-        size = sum(len(data) for path, data in left.items() if data and not path.startswith(b"out/report"))
-        checks.expect(name, outside=([b"out"], [path for path in left if b"/" not in path]), quick=(True, spent < FLOPPY_SECONDS),
-                      bounded=(True, size <= 8 * len(data)), links=(0, sum(isinstance(one, str) for one in left.values())))
+        left = written(checks, rescue, name, found, 8 * len(data))
+        checks.expect(name + ", time", quick=(True, time.process_time() - start < FLOPPY_SECONDS))
         if name.startswith("names"):
             wanted = sum(one.grade != "lost" for one in found.files)
             written = sum(data is not None for path, data in left.items() if not path.startswith(b"out/report"))
             checks.expect(name + ", files", count=(wanted, written))
         json.loads(left[b"out/report.json"])
+
+
+def written(checks: Checks, rescue: Rescue, name: str, found: Reading, most: int) -> Dict[bytes, Union[bytes, str, None]]:
+    """Writes all files, none of them outside of the folder, and no more than so many bytes; answers what is there then."""
+    work = checks.fresh(b"work")
+    with rescue.writing.empty_folder(os.fsdecode(os.path.join(work, b"out"))) as folder:
+        quietly(lambda: rescue.writing.write_all(found, "x", folder))
+    left = snapshot(work)
+    size = sum(len(data) for path, data in left.items() if data and not path.startswith(b"out/report"))
+    checks.expect(name, outside=([b"out"], [path for path in left if b"/" not in path]), bounded=(True, size <= most),
+                  links=(0, sum(isinstance(one, str) for one in left.values())))
+    return left
 
 
 def quietly(run: Callable[[], object]) -> str:
@@ -298,24 +304,25 @@ def large(checks: Checks) -> None:
 
 
 def random_damages(checks: Checks, rescue: Rescue, count: int) -> None:
-    """It ends, what comes out is bounded, and hardly a file is sound that has other bytes than its places."""
+    """It ends, what comes out is bounded, and hardly a file is sound that has other bytes than its places. Of some all is written."""
     slowest = 0
     wrong, sound = collections.Counter(), collections.Counter()
     for form in FORMATS:
-        for volume, data in rescue_hostile.random_damages(form, count // len(FORMATS) + 1, 46):
+        for number, (volume, data) in enumerate(rescue_hostile.random_damages(form, count // len(FORMATS) + 1, 46)):
             start = time.process_time()
             found = rescue.read(data)
             slowest = max(slowest, time.process_time() - start)
             truth = where_they_lie(volume, data)
             rows = found.rows if found else ()
             checks.expect("a random damage", bounded=(True, sum(len(content) for _, _, content, _ in rows) <= 8 * len(data)))
+            if found and number % WRITTEN_EACH == 0:
+                written(checks, rescue, "a random damage, written", found, 8 * len(data))
             sound[form] += sum(grade == "sound" for _, grade, _, _ in rows)
             wrong[form] += sum(grade == "sound" and truth.get(path) != content for path, grade, content, _ in rows)
-    checked = [form for form in FORMATS if form not in UNCHECKED]
-    few = sum(wrong[form] for form in checked) * SOUND_PER_WRONG <= sum(sound[form] for form in checked)
-    checks.expect("random damages", quick=(True, slowest < FLOPPY_SECONDS), wrong=(True, few))
-    print("rescue: %d random damages: of %d sound files %d are wrong, %d of them on L discs; the slowest took %.1f s" % (
-        count, sum(sound.values()), sum(wrong.values()), wrong["L"], slowest))
+    many = [form for form in FORMATS if wrong[form] * SOUND_PER_WRONG > sound[form]]
+    checks.expect("random damages", quick=(True, slowest < FLOPPY_SECONDS), wrong=([], many))
+    print("rescue: %d random damages: of %d sound files %d are wrong, of %d on L discs %d; the slowest took %.1f s" % (
+        count, sum(sound.values()), sum(wrong.values()), sound["L"], wrong["L"], slowest))
 
 
 def where_they_lie(volume: AnyVolume, data: bytes) -> Dict[str, bytes]:

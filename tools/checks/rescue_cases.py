@@ -7,10 +7,12 @@ in which nothing of a disc is found.
 from __future__ import annotations
 
 import os
+from typing import List, NamedTuple, Tuple
 
 from tools.checks.fcdisc import Checks, snapshot, texts
 from tools.files import read
 from tools.images import damaged, rescue_hostile, rescue_images, table as images
+from tools.images.volumes import Directory
 
 OUTCOMES = {
     (): """
@@ -55,14 +57,15 @@ OUTCOMES = {
         d-check-before-entry""",
     (1, 4, 0, 0): """
         d-word d-words-differ d-magic-first d-sequence d-sequence-before-check d-check l-words-differ l-sequence
+        l-name-of-top-bit l-name-of-return l-twin l-first-twin
         big-head-word big-tail-word big-version big-sequence big-sequence-before-size big-size big-too-many
         big-long-name big-heap-of-2 big-size-before-check big-check found-first""",
     (1, 4, 0, 1): """
         place-before-directory""",
     (3, 2, 0, 0): """
-        d-entry-before-twin l-first-twin big-entry-before-twin""",
+        d-entry-before-twin big-entry-before-twin""",
     (4, 1, 0, 0): """
-        d-empty-name d-twin d-root l-name-of-top-bit l-name-of-return l-twin big-name-of-0 big-name-of-256
+        d-empty-name d-twin d-root big-name-of-0 big-name-of-256
         big-name-past-heap big-name-far-off big-name-low-byte big-twin big-root-word d-into-hole""",
     (4, 2, 0, 0): """
         later-directory""",
@@ -82,6 +85,8 @@ def run(checks: Checks) -> None:
     onto_fresh(checks)
     deleted(checks)
     other_orders(checks)
+    unchecked(checks)
+    two_maps(checks)
     mended(checks)
     advice(checks)
 
@@ -172,9 +177,57 @@ def other_orders(checks: Checks) -> None:
         (True, True), ("; its two sides put into disc order" in outs[1], "; without its header of 512 bytes" in outs[2])))
 
 
+def unchecked(checks: Checks) -> None:
+    """Each sign of damage in a directory of an L disc doubts its files, if a byte of the map is wrong besides; of a whole disc none does."""
+    volume = rescue_images.floppy("L")
+    image = bytes(volume.image())
+    docs = next(one for one in volume.directories() if one.name == b"Docs")
+    start, used = rescue_images.extents_of(volume, docs)[0][0], 5 + 26 * len(docs.entries)
+    cases = {
+        "its names aren't in order": (5, b"z"), "a name in it can't be": (5 + 3, b"\5"), "its entry has another name than itself": (1228, b"Dogs"),
+        "it names another directory as its parent": (1238, b"\7"), "there are stray bytes after its last entry": (used + 40, b"\1"),
+        "bytes at its end can't be": (1265, b"\1"), "an entry has an attribute that no system gives": (5 + 9, b"\x80"),
+    }
+    for text, (place, data) in cases.items():
+        made = rescue_images.changed(image, start + place, data)
+        started(checks, whole=made, damaged=rescue_images.changed(made, 3, b"\1"))
+        for name in ("whole", "damaged"):
+            out = checks.run(["rescue", "--report", name + ".adf"])[0]
+            doubtful = [line for line in out.splitlines() if "nothing checks it" in line]
+            inner = [one for one in doubtful if "  $.Docs." in one and ".Old." not in one or "  $.Dogs." in one]
+            checks.expect("%s, %s disc" % (text, name), said=(True, name == "whole" or text in out),
+                          doubtful=(name == "damaged", len(doubtful) == len(inner) > 0))
+
+
+def two_maps(checks: Checks) -> None:
+    """If the copies of the map are of two discs, and something is damaged besides, all is doubtful; if nothing is, nothing is."""
+    volume = rescue_images.floppy("F")
+    image, other, shape = bytes(volume.image()), bytes(rescue_images.floppy("F", 2).image()), volume.shape
+    second = (shape.map_sector + shape.zones) * shape.sector
+    mixed = rescue_images.changed(image, second, other[second:second + 2 * shape.sector])
+    docs = next(one for one in volume.directories() if one.name == b"Docs")
+    broken = rescue_images.changed(mixed, rescue_images.extents_of(volume, docs)[0][0] + 5, b"\1")
+    started(checks, mixed=mixed, broken=broken)
+    for name, wanted in (("mixed", "40 of 40 files sound\n"), ("broken", "0 of 39 files sound, 39 doubtful\n")):
+        out = checks.run(["rescue", "--report", name + ".adf"])[0]
+        checks.expect("two maps, " + name, output=(wanted, out[:len(wanted)]))
+
+
 # What is said of a check that was made from a directory's entries; the status is 1 then
-GUESS = "directory $.Art: its check, a guess: its entry looks right, but may be wrong: compare its length and date\n"
-GUESS_OF_SEVERAL = "directory $.Docs: its check, a guess: its %d entries look right, but one may be wrong: compare lengths and dates\n"
+GUESS = "directory $.Art: its check, a guess: its entry agrees with the map, but its name, type, date or length may be wrong: compare it\n"
+GUESSES = ("directory $.Docs: its check, a guess: its %d entries agree with the map, "
+           "but a name, type, date or length may be wrong: compare them\n")
+NOT_GUESSED = "nothing that is damaged can be put right: nothing written; with --guess it puts right: " + GUESS
+
+
+class Mend(NamedTuple):
+    """Bytes that are changed at places of the image, whether the image as it was comes out, what is said, and the options."""
+
+    places: List[int]
+    data: bytes
+    is_mended: bool
+    said: str
+    options: Tuple[str, ...] = ()
 
 
 def mended(checks: Checks) -> None:
@@ -183,31 +236,43 @@ def mended(checks: Checks) -> None:
     image, shape = bytes(volume.image()), volume.shape
     zone = [(shape.map_sector + at) * shape.sector for at in (1, shape.zones + 2)]
     both = [(shape.map_sector + copy * shape.zones + 1) * shape.sector for copy in (0, 1)]
-    art, docs = (rescue_images.extents_of(volume, next(one for one in volume.directories() if one.name == name))[0][0]
-                 for name in (b"Art", b"Docs"))
-    several = GUESS_OF_SEVERAL % len(next(one for one in volume.directories() if one.name == b"Docs").entries)
+    inner = {one.name: one for one in volume.directories()}
+    art, docs, games = (rescue_images.extents_of(volume, inner[name])[0][0] for name in (b"Art", b"Docs", b"Games"))
+    several, guess = GUESSES % len(inner[b"Docs"].entries), ("--guess",)
+    art_check, docs_check = (bytes([image[place + 2047] ^ 0x11]) for place in (art, docs))
     cases = {
-        "maps": (zone, bytes(1024), image, "both copies"), "boot": ([0xDC0], bytes(64), image, "the boot block"),
-        "word": ([art + 1], b"nick", image, "directory $.Art"), "number": ([art], b"\x77", image, "directory $.Art"),
-        "check": ([art + 2047], bytes([image[art + 2047] ^ 0x11]), image, GUESS),
-        "check of several": ([docs + 2047], bytes([image[docs + 2047] ^ 0x11]), image, several),
-        "both": (both, bytes(1024), None, "nothing that is damaged can be put right"), "whole": ([], b"", None, "nothing is damaged"),
-        "name": ([art + 5], b"\r", None, "nothing written"),
+        "maps": Mend(zone, bytes(1024), True, "the second copy"), "boot": Mend([0xDC0], bytes(64), True, "the boot block"),
+        "word": Mend([art + 1], b"nick", True, "directory $.Art"), "number": Mend([art], b"\x77", True, "directory $.Art"),
+        "check": Mend([art + 2047], art_check, False, NOT_GUESSED), "a guess": Mend([art + 2047], art_check, True, GUESS, guess),
+        "guesses": Mend([docs + 2047], docs_check, True, several, guess),
+        "length": Mend([docs + 5 + 26 * longest(inner[b"Docs"]) + 20], b"\0", False, "can be put right: nothing written\n", guess),
+        "order": Mend([docs + 5], b"z", False, "can be put right: nothing written\n", guess),
+        "both": Mend(both, bytes(1024), False, "nothing that is damaged can be put right"),
+        "whole": Mend([], b"", False, "nothing is damaged"), "name": Mend([art + 5], b"\r", False, "nothing written"),
+        "parent": Mend([games + 2010], b"\7", False, "can be put right: nothing written\n", guess),
     }
-    for name, (places, data, wanted, text) in cases.items():
-        damaged = image
-        for place in places:
-            damaged = rescue_images.changed(damaged, place, data)
-        work = started(checks, a=damaged)
-        out, err, status = checks.run(["mend", "a.adf", "o.adf"])
-        made = os.path.join(work, b"o.adf")
-        got = read(made) if os.path.exists(made) else None
-        checks.expect("mend, " + name, same=(True, got == wanted), status=(int(wanted is None or text in (GUESS, several)), status),
-                      said=(True, (text if text != "both copies" else "the second copy") in out + err),
-                      kept=(True, read(os.path.join(work, b"a.adf")) == damaged),
-                      left=(1 + (wanted is not None), len(snapshot(work))))
+    for name, case in cases.items():
+        mended_one(checks, name, image, case)
     out, err, status = checks.run(["mend", "a.adf", "a.adf"])
     checks.expect("mend onto itself", status=(1, status), out=("", out))
+
+
+def longest(holder: Directory) -> int:
+    """The number of a directory's longest file."""
+    return max(range(len(holder.entries)), key=lambda at: 0 if holder.entries[at].is_directory else holder.entries[at].length)
+
+
+def mended_one(checks: Checks, name: str, image: bytes, case: Mend) -> None:
+    damaged_image = image
+    for place in case.places:
+        damaged_image = rescue_images.changed(damaged_image, place, case.data)
+    work = started(checks, a=damaged_image)
+    out, err, status = checks.run(["mend", *case.options, "a.adf", "o.adf"])
+    made = os.path.join(work, b"o.adf")
+    got = read(made) if os.path.exists(made) else None
+    checks.expect("mend, " + name, same=(image if case.is_mended else None, got), said=(True, case.said in out + err),
+                  status=(int(not case.is_mended or bool(case.options)), status),
+                  kept=(True, read(os.path.join(work, b"a.adf")) == damaged_image), left=(1 + case.is_mended, len(snapshot(work))))
 
 
 def advice(checks: Checks) -> None:

@@ -4,7 +4,7 @@ from __future__ import annotations
 
 import hashlib
 from argparse import Namespace
-from typing import BinaryIO, Iterator, List
+from typing import BinaryIO, Iterable, Iterator, List
 
 from ..faults import explained
 from ..images import nameless_file, open_file, pieces_from, read_at, size_of
@@ -20,21 +20,23 @@ PIECE = 1 << 20
 
 
 def mend(words: Namespace) -> int:
-    """The status is 1 if something was guessed: then the copy's check fits, and an entry may be wrong all the same."""
+    """What has one right value is put right. With --guess also what may have others, and then the status is 1."""
     program = find_program()
     with open_file(words.image) as file:
         reading = read_image(file, words.image, words.order, Options())
         if reading.how:
             raise Trouble("%s: only an image in disc order and without a header can be mended: use adl or strip first"
                           % shown(words.image))
-        wanted = list(repairs(reading))
+        every = list(repairs(reading))
+        wanted = [repair for repair in every if words.guess or not repair.is_guess]
+        guesses = {repair.text: None for repair in every if repair not in wanted}
         if not wanted:
             nothing = "nothing is damaged" if reading.is_whole else "nothing that is damaged can be put right"
-            raise Trouble("%s: %s: nothing written" % (shown(words.image), nothing))
+            raise Trouble("%s: %s: nothing written%s" % (shown(words.image), nothing, hint(guesses)))
         with nameless_file(size_of(file)) as made:
             for piece in mended(file, wanted):
                 made.write(piece)
-            judge(program, reading, words, made.fileno())
+            judge(program, reading, words, made.fileno(), hint(guesses))
             write_new(words.out, pieces_from(made, 0))
     for repair in wanted:
         say("%s: put right: %s" % (shown(words.out), repair.text))
@@ -52,7 +54,12 @@ def mended(file: BinaryIO, wanted: List[Repair]) -> Iterator[bytes]:
         yield bytes(piece)
 
 
-def judge(program: str, reading: Reading, words: Namespace, number: int) -> None:
+def hint(guesses: Iterable[str]) -> str:
+    """What --guess would put right besides."""
+    return "; with --guess it puts right: " + "; ".join(guesses) if guesses else ""
+
+
+def judge(program: str, reading: Reading, words: Namespace, number: int, more: str) -> None:
     """The copy, an open file, has to be whole, with the same bytes in every file that was sound. Else Trouble, and it isn't kept."""
     sound, place = [found for found in reading.files if found.grade == "sound"], "/dev/fd/%d" % number
     try:
@@ -63,8 +70,8 @@ def judge(program: str, reading: Reading, words: Namespace, number: int) -> None
                 for found in batch:
                     compare(reading, found, list(run.lines()), words.image)
     except BadImage as fault:
-        text = "%s: with what can be put right the disc still isn't accepted: %s: nothing written"
-        raise Trouble(text % (shown(words.image), explained(fault.words).meaning)) from None
+        text = "%s: with what can be put right the disc still isn't accepted: %s: nothing written%s"
+        raise Trouble(text % (shown(words.image), explained(fault.words).meaning, more)) from None
 
 
 def compare(reading: Reading, found: Found, lines: List[bytes], image: str) -> None:

@@ -31,6 +31,7 @@ class Space:
         self.remarks: List[str] = []
         self.root = self.root_size = 0
         self.is_right = True  # whether nothing of the map is damaged
+        self.has_rivals = False  # whether both copies of the map are right where they differ
         self.right_parts = 0  # halves or zones with a right check: a measure of how well a description fits
 
     def sectors(self, length: int) -> int:

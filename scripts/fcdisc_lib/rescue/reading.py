@@ -18,6 +18,7 @@ from .marks import Marks
 from .source import Source, file_source, headless_source, turned_source
 from .spaces import space_of
 from .strays import Older, adopt_strays, older_disc
+from .unchecked import FORM, doubt_unchecked
 from .walk import Found, Walk
 from .zones import ZoneSpace
 
@@ -25,6 +26,7 @@ NO_DISC = "nothing of a FileCore disc is found in it"
 FLOPPY = 1 << 21  # bytes; a file on a larger disc may well be the image of a disc
 OVERWRITTEN = "the disc was formatted anew since then: files that came later may have been written over it"
 MIXED = "near to it lies what isn't of this disc: two discs may be mixed, or a wrong track was read"
+TWO_MAPS = "the copies of the map are both right, and tell of different discs, or of one disc at different times"
 
 
 class Options(NamedTuple):
@@ -56,6 +58,8 @@ class Reading:
         self.older: Optional[Older] = None
         self.deleted = adopt_strays(self.walk, self.claims, options.takes_deleted, self.is_whole, self.foreign)
         self.claims.take(one for one in (*self.walk.directories, *self.walk.files) if id(one) not in known)
+        if disc.directories == FORM and not self.is_whole:
+            doubt_unchecked(self.walk)
         self.doubt_shifted()
         self.doubt_mixed()
 
@@ -90,7 +94,12 @@ class Reading:
                 found.doubt(UNSURE)
 
     def doubt_mixed(self) -> None:
-        """Doubts what lies nearest to signs of another disc: directories inside of files, and other bytes where one should be."""
+        """Doubts what lies nearest to signs of another disc: directories inside of files, and other bytes where one should be.
+
+        All is doubtful if the copies of the map are of two discs, and anything is damaged.
+        """
+        for found in self.files if self.space.has_rivals and not self.is_whole else ():
+            found.doubt(TWO_MAPS)
         signs = {place: False for place in self.foreign if self.disc.size <= FLOPPY}
         missing = [one.place for one in self.walk.directories if one.listing.fault == NO_WORDS and one.is_sure]
         for place in (*missing, *self.walk.displaced):

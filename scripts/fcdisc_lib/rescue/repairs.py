@@ -5,10 +5,10 @@ from __future__ import annotations
 from itertools import product
 from typing import Iterator, List, NamedTuple, Optional
 
-from ..names import folded, spelled_path
+from ..names import spelled_path
+from .agreement import agrees, guess_words
 from .checks import big_check, boot_check, is_old_half, number, old_check, small_check, zone_check
-from .directories import (SMALL_PLACES, WRONG_CHECK, WRONG_NUMBERS, WRONG_WORD, Item, big_items, forms, looks_right, small_item,
-                          used_places)
+from .directories import SMALL_PLACES, WRONG_CHECK, WRONG_NUMBERS, WRONG_WORD, Item, big_items, forms, small_item, used_places
 from .discs import BOOT_BLOCK, BOOT_SIZE, UNIT, WORDS
 from .reading import Reading
 from .records import RECORD, Record
@@ -140,10 +140,11 @@ def directory_repairs(reading: Reading, found: Found) -> Iterator[Repair]:
         return
     right = {one for one in ends_agreed(block, reading.disc.directories) if has_check(one, reading.disc.directories)}
     text = "directory %s" % spelled_path(found.path)
-    is_guess = not right and found.listing.fault == WRONG_CHECK and looks_whole(reading, block)
+    items = items_of(block, reading.disc.directories)
+    is_guess = not right and found.listing.fault == WRONG_CHECK and agrees(reading, found, items)
     if is_guess:
         right = {checked(block, reading.disc.directories)}
-        text += ": its check, a guess: " + guess_words(len(items_of(block, reading.disc.directories)))
+        text += ": " + guess_words(len(items))
     if len(right) != 1:
         return
     mended, at = right.pop(), 0
@@ -174,30 +175,12 @@ def has_check(block: bytes, form: str) -> bool:
     return form == "2048" and small_check(block, used_places(block, SMALL_PLACES[form])) == block[-1]
 
 
-def looks_whole(reading: Reading, block: bytes) -> bool:
-    """Whether only the check can be wrong: all entries look right, in the order of names, and each has its own place."""
-    items = items_of(block, reading.disc.directories)
-    size = 0 if reading.disc.directories == "big" else int(reading.disc.directories)
-    names = [folded(item.name) for item in items]
-    limits = reading.walk.limits
-    lengths = [size if size and item.is_directory else item.length for item in items]
-    in_place = all(not length or limits.can_be(item.address, length) for item, length in zip(items, lengths))
-    return bool(items) and in_place and names == sorted(set(names)) and all(looks_right(item, limits, size) for item in items)
-
-
 def items_of(block: bytes, form: str) -> List[Item]:
     """The entries, as they stand there."""
     if form == "big":
         fitting = forms(block, len(block))
         return list(big_items(block, *fitting[0])) if fitting else []
     return [small_item(block, place, form) for place in range(used_places(block, SMALL_PLACES[form]))]
-
-
-def guess_words(count: int) -> str:
-    """What a keeper has to know of a check that was made from the entries: a wrong bit in one of them looks the same as one in it."""
-    if count == 1:
-        return "its entry looks right, but may be wrong: compare its length and date"
-    return "its %d entries look right, but one may be wrong: compare lengths and dates" % count
 
 
 def checked(block: bytes, form: str) -> bytes:

@@ -8,6 +8,7 @@ from typing import Dict, Iterator, List
 from ..names import spelled_path, type_of
 from ..listing import Row, counted
 from .reading import Reading
+from .unchecked import OTHER_PARENT
 from .walk import Found
 
 GRADES = ("sound", "doubtful", "cut", "lost")
@@ -84,8 +85,8 @@ def reasons_of_directory(found: Found) -> List[str]:
     reasons = [*found.doubts, *([found.listing.fault] if found.listing.fault else [])]
     holder = found.holder or found
     if not found.listing.is_lost and not found.listing.fault and found.listing.parent != holder.item.address:
-        reasons.append("it names another directory as its parent")
-    return reasons
+        reasons.append(OTHER_PARENT)
+    return list(dict.fromkeys(reasons))
 
 
 def file_line(found: Found) -> str:

@@ -28,9 +28,11 @@ def add_rescuing(added: Jobs, add_job: AddJob, add_order: Callable[[ArgumentPars
     job.add_argument("image", metavar="IMAGE")
     job.add_argument("folder", metavar="FOLDER", nargs="?", help="a new folder, or an empty one")
 
-    job = add_job(added, "mend", run_mend, "Make a copy of an image in which is repaired what can be: zones of the map, the boot "
-                  "block, ends and checks of directories. A guess is said, and then the status is 1. Nothing is written unless the copy is then whole.")
+    job = add_job(added, "mend", run_mend, "Make a copy of an image in which is repaired what has one right value: zones of the map, "
+                  "the boot block, ends of directories. Nothing is written unless the copy is then whole.")
     add_order(job)
+    job.add_argument("--guess", action="store_true", help="also make the check of a directory from its entries, if these agree with "
+                     "the map: a name, type, date or length may be wrong all the same, so the status is 1")
     job.add_argument("image", metavar="IMAGE")
     job.add_argument("out", metavar="OUT", help="the file to make")
 

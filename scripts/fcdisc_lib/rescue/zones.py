@@ -4,6 +4,7 @@ from __future__ import annotations
 
 from array import array
 from bisect import bisect_left, bisect_right
+from collections import Counter
 from itertools import accumulate
 from typing import Dict, List, NamedTuple, Optional, Sequence, Set, Tuple
 
@@ -100,6 +101,8 @@ class ZoneSpace(Space):
             by_text.setdefault(doubt, []).append(zone)
         self.doubted = sorted(by_text.items())
         self.right_parts = sum(rights)
+        sectors = Counter(copy.sector for pair in pairs for copy in pair)
+        self.has_rivals = any(is_rival(pair, sectors) for pair in pairs)
         self.is_right = any(whole)
         self.tell_map(rights, whole)
         self.choose_root(owns)
@@ -256,12 +259,22 @@ class ZoneSpace(Space):
         skipped = (low - 1) * self.record.share if low else 0
         return self.along(identifier, skipped, length)
 
+    def bytes_of(self, identifier: int) -> int:
+        """The bytes of an identifier's runs."""
+        ends = self.chain(identifier).ends
+        return ends[-1] if ends else 0
+
+    def needed(self, length: int) -> int:
+        """The bytes that an object gets which has an identifier of its own."""
+        record = self.record
+        bits = -(-self.sectors(length) * record.sector // record.bit_bytes)
+        return max(record.least, bits) * record.bit_bytes
+
     def can_be(self, address: int, length: int) -> bool:
         identifier, low = divmod(address, 256)
         if not 2 <= identifier < self.record.id_bound:
             return False
-        ends = self.chain(identifier).ends
-        return bool(ends) and ends[-1] - ((low - 1) * self.record.share if low else 0) >= length
+        return self.bytes_of(identifier) - ((low - 1) * self.record.share if low else 0) >= length
 
     def along(self, identifier: int, skipped: int, length: int) -> Place:
         """An object that begins so many bytes after the beginning of an identifier's space."""
@@ -329,6 +342,11 @@ def meets_turn(zones: List[int], first: int, last: int, count: int) -> bool:
     if at < len(zones) and zones[at] <= last:
         return True
     return last >= count and zones[0] <= last - count
+
+
+def is_rival(pair: List[Copy], sectors: Counter[bytes]) -> bool:
+    """Whether both copies of a zone are right and differ, and neither is a sector that was read again in place of another."""
+    return all(copy.is_right and sectors[copy.sector] == 1 for copy in pair)
 
 
 def has_check(sector: bytes, size: int) -> bool:
