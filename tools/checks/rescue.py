@@ -188,7 +188,8 @@ def table(rescue: Rescue) -> None:
 
 
 # signs of the bytes, of two maps, and in directories without a check, which the second reading doesn't look for
-SIGNS = ("bytes", "discs may be mixed", "different discs", "whole track", "with its mark", "signs of damage", "lies below may have")
+SIGNS = ("bytes", "discs may be mixed", "different discs", "whole track", "with its mark", "signs of damage", "lies below may have",
+         "lies in may have")
 
 
 def compare(checks: Checks, name: str, data: bytes, found: Reading) -> None:

@@ -87,6 +87,7 @@ def run(checks: Checks) -> None:
     other_orders(checks)
     unchecked(checks)
     two_maps(checks)
+    renamed(checks)
     mended(checks)
     advice(checks)
 
@@ -211,6 +212,24 @@ def two_maps(checks: Checks) -> None:
     for name, wanted in (("mixed", "40 of 40 files sound\n"), ("broken", "0 of 39 files sound, 39 doubtful\n")):
         out = checks.run(["rescue", "--report", name + ".adf"])[0]
         checks.expect("two maps, " + name, output=(wanted, out[:len(wanted)]))
+
+
+def renamed(checks: Checks) -> None:
+    """If the root is damaged, a right directory has the name that it gives itself; below a damaged one no path is sure."""
+    for form in ("E", "D", "F+"):
+        volume = rescue_images.floppy(form)
+        entries = sorted(volume.root.entries, key=lambda entry: entry.name.upper())
+        games = next(one for one in volume.root.entries if one.name == b"Games")
+        root, inner = (rescue_images.extents_of(volume, one)[0][0] for one in (volume.root, games))
+        image = bytes(volume.image())
+        letter = image.index(b"Games", root) + 2 if form == "F+" else root + 5 + 26 * entries.index(games) + 2
+        wrong = rescue_images.changed(image, letter, b"l")
+        started(checks, right=wrong, both=rescue_images.changed(wrong, inner + (30 if form == "F+" else 5), b"\x11"))
+        lines = {name: checks.run(["rescue", "--report", name + ".adf"])[0].splitlines() for name in ("right", "both")}
+        sound = {name: [line for line in found if line.startswith("sound")] for name, found in lines.items()}
+        checks.expect("a directory with another name, " + form, right=(True, any("  $.Games." in line for line in sound["right"])),
+                      wrong=([], [line for found in sound.values() for line in found if "  $.Gales." in line]),
+                      told=(True, any(line.startswith("directory $.Games: ") for line in lines["right"])))
 
 
 # What is said of a check that was made from a directory's entries; the status is 1 then

@@ -21,6 +21,7 @@ NOWHERE = "nothing says where it lies"
 NOT_THERE = "the image ends before it"
 TWICE = "it was found before, at another place in the tree"
 OTHER = "another directory lies where it should be"
+OTHER_PATH = "a directory that it lies in may have another name"
 
 
 NO_PLACE = Place([], 0)
@@ -154,11 +155,26 @@ class Walk:
         if listing.is_lost:
             self.lose(found, listing)
             return
+        self.settle_name(found, listing)
         found.listing = listing
         self.seen[first] = found
         self.by_address.setdefault(found.item.address, found)
         for item in listing.items:
             self.enter(found, item)
+
+    def settle_name(self, found: Found, listing: Listing) -> None:
+        """A damaged directory told the name: what is found there has its own, if it is right. Else all below it may have another path."""
+        holder, own, told = found.holder, listing.name, found.item.name
+        if self.disc.directories != "big":  # small ones have their own name without top bits
+            told = bytes(byte & 127 for byte in told)
+        if found.is_sure or not holder or found.is_homeless or folded(own) == folded(told):
+            return
+        if listing.fault or self.disc.directories == "1280" or not own:
+            found.stale = found.stale or OTHER_PATH
+            return
+        found.item = found.item._replace(name=own)
+        found.path = (*holder.path, self.free_name(holder.path, own))
+        found.doubt("its entry has another name")
 
     def lose(self, found: Found, listing: Listing) -> None:
         found.listing = listing
