@@ -35,7 +35,7 @@ if TYPE_CHECKING:
 
 # Most sound files may be wrong in 1 of these; and at least so many of 100 files have to be right
 SOUND_PER_WRONG, RIGHT = 1000, 85
-UNSEEN = "two discs mixed"  # in a part of another disc without a directory nothing shows the mixture
+UNSEEN = "two discs mixed"  # in a part of another disc without a directory or a map nothing shows it
 FLOPPY_SECONDS, LARGE_SECONDS = 10, 60  # of a processor's time
 LARGE_MEMORY = 1 << 30
 WRITTEN_EACH = 10  # of random damages: one of so many is written to a folder
@@ -168,10 +168,9 @@ def tallies(checks: Optional[Checks], rescue: Rescue) -> Tuple[Dict[str, Tally],
 def usual_damages(checks: Checks, rescue: Rescue) -> None:
     kinds, forms = tallies(checks, rescue)
     total = sum(kinds.values(), Tally())
-    seen = sum((tally for kind, tally in kinds.items() if kind != UNSEEN), Tally())
     right = 100 * (total.sound + total.doubtful) / total.files
     checks.expect("files that are right", part=(True, right >= RIGHT))
-    checks.expect("sound files that are wrong", part=(True, seen.wrong * SOUND_PER_WRONG <= seen.sound))
+    checks.expect("sound files that are wrong", part=(True, total.wrong * SOUND_PER_WRONG <= total.sound))
     print("rescue: %d images, %.1f %% of %d files right; of %d sound files %d wrong, %d of them where two discs are mixed" % (
         total.images, right, total.files, total.sound + total.wrong, total.wrong, kinds[UNSEEN].wrong))
 
