@@ -260,8 +260,8 @@ def hostile(checks: Checks, rescue: Rescue) -> None:
         checks.expect(name + ", time", quick=(True, time.process_time() - start < FLOPPY_SECONDS))
         if name.startswith("names"):
             wanted = sum(one.grade != "lost" for one in found.files)
-            written = sum(data is not None for path, data in left.items() if not path.startswith(b"out/report"))
-            checks.expect(name + ", files", count=(wanted, written))
+            count = sum(data is not None for path, data in left.items() if not path.startswith(b"out/report"))
+            checks.expect(name + ", files", count=(wanted, count))
         json.loads(left[b"out/report.json"])
 
 
