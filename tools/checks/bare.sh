@@ -63,7 +63,8 @@ fcdisc extract f-user.adf user.zip > /dev/null
 is 'a zip archive' 0 "$(status fcdisc diff f-user.adf user.zip)"
 is rescue 'd-twin: 5' "d-twin: $(fcdisc rescue d-twin.adf rescued 2> /dev/null | cut -d ' ' -f 3)"
 is mend 0 "$(status fcdisc mend d-word.adf mended.adf)"
-is 'mend by a guess' 1 "$(status fcdisc mend d-check.adf guessed.adf)"
+is 'no guess unasked' 1 "$(status fcdisc mend d-check.adf guessed.adf; ls guessed.adf 2> /dev/null || true)"
+is 'mend by a guess' '1 0' "$(status fcdisc mend --guess d-check.adf guessed.adf) $(status fcdisc check guessed.adf)"
 mkdir discs; cp f-user.adf hello.adf discs
 is find '1 object in 1 image' "$(fcdisc find discs '!Run' | tail -n 1)"
 is catalogue 0 "$(status fcdisc catalogue discs)"
