@@ -1,6 +1,5 @@
 -- `delete` on a new map: it can be written and taken over, and what it then promises.
 use Rattle.std.proofs.Common.{◌≡◌, ◌<◌, ◌≤◌, ◌*◌, ◌||◌, ℕ, Bool, true, false, List, [], ◌∷◌, ◌++◌, length, refl, sym, ap, subst, ◌∙◌, arith, Option, None, All}
-use Rattle.std.specs.Option.{option_to_list}
 use Rattle.fc_names.specs.Names.{Path}
 use Rattle.fc_alloc.specs.declared.owner.Owner.{Owner}
 use Rattle.fc_record.specs.declared.Kind.{Kind}
@@ -19,6 +18,7 @@ use Rattle.fc_objects.specs.Written.{AreApart}
 use Rattle.fc_placing.specs.declared.placing.Placing.{Placing}
 use Rattle.fc_placing.specs.declared.placing.Placing.TheVariants as placings
 use Rattle.fc_placing.specs.Leaving.{LeavesIds}
+use Rattle.fc_plan.specs.declared.plan.Plan.{Plan}
 use Rattle.fc_placing.proofs.SpaceLemmas.{after}
 use Rattle.fc_changes.proofs.BasicLemmas.{or_false}
 use Rattle.fc_space.specs.Space.{PlacesSuffice}
@@ -47,7 +47,10 @@ use Rattle.fc_writing.specs.New.{CanWrite, IsChanged, IsGiven}
 use Rattle.fc_writing.specs.Ready.{place_of, written_place}
 use Rattle.fc_change.specs.declared.job.Job.TheVariants as jobs
 use Rattle.fc_change.specs.After.{AreOwnersAfter, nodes_after}
+use Rattle.fc_change.specs.declared.spaces.GrownPlace.{GrownPlace}
+use Rattle.fc_change.specs.GrownSpace.{freed, gone_at_once, kept_parts, plans_of, root_of}
 use Rattle.fc_change.specs.Places.{AreLeft, ArePlaced, plan_in}
+use Rattle.fc_change.specs.Shortage.{is_grown_alone}
 use Rattle.fc_change.specs.Steps.{IsStep}
 use Rattle.fc_placing.specs.Places.{shared_id}
 use Rattle.fc_course.specs.declared.stages.Prepared.{Prepared}
@@ -57,7 +60,7 @@ use Rattle.fc_course.proofs.NodeLemmas as its_dir
 use Rattle.fc_course.proofs.PieceLemmas.{all_low, apart_front}
 use Rattle.fc_course.proofs.PieceLemmas as piece
 use Rattle.fc_course.proofs.RemovalLemmas as removal
-use Rattle.fc_course.proofs.RemovalStageLemmas.{IsEmptySpace, IsRemovalChange, IsRemovalReady, MayGo, empty_space, placed_nowhere, removal_change, removal_ready, view_of}
+use Rattle.fc_course.proofs.RemovalStageLemmas.{IsEmptySpace, IsRemovalChange, IsRemovalReady, MayGo, WantsNoSpace, empty_space, none_planned, placed_nowhere, removal_change, removal_ready, removal_wants, view_of}
 use Rattle.fc_course.proofs.SpaceLemmas.{can_give, can_take}
 use Rattle.fc_course.proofs.StepLemmas.{IsTwoStepped, both_steps}
 
@@ -69,8 +72,11 @@ module _ (outcome_law : outcomes.DeletionLaw) (m : Map) (nodes : Nodes) (owners 
   abbrev placed : ArePlaced m h prep.wants prep.spaces
   placed = prep.spaced.places
 
+  none : WantsNoSpace prep.wants
+  none = removal_wants h t name prep.wants prep.spaced.wants
+
   empty : IsEmptySpace prep.spaces
-  empty = empty_space h prep.wants prep.spaced.wants.bytes prep.spaced.wants.slack prep.spaced.wants.copy prep.spaces prep.spaced.places
+  empty = empty_space h prep.wants none prep.spaces prep.spaced.places
 
   pub change : IsRemovalChange nodes t p.change
   change = removal_change h t name prep.spaces p.change empty.grown prep.change
@@ -81,13 +87,25 @@ module _ (outcome_law : outcomes.DeletionLaw) (m : Map) (nodes : Nodes) (owners 
   -- ---- the map
 
   nowhere : placed.placing ≡ placings.Nowhere
-  nowhere = placed_nowhere h prep.wants prep.spaced.wants.bytes prep.spaced.wants.slack prep.spaced.wants.copy m owners placed.placing placed.is
+  nowhere = placed_nowhere h prep.wants none m owners placed.placing placed.is
+
+  no_directory : placed.dir ≡ None
+  no_directory = (none_planned h prep.wants none m (plan_in placed.placing) placed.dir prep.spaces.grown placed.grown).0
+
+  -- what is taken, if a directory has this plan and this place
+  abbrev TakesFor : Placing → Option Plan → Option GrownPlace → Type 0
+  TakesFor placing dir place = IsStep m (plans_of (plan_in placing) dir) (gone_at_once dir (is_grown_alone h prep.wants.grows)) (kept_parts dir (is_grown_alone h prep.wants.grows)) (root_of place) prep.spaces.take
 
   takes : IsStep m [] [] [] None p.ready.take
-  takes = subst (IsStep m [] [] [] None) (sym ready.take) (subst (λ (x : Placing). IsStep m (option_to_list (plan_in x)) [] [] None prep.spaces.take) nowhere placed.take)
+  takes =
+      let alone = subst (λ (g : Option GrownPlace). TakesFor placed.placing placed.dir g) empty.grown placed.take in
+      let none_taken = subst (λ (d : Option Plan). TakesFor placed.placing d None) no_directory alone in
+      subst (IsStep m [] [] [] None) (sym ready.take) (subst (λ (x : Placing). TakesFor x None None) nowhere none_taken)
 
   gives : IsStep m [] placed.gone [] None p.ready.give
-  gives = subst (IsStep m [] placed.gone [] None) (sym ready.give) placed.give
+  gives =
+      subst (IsStep m [] placed.gone [] None) (sym ready.give)
+      (subst (λ (d : Option Plan). IsStep m [] (freed h prep.wants d ++ placed.gone) [] None prep.spaces.give) no_directory placed.give)
 
   left : LeavesIds owners t.node None placed.gone
   left = (subst (λ (o : Option ℕ). AreLeft owners o None placed.gone) prep.spaced.wants.left (subst (λ (x : Placing). AreLeft owners prep.wants.goes (shared_id x) placed.gone) nowhere placed.left)).0

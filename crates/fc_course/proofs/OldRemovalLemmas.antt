@@ -63,7 +63,7 @@ use Rattle.fc_course.proofs.OldMapLemmas.{after_both, both_steps}
 use Rattle.fc_course.proofs.PieceLemmas.{all_low, apart_front}
 use Rattle.fc_course.proofs.PieceLemmas as piece
 use Rattle.fc_course.proofs.RemovalLemmas as removal
-use Rattle.fc_course.proofs.RemovalStageLemmas.{IsEmptySpace, IsRemovalChange, IsRemovalReady, MayGo, empty_space, removal_change, removal_ready, view_of}
+use Rattle.fc_course.proofs.RemovalStageLemmas.{IsEmptySpace, IsRemovalChange, IsRemovalReady, MayGo, empty_space, removal_change, removal_ready, removal_wants, view_of}
 
 -- ---- the space of an object
 
@@ -150,7 +150,7 @@ module _ (space : OldMapContent) (nodes : Nodes) (owners : List Owner) (is_map :
     spaced = prep.spaced.places
 
     empty : IsEmptySpace prep.spaces
-    empty = empty_space h prep.wants prep.spaced.wants.bytes prep.spaced.wants.slack prep.spaced.wants.copy prep.spaces prep.spaced.places
+    empty = empty_space h prep.wants (removal_wants h t name prep.wants prep.spaced.wants) prep.spaces prep.spaced.places
 
     pub change : IsRemovalChange nodes t p.change
     change = removal_change h t name prep.spaces p.change empty.grown prep.change

@@ -52,7 +52,7 @@ use Rattle.fc_course.specs.Written.{CanWriteOn, ChangeLeavesOn, IsChangedOn}
 use Rattle.fc_course.proofs.NewRemovalLemmas as new
 use Rattle.fc_course.proofs.OldRemovalLemmas as old
 use Rattle.fc_course.proofs.RemovalLemmas as removal
-use Rattle.fc_course.proofs.RemovalStageLemmas.{IsRemovalChange, MayGo, can_prepare_job, empty_space, may_go, removal_change, view_of}
+use Rattle.fc_course.proofs.RemovalStageLemmas.{IsRemovalChange, MayGo, can_prepare_job, empty_space, may_go, removal_change, removal_wants, view_of}
 use Rattle.fc_course.proofs.ShortLemmas.{new_short, old_short}
 
 abbrev pub parts : Layout → Nodes → List Owner → Parts
@@ -78,7 +78,7 @@ sound_in layout nodes owners view sound held = subst (λ (l : Layout). AreSound 
 
 pub change_of : (h : Parts) (t : Target) (name : List ℕ) (p : Prepared) → IsPreparedFor h (jobs.Removal t) name p → IsRemovalChange h.nodes t p.change
 change_of h t name p prep =
-    removal_change h t name prep.spaces p.change (empty_space h prep.wants prep.spaced.wants.bytes prep.spaced.wants.slack prep.spaced.wants.copy prep.spaces prep.spaced.places).grown prep.change
+    removal_change h t name prep.spaces p.change (empty_space h prep.wants (removal_wants h t name prep.wants prep.spaced.wants) prep.spaces prep.spaced.places).grown prep.change
 
 -- no memory is taken for an owner
 owners_of : (h now : Parts) (t : Target) (name : List ℕ) (p : Prepared) (number : ℕ) → IsPreparedFor h (jobs.Removal t) name p → IsRun h now p number → AreOwnersAfter now.layout h.nodes p.change h.owners now.owners

@@ -24,6 +24,7 @@ use Rattle.fc_edits.proofs.lemmas.ShapeLemmas.{of_one, only}
 use Rattle.fc_objects.specs.Extents.{sectors_in}
 use Rattle.fc_placing.specs.declared.placing.Placing.{Placing}
 use Rattle.fc_placing.specs.declared.placing.Placing.TheVariants as placings
+use Rattle.fc_plan.specs.declared.plan.Plan.{Plan}
 use Rattle.fc_refusals.specs.Targets.{IsRemovable}
 use Rattle.fc_refusals.specs.declared.target.Target.{Target}
 use Rattle.fc_writing.specs.declared.ready.Piece.{Piece}
@@ -47,7 +48,8 @@ use Rattle.fc_change.specs.Drafts.{CanDraft, CanTellJob, IsChangeOf, address_in,
 use Rattle.fc_change.specs.Jobs.{IsJob}
 use Rattle.fc_change.specs.Needs.{AreWants, room_of}
 use Rattle.fc_change.specs.OldSpace.{CanFree, LieBehind}
-use Rattle.fc_change.specs.Places.{ArePlacesFor, ArePlacesOn, CanPlace, IsCopiedFrom, IsOldPlaced, IsPlaceFor, IsPlacingFor, extents_in}
+use Rattle.fc_change.specs.GrownSpace.{IsGrown}
+use Rattle.fc_change.specs.Places.{ArePlacesFor, ArePlacesOn, CanPlace, IsCopiedFrom, IsOldPlaced, IsPlaceFor, IsPlacingFor, extents_in, plan_in}
 use Rattle.fc_change.specs.Prepared.{ArePiecesOf, CanPrepare, HasPlace, IsGrownPiece, IsNewPiece, IsPieceOf, IsReadyFor, IsSourceOf, PiecesMatch}
 use Rattle.fc_course.specs.Jobs.{IsJobFor}
 use Rattle.fc_course.specs.Stages.{CanPrepareJob, IsSpaced}
@@ -118,27 +120,45 @@ pub record IsEmptySpace (s : Spaces) : Type 0 where
   pub copied : s.copied ≡ None
   pub grown : s.grown ≡ None
 
-module _ (h : Parts) (w : Wants) (bytes : w.bytes ≡ 0) (slack : w.shares ≡ None) (copy : w.copied ≡ None) where
+-- No space is wanted.
+pub record WantsNoSpace (w : Wants) : Type 0 where
+  pub bytes : w.bytes ≡ 0
+  pub slack : w.shares ≡ None
+  pub copy : w.copied ≡ None
+  pub grows : w.grows ≡ None
+
+pub removal_wants : (h : Parts) (t : Target) (name : List ℕ) (w : Wants) → AreWants h (jobs.Removal t) name w → WantsNoSpace w
+removal_wants h t name w are = record { bytes = are.bytes; slack = are.slack; copy = are.copy; grows = no_growth w.grows are.room }
+
+module _ (h : Parts) (w : Wants) (none : WantsNoSpace w) where
   -- on a new map nothing is planned
   pub placed_nowhere : (m : Map) (owners : List Owner) (placing : Placing) → IsPlacingFor m owners w placing → placing ≡ placings.Nowhere
   placed_nowhere m owners placings.Nowhere is = refl
-  placed_nowhere m owners (placings.Shared share) is = absurd (let some = is.1 in cc)
-  placed_nowhere m owners (placings.New plan) is = absurd (let some = is.1.some in omega (arith, some, bytes))
+  placed_nowhere m owners (placings.Shared share) is = absurd (let some = is.1 in let slack = none.slack in cc)
+  placed_nowhere m owners (placings.New plan) is = absurd (let some = is.1.some in let bytes = none.bytes in omega (arith, some, bytes))
 
   new_object : (m : Map) (placing : Placing) (place : Option Place) → placing ≡ placings.Nowhere → IsPlaceFor m w placing place → HasNoSectors place
-  new_object m placing None none is = tt
-  new_object m placings.Nowhere (Some p) none is = no_sectors (Layout.New m) p.address w.bytes (sectors_in p.extents.items) bytes is.1
-  new_object m (placings.Shared share) (Some p) none is = absurd (cc)
-  new_object m (placings.New plan) (Some p) none is = absurd (cc)
+  new_object m placing None at is = tt
+  new_object m placings.Nowhere (Some p) at is = no_sectors (Layout.New m) p.address w.bytes (sectors_in p.extents.items) none.bytes is.1
+  new_object m (placings.Shared share) (Some p) at is = absurd (cc)
+  new_object m (placings.New plan) (Some p) at is = absurd (cc)
 
   old_object : (space : OldMapContent) (place : Option Place) → IsOldPlaced space w place → HasNoSectors place
   old_object space None is = tt
-  old_object space (Some p) is = no_sectors (Layout.Old space) p.address w.bytes (sectors_in p.extents.items) bytes is.sectors
+  old_object space (Some p) is = no_sectors (Layout.Old space) p.address w.bytes (sectors_in p.extents.items) none.bytes is.sectors
+
+  -- no directory is planned on a new map
+  pub none_planned : (m : Map) (object dir : Option Plan) (place : Option GrownPlace) → IsGrown m h object w.grows dir place → (dir ≡ None) × (place ≡ None)
+  none_planned m object dir place is = subst (λ (g : Option Growth). IsGrown m h object g dir place) none.grows is
 
   empty_on : (layout : Layout) (s : Spaces) → h.layout ≡ layout → ArePlacesFor h w s → IsEmptySpace s
   empty_on (Layout.New m) s at places =
       let p = subst (λ (x : Layout). ArePlacesOn x h w s) at places in
-      record { object = new_object m p.placing s.object (placed_nowhere m h.owners p.placing p.is) p.object; copied = none_copied (Layout.New m) h.nodes w.copied s.copied copy p.copied; grown = p.no_growth }
+      record {
+        object = new_object m p.placing s.object (placed_nowhere m h.owners p.placing p.is) p.object;
+        copied = none_copied (Layout.New m) h.nodes w.copied s.copied none.copy p.copied;
+        grown = (none_planned m (plan_in p.placing) p.dir s.grown p.grown).1;
+      }
   empty_on (Layout.Old space) s at places =
       let p = subst (λ (x : Layout). ArePlacesOn x h w s) at places in record { object = old_object space s.object p.object; copied = p.copied; grown = p.grown }
 
@@ -173,7 +193,7 @@ removal_change h t name s c none is =
 
 -- ---- what is ready
 
-one_piece : (layout : Layout) (nodes : Nodes) (said : Says) (ps : List Piece) → PiecesMatch layout nodes (said ∷ []) ps → (p : Piece) × (ps ≡ p ∷ []) × IsPieceOf layout nodes said p
+one_piece : (layout : Layout) (nodes : Nodes) (said : Says) (ps : List Piece) → PiecesMatch layout nodes None (said ∷ []) ps → (p : Piece) × (ps ≡ p ∷ []) × IsPieceOf layout nodes said p
 one_piece layout nodes said [] is = absurd is
 one_piece layout nodes said (p ∷ []) is = (p, refl, is.0)
 one_piece layout nodes said (p ∷ q ∷ ps) is = absurd is.1
@@ -245,8 +265,9 @@ module _ (h : Parts) (kind : Kind) (a : Agree kind h) (t : Target) (path : Path)
       let none : w.bytes ≡ 0 = is.bytes in
       record {
         few = subst (λ (n : ℕ). n < 2 ^ 32) (sym none) (omega arith);
-        no_growth = no_growth w.grows is.room;
+        grows = λ g some. absurd (let fits = no_growth w.grows is.room in cc);
         copied = λ n some. absurd (let no = is.copy in cc);
+        no_growth = λ space at. no_growth w.grows is.room;
         behind = behind;
         free = λ space n at some.
             subst (λ (b : ℕ). CanFree space b h.nodes n) (sym none) (free space n at (same n t.node (sym some ∙ is.left)));
@@ -266,7 +287,7 @@ module _ (h : Parts) (kind : Kind) (a : Agree kind h) (t : Target) (path : Path)
 
   can_draft : (w : Wants) (s : Spaces) → IsSpaced h (jobs.Removal t) name w s → CanDraft h (jobs.Removal t) name s
   can_draft w s spaced =
-      let empty = empty_space h w spaced.wants.bytes spaced.wants.slack spaced.wants.copy s spaced.places in
+      let empty = empty_space h w (removal_wants h t name w spaced.wants) s spaced.places in
       let no = none_grown s empty.grown in
       record {
         own = subst (λ (g : Option Regrowth). CanTellJob h (jobs.Removal t) name (address_in s) g) (sym no) (can_tell_job (address_in s));
@@ -276,7 +297,7 @@ module _ (h : Parts) (kind : Kind) (a : Agree kind h) (t : Target) (path : Path)
 
   can_prepare : (w : Wants) (s : Spaces) (c : Change) → IsSpaced h (jobs.Removal t) name w s → IsChangeOf h (jobs.Removal t) name s c → CanPrepare h c s
   can_prepare w s c spaced is =
-      let empty = empty_space h w spaced.wants.bytes spaced.wants.slack spaced.wants.copy s spaced.places in
+      let empty = empty_space h w (removal_wants h t name w spaced.wants) s spaced.places in
       let ch = removal_change h t name s c empty.grown is in
       record {
         placed = λ said at.
