@@ -31,9 +31,14 @@ pub mod CopiedPathLemmas
 pub mod CopiedLemmas
 pub mod GrownSpaceLemmas
 pub mod GrownSteadyLemmas
+pub mod GrownHolderLemmas
 pub mod GrownImageLemmas
 pub mod GrownAddedLemmas
 pub mod GrownAskedLemmas
 pub mod GrownMayLemmas
 pub mod GrownMovingMayLemmas
+pub mod GrownMovedLemmas
+pub mod GrownRenameLemmas
+pub mod GrownMovingAskedLemmas
+pub mod GrownMovingLemmas
 pub mod GrownFiledLemmas

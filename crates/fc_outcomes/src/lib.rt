@@ -91,7 +91,7 @@ pub fn grown_addition()
     ensures { GrownAdditionLaw }
 {}
 
-/// `rename` without a copy, in a directory that grows, may write where it writes at every exit, on new maps.
+/// `rename` without a copy does what it promises in a directory that grows, on new maps.
 pub fn grown_moving()
     ensures { GrownMovingLaw }
 {}

@@ -51,7 +51,7 @@ use Rattle.fc_edits.proofs.lemmas.NewAgreeLemmas as na
 use Rattle.fc_edits.proofs.lemmas.NewPlaceLemmas as np_
 use Rattle.fc_edits.proofs.lemmas.NumberLemmas as n_
 use Rattle.fc_edits.proofs.lemmas.ShapeLemmas.{only}
-use Rattle.fc_outcomes.specs.GrownMoving.{GrownMovingLaw, IsToMoveGrown, grown_view}
+use Rattle.fc_outcomes.specs.GrownMoving.{IsToMoveGrown, grown_view}
 use Rattle.fc_outcomes.proofs.lemmas.NewOutsideLemmas.{loose_busy}
 use Rattle.fc_outcomes.proofs.lemmas.RenamePathLemmas.{turned_same}
 
@@ -151,7 +151,7 @@ module _ (x : NewGrownMoving) (from to : Path) (image : List ℕ) (opens : Opens
       let more : length (x.c.l.object.path ++ x.c.name ∷ []) ≡ length x.c.l.object.path + 1 = length-append x.c.l.object.path (x.c.name ∷ []) in
       omega arith
 
-  moved_apart : is_apart x.c.o.sectors anew.sectors ≡ true
+  pub moved_apart : is_apart x.c.o.sectors anew.sectors ≡ true
   moved_apart =
       let second : ℕ × Object → Object = λ p. p.1 in
       let p : ℕ × Object = (x.c.number, moved x.c x.c.o) in
@@ -220,30 +220,33 @@ module _ (x : NewGrownMoving) (from to : Path) (image : List ℕ) (opens : Opens
 
   -- ---- each directory that says something else, at its place afterwards
 
-  directory_may : (a : Amended) → Contains e'.amended a → MayBeWritten x.kind v x.m c (regrown (edit x.c) g a.was.object).sectors
-  directory_may a at = by (is_same_path g.o.path a.was.object.path) refl
+  told_may : (t : Told) → Contains g.again t → may_be_rewritten v c t.was.object.path ≡ true
+  told_may t there = of_told (has_grown v c t.was.object.path) refl (its.grows.told t there)
     where
-      told_may : (t : Told) → Contains g.again t → may_be_rewritten v c t.was.object.path ≡ true
-      told_may t there = of_told (has_grown v c t.was.object.path) refl (its.grows.told t there)
-        where
-          of_told : (b : Bool) → has_grown v c t.was.object.path ≡ b → (b || has_new_holder v c t.was.object.path) ≡ true → may_be_rewritten v c t.was.object.path ≡ true
-          of_told true s f = or_left (holds_named c t.was.object.path || is_renamed_by c t.was.object.path || has_grown v c t.was.object.path) (has_new_holder v c t.was.object.path)
-              (or_second (holds_named c t.was.object.path || is_renamed_by c t.was.object.path) (has_grown v c t.was.object.path) s)
-          of_told false s f = or_second (holds_named c t.was.object.path || is_renamed_by c t.was.object.path || has_grown v c t.was.object.path) (has_new_holder v c t.was.object.path) f
+      of_told : (b : Bool) → has_grown v c t.was.object.path ≡ b → (b || has_new_holder v c t.was.object.path) ≡ true → may_be_rewritten v c t.was.object.path ≡ true
+      of_told true s f = or_left (holds_named c t.was.object.path || is_renamed_by c t.was.object.path || has_grown v c t.was.object.path) (has_new_holder v c t.was.object.path)
+          (or_second (holds_named c t.was.object.path || is_renamed_by c t.was.object.path) (has_grown v c t.was.object.path) s)
+      of_told false s f = or_second (holds_named c t.was.object.path || is_renamed_by c t.was.object.path || has_grown v c t.was.object.path) (has_new_holder v c t.was.object.path) f
 
-      first_may : (q : Option Holder) → IsPermutation ((edit x.c).amended ++ map (told (edit x.c)) g.again) (amended_first q g.others) → (b : Amended) → Contains (amended_first q g.others) b
-          → may_be_rewritten v c b.was.object.path ≡ true
-      first_may q cut b there =
-          ⊎_elim (λ among. edit_may b among) (λ t. subst (λ (y : Amended). may_be_rewritten v c y.was.object.path ≡ true) t.2 (told_may t.0 t.1)) (ar.amended_cases eg q cut b there)
+  first_may : (q : Option Holder) → IsPermutation ((edit x.c).amended ++ map (told (edit x.c)) g.again) (amended_first q g.others) → (b : Amended) → Contains (amended_first q g.others) b
+      → may_be_rewritten v c b.was.object.path ≡ true
+  first_may q cut b there =
+      ⊎_elim (λ among. edit_may b among) (λ t. subst (λ (y : Amended). may_be_rewritten v c y.was.object.path ≡ true) t.2 (told_may t.0 t.1)) (ar.amended_cases eg q cut b there)
 
-      may_of : (q : Option Holder) → IsPermutation ((edit x.c).amended ++ map (told (edit x.c)) g.again) (amended_first q g.others) → Contains (amended_by (edit x.c) g q) a
+  pub may_rewrite : (a : Amended) → Contains e'.amended a → may_be_rewritten v c a.was.object.path ≡ true
+  may_rewrite a at = by g.holder x.grows.amended_is at
+    where
+      by : (q : Option Holder) → IsPermutation ((edit x.c).amended ++ map (told (edit x.c)) g.again) (amended_first q g.others) → Contains (amended_by (edit x.c) g q) a
           → may_be_rewritten v c a.was.object.path ≡ true
-      may_of None cut there = first_may None cut a there
-      may_of (Some hd) cut there =
+      by None cut there = first_may None cut a there
+      by (Some hd) cut there =
           ⊎_elim
           (λ same. subst (λ (y : Amended). may_be_rewritten v c y.was.object.path ≡ true) same (first_may (Some hd) cut hd.amended (contains_here hd.amended g.others)))
           (λ later. first_may (Some hd) cut a (contains_later hd.amended a g.others later)) (contains_cases (holding (edit x.c) g hd) a g.others there)
 
+  pub directory_may : (a : Amended) → Contains e'.amended a → MayBeWritten x.kind v x.m c (regrown (edit x.c) g a.was.object).sectors
+  directory_may a at = by (is_same_path g.o.path a.was.object.path) refl
+    where
       ne : NodesEdit
       ne = ag.ne (na.held_edit parts)
 
@@ -252,7 +255,4 @@ module _ (x : NewGrownMoving) (from to : Path) (image : List ℕ) (opens : Opens
 
       by : (b : Bool) → is_same_path g.o.path a.was.object.path ≡ b → MayBeWritten x.kind v x.m c (cond b (at_place g (moved x.c a.was.object)) (moved x.c a.was.object)).sectors
       by true same = anew_may
-      by false elsewhere = places_law.directory x.kind image v x.m c a.was (record { opens = opens; layout = refl }) listed' (may_of g.holder x.grows.amended_is at)
-
-pub grown_moving_law : GrownMovingLaw
-grown_moving_law = record { new_may = λ x from to image a opens its at. directory_may x from to image opens its a at }
+      by false elsewhere = places_law.directory x.kind image v x.m c a.was (record { opens = opens; layout = refl }) listed' (may_rewrite a at)

@@ -35,7 +35,7 @@ use Rattle.fc_outcomes.specs.Growth.{holder_now}
 use Rattle.fc_outcomes.proofs.lemmas.SteadyLemmas.{out_or_stay, stay_found}
 
 -- paths that lead to one place are the same to any path
-same_through : (p d q : Path) → is_same_path p d ≡ true → is_same_path p q ≡ is_same_path d q
+pub same_through : (p d q : Path) → is_same_path p d ≡ true → is_same_path p q ≡ is_same_path d q
 same_through p d q same = by (is_same_path d q) refl
   where
     by : (b : Bool) → is_same_path d q ≡ b → is_same_path p q ≡ b

@@ -18,20 +18,28 @@ use Rattle.fc_edits.proofs.lemmas.LeavingLemmas.{one_of_sector}
 use Rattle.fc_outcomes.specs.Puts.{ArePutOut, Put}
 use Rattle.fc_outcomes.proofs.lemmas.KeptLemmas.{map_reserved}
 
--- An object keeps its bytes, if each write goes to another object's sectors.
-pub unwritten : (pe : PartsEdit) (puts : List Put) (image image' : List ℕ) → ArePutOut pe.layout puts image image' → (o : Object) → Contains (objects_of pe.listings) o
-    → ((p : Put) → Contains puts p → (q : Object) × Contains (objects_of pe.listings) q × (p.sectors ≡ q.sectors) × (q ≡ o → ⊥)) → HasSectorsOf (sector_bytes pe.layout) o.sectors image image'
-unwritten pe puts image image' out o at others s i =
+-- two objects with one sector
+pub one_of_both : (pe : PartsEdit) (q o : Object) (s : ℕ) → Contains (objects_of pe.listings) q → Contains (objects_of pe.listings) o → is_among q.sectors s ≡ true → is_among o.sectors s ≡ true → q ≡ o
+one_of_both pe q o s among at j i =
+    let was = on_any.had pe.kind pe.layout pe.nodes pe.root pe.listings pe.walked in
+    one_of_sector (reserved_in pe.kind pe.layout) (objects_of pe.listings) q o s (subst (Apart (reserved_in pe.kind pe.layout)) (sym was.objects) was.apart) among at j i
+
+-- An object keeps its bytes, if no write goes to its sectors.
+pub never_written : (pe : PartsEdit) (puts : List Put) (image image' : List ℕ) → ArePutOut pe.layout puts image image' → (o : Object) → Contains (objects_of pe.listings) o
+    → ((p : Put) (s : ℕ) → Contains puts p → is_among o.sectors s ≡ true → is_among p.sectors s ≡ true → ⊥) → HasSectorsOf (sector_bytes pe.layout) o.sectors image image'
+never_written pe puts image image' out o at never s i =
     out.others s
     (unless (is_among (map_place pe.layout) s)
     (λ m. clash (is_among (reserved_in pe.kind pe.layout) s) (map_reserved pe.kind pe.layout s m)
     (apart_at o.sectors (reserved_in pe.kind pe.layout) s (on_any.object_lies pe.kind pe.layout pe.nodes pe.root pe.listings pe.walked o at).apart i)))
-    (λ p there. unless (is_among p.sectors s)
-    (λ j.
-    let q = others p there in
-    let was = on_any.had pe.kind pe.layout pe.nodes pe.root pe.listings pe.walked in
-    let all = subst (Apart (reserved_in pe.kind pe.layout)) (sym was.objects) was.apart in
-    q.3 (one_of_sector (reserved_in pe.kind pe.layout) (objects_of pe.listings) q.0 o s all q.1 at (subst (λ (ss : List ℕ). is_among ss s ≡ true) q.2 j) i)))
+    (λ p there. unless (is_among p.sectors s) (λ j. never p s there i j))
+
+-- So it does if each goes to another object's.
+pub unwritten : (pe : PartsEdit) (puts : List Put) (image image' : List ℕ) → ArePutOut pe.layout puts image image' → (o : Object) → Contains (objects_of pe.listings) o
+    → ((p : Put) → Contains puts p → (q : Object) × Contains (objects_of pe.listings) q × (p.sectors ≡ q.sectors) × (q ≡ o → ⊥)) → HasSectorsOf (sector_bytes pe.layout) o.sectors image image'
+unwritten pe puts image image' out o at others =
+    never_written pe puts image image' out o at
+    (λ p s there i j. let q = others p there in q.3 (one_of_both pe q.0 o s q.1 at (subst (λ (ss : List ℕ). is_among ss s ≡ true) q.2 j) i))
 
 -- So it has the bytes that it had, with whatever words.
 pub turned_bytes : (layout layout' : Layout) (image image' : List ℕ) (o x : Object) → sector_bytes layout' ≡ sector_bytes layout → dir_form layout' ≡ dir_form layout

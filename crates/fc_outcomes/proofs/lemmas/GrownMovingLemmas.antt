@@ -1,0 +1,10 @@
+-- `rename` without a copy, into a directory that grows by it, on images, by the laws of outcomes.
+use Rattle.fc_outcomes.specs.GrownMoving.{GrownMovingLaw}
+use Rattle.fc_outcomes.proofs.lemmas.GrownMovingAskedLemmas.{grown_moved}
+use Rattle.fc_outcomes.proofs.lemmas.GrownMovingMayLemmas.{directory_may}
+
+pub grown_moving_law : GrownMovingLaw
+grown_moving_law = record {
+  new = λ x from to puts image image' wr. grown_moved x from to puts image image' wr;
+  new_may = λ x from to image a opens its at. directory_may x from to image opens its a at;
+}
