@@ -32,6 +32,8 @@ pub mod CopiedLemmas
 pub mod GrownSpaceLemmas
 pub mod GrownSteadyLemmas
 pub mod GrownHolderLemmas
+pub mod GrownEntriesLemmas
+pub mod GrownNewSpaceLemmas
 pub mod GrownImageLemmas
 pub mod GrownAddedLemmas
 pub mod GrownAskedLemmas
@@ -41,4 +43,8 @@ pub mod GrownMovedLemmas
 pub mod GrownRenameLemmas
 pub mod GrownMovingAskedLemmas
 pub mod GrownMovingLemmas
+pub mod GrownCopiedLemmas
+pub mod GrownCopyingMayLemmas
+pub mod GrownCopiedAskedLemmas
+pub mod GrownCopyingLemmas
 pub mod GrownFiledLemmas

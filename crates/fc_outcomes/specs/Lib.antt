@@ -12,3 +12,4 @@ pub mod Copying
 pub mod Growth
 pub mod GrownAddition
 pub mod GrownMoving
+pub mod GrownCopying

@@ -6,6 +6,7 @@ ghost use Rattle.fc_outcomes.specs.Copying.{CopyingLaw};
 ghost use Rattle.fc_outcomes.specs.Deletion.{DeletionLaw};
 ghost use Rattle.fc_outcomes.specs.Done.{DoneLaw, KeptLaw};
 ghost use Rattle.fc_outcomes.specs.GrownAddition.{GrownAdditionLaw};
+ghost use Rattle.fc_outcomes.specs.GrownCopying.{GrownCopyingLaw};
 ghost use Rattle.fc_outcomes.specs.GrownMoving.{GrownMovingLaw};
 ghost use Rattle.fc_outcomes.specs.Moving.{MovingLaw};
 ghost use Rattle.fc_outcomes.specs.NewImage.{NewImageLaw};
@@ -94,4 +95,9 @@ pub fn grown_addition()
 /// `rename` without a copy does what it promises in a directory that grows, on new maps.
 pub fn grown_moving()
     ensures { GrownMovingLaw }
+{}
+
+/// So does `rename` with a copy.
+pub fn grown_copying()
+    ensures { GrownCopyingLaw }
 {}

@@ -126,10 +126,10 @@ module _ (x : NewCopying) (from to : Path) (k_bytes l_bytes stored image image' 
   -- ---- paths
 
   dir_other : (k : Listing) → Contains x.listings k → is_same_path c.o.path k.object.path ≡ false
-  dir_other k at = path.dir_other x.nodes y x.listings c h x.copying k at
+  dir_other k at = path.dir_other x.nodes y x.listings c h (memory.copies x.nodes y x.listings c x.copying) k at
 
   its_path : (p : Object) → Contains (objects_of x.listings) p → is_same_path c.o.path p.path ≡ false → moved_path c.o.path (new_path c) p.path ≡ p.path
-  its_path p at other = path.its_path x.nodes y x.listings c h x.copying p at other
+  its_path p at other = path.its_path x.nodes y x.listings c h (memory.copies x.nodes y x.listings c x.copying) p at other
 
   apart : is_same_path c.k.object.path c.l.object.path ≡ false
   apart = unless (is_same_path c.k.object.path c.l.object.path) (λ same.
@@ -226,7 +226,7 @@ module _ (x : NewCopying) (from to : Path) (k_bytes l_bytes stored image image' 
 
   moves : MovesPaths image image' y y' x.nodes x.listings (edit c) c.o.path (new_path c)
   moves = record {
-    no_root = path.some x.nodes y x.listings c h x.copying;
+    no_root = path.some x.nodes y x.listings c h (memory.copies x.nodes y x.listings c x.copying);
     none_goes = refl;
     none_comes = refl;
     paths = λ p s. ap (λ (q : Object). q.path) (memory.stays x.nodes y x.listings c h x.copying p s.number s.number_is (away s.number s.stays)) ∙ sym (its_path p s.among (other p s.number s.number_is s.stays));

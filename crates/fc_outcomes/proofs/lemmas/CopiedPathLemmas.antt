@@ -15,20 +15,20 @@ use Rattle.fc_changes.proofs.BasicLemmas.{unless}
 use Rattle.fc_laws.specs.nodes.Edits.{Nodes}
 use Rattle.fc_laws.specs.nodes.Laws.{IsHeld}
 use Rattle.fc_laws.proofs.lemmas.nodes.MovingLemmas.{moved_step}
-use Rattle.fc_edits.specs.Copying.{Copying, IsCopying, new_path}
-use Rattle.fc_edits.proofs.lemmas.CopyingLemmas as memory
+use Rattle.fc_edits.specs.Copying.{Copies, Copying, new_path}
+use Rattle.fc_edits.proofs.lemmas.CopiesLemmas as c_
 
-module _ (nodes : Nodes) (layout : Layout) (listings : List Listing) (c : Copying) (h : IsHeld nodes layout listings) (g : IsCopying nodes layout listings c) where
+module _ (nodes : Nodes) (layout : Layout) (listings : List Listing) (c : Copying) (h : IsHeld nodes layout listings) (g : Copies nodes listings c) where
   pub dir_other : (k : Listing) → Contains listings k → is_same_path c.o.path k.object.path ≡ false
   dir_other k at = unless (is_same_path c.o.path k.object.path) (λ same.
       let dir = listed_directory layout listings h.sound k at in
-      let one = same_object layout listings h.sound c.o.path k.object c.o dir.0 (memory.among nodes layout listings c h g) same (itself c.o.path) in
+      let one = same_object layout listings h.sound c.o.path k.object c.o dir.0 (c_.among nodes layout listings c h g) same (itself c.o.path) in
       let two : true ≡ false = sym dir.1 ∙ ap is_directory_object one ∙ g.file in
       cc)
 
   pub some : 0 < length c.o.path
   some =
-      let path = ap (λ (p : Path). length p) (child_path layout listings h.sound c.k c.o (memory.k_in nodes layout listings c h g) (memory.kid_in nodes layout listings c h g)) in
+      let path = ap (λ (p : Path). length p) (child_path layout listings h.sound c.k c.o (c_.k_in nodes layout listings c h g) (c_.kid_in nodes layout listings c h g)) in
       let more = length_push c.k.object.path c.o.entry.name in
       omega (arith, path, more)
 

@@ -50,47 +50,10 @@ use Rattle.fc_outcomes.proofs.lemmas.GrownAddedLemmas as added
 use Rattle.fc_outcomes.proofs.lemmas.GrownAskedLemmas as asked
 use Rattle.fc_outcomes.proofs.lemmas.AddedLemmas.{none_taken, taken_is}
 use Rattle.fc_outcomes.proofs.lemmas.JoinedLemmas.{Makes, makes_directory, makes_file}
+use Rattle.fc_edits.proofs.lemmas.GrownAdditionLemmas as ga
+use Rattle.fc_outcomes.proofs.lemmas.GrownNewSpaceLemmas.{high_new, its_id, left_new, runs_are, taken_new}
 use Rattle.fc_outcomes.proofs.lemmas.GrownMayLemmas.{directory_may, object_may}
 use Rattle.fc_outcomes.proofs.lemmas.NewImageLemmas as new_image
-
--- ---- in new space
-
-module _ (x : NewGrownAddition) (n low : ℕ) (small : low < 256) (new : IsInNewSpace x.m n low x.id x.parts x.c.o) where
-  some : 0 < length x.parts
-  some = parts_some x.m n low x.id x.parts x.c.o x.agreed.is_map new
-
-  runs_are : IsPermutation (as_runs x.id x.parts) (id_runs x.m' x.id)
-  runs_are = x.space.own (record { id = x.id; parts = x.parts }) (Contains-append_left (takings_of x.id x.parts) x.own (record { id = x.id; parts = x.parts }) (there x.parts some))
-    where
-      there : (ps : List ZoneRun) → 0 < length ps → Contains (takings_of x.id ps) (record { id = x.id; parts = ps })
-      there [] h = absurd (omega (arith, h))
-      there (p ∷ ps) h = contains_here (let t : Taking = record { id = x.id; parts = p ∷ ps } in t) []
-
-  its_id : id_of x.c.o.entry.address ≡ x.id
-  its_id = id_in x.m n low x.id x.parts x.c.o small new
-
-  left_new : holes_left (hole_runs x.m) (cond (nat_lt 0 (units x.m.geometry n)) (id_runs x.m' (id_of x.c.o.entry.address)) []) ≡ holes_left (hole_runs x.m) x.parts
-  left_new =
-      ap (λ (b : Bool). holes_left (hole_runs x.m) (cond b (id_runs x.m' (id_of x.c.o.entry.address)) [])) (lt-ltb 0 (units x.m.geometry n) (units_some x.m n x.agreed.is_map new.some))
-      ∙ ap (λ (k : ℕ). holes_left (hole_runs x.m) (id_runs x.m' k)) its_id ∙ parts_left x.m x.m' n low x.id x.parts x.c.o x.agreed.is_map x.geometry small new runs_are
-
-  taken_new : is_taken (takings_of x.id x.parts) (id_of x.c.o.entry.address) ≡ true
-  taken_new = subst (λ (k : ℕ). is_taken (takings_of x.id x.parts) k ≡ true) (sym its_id) (by x.parts some)
-    where
-      by : (ps : List ZoneRun) → 0 < length ps → is_taken (takings_of x.id ps) x.id ≡ true
-      by [] h = absurd (omega (arith, h))
-      by (p ∷ ps) h = ap (λ (b : Bool). b || false) (eq-eqb x.id x.id refl)
-
-  high_new : (k : ℕ) → is_taken (takings_of x.id x.parts) k ≡ true → object_size (dir_form (Layout.New x.m')) x.c.o.entry ≡ n → (found : List Listing) → Contains (objects_of found) x.c.o
-      → (3 ≤ k) × (is_owned (objects_of found) k ≡ true)
-  high_new k taken size found among =
-      let same = taken_is x.id x.parts k taken in
-      let sector : 0 < x.m'.geometry.sector = subst (λ (g : Geometry). 0 < g.sector) (sym x.geometry) (new_shape x.m x.agreed.is_map).some in
-      let at : sectors_at (Layout.New x.m') x.c.o.entry.address n ≡ Some x.c.o.sectors = subst (λ (j : ℕ). sectors_at (Layout.New x.m') x.c.o.entry.address j ≡ Some x.c.o.sectors) size x.at in
-      let s = a_sector x.m' x.c.o.entry.address n x.c.o.sectors new.some sector at in (
-        subst (λ (j : ℕ). 3 ≤ j) (sym same) (new_id_high x.m x.id new.is_new),
-        subst (λ (j : ℕ). is_owned (objects_of found) j ≡ true) (its_id ∙ sym same) (object_owns (objects_of found) x.c.o s.0 among s.1),
-      )
 
 -- ---- a file
 
@@ -159,7 +122,7 @@ module _ (x : NewGrownAddition) (c : Command) (path : Path) (load exec : ℕ) (p
 
   left_by : its_place → holes_left (hole_runs x.m) (slots (slack x.m (objects_of x.listings) (holder path) n)) ≡ holes_left (hole_runs x.m) x.parts
   left_by (inl shared) = ap (λ (q : Option (ℕ × ℕ)). holes_left (hole_runs x.m) (slots q)) shared.found ∙ ap (holes_left (hole_runs x.m)) (sym shared.nothing)
-  left_by (inr (inl fresh)) = ap (λ (q : Option (ℕ × ℕ)). holes_left (hole_runs x.m) (slots q)) fresh.0 ∙ left_new x n low small fresh.1
+  left_by (inr (inl fresh)) = ap (λ (q : Option (ℕ × ℕ)). holes_left (hole_runs x.m) (slots q)) fresh.0 ∙ left_new (ga.placing x) n low small fresh.1
   left_by (inr (inr none)) =
       ap (λ (k : ℕ). holes_left (hole_runs x.m) (cond (nat_lt 0 k) (id_runs x.m' (id_of o.entry.address)) [])) (no_units none.none (is_some (slack x.m (objects_of x.listings) (holder path) n)))
       ∙ ap (holes_left (hole_runs x.m)) (sym none.nothing)
@@ -167,18 +130,18 @@ module _ (x : NewGrownAddition) (c : Command) (path : Path) (load exec : ℕ) (p
   taken_by : its_place → 0 < cond (is_some (slack x.m (objects_of x.listings) (holder path) n)) 0 (units x.m.geometry n) → is_taken (takings_of x.id x.parts) (id_of o.entry.address) ≡ true
   taken_by (inl shared) some =
       absurd (let none : cond (is_some (slack x.m (objects_of x.listings) (holder path) n)) 0 (units x.m.geometry n) ≡ 0 = ap (λ (q : Option (ℕ × ℕ)). cond (is_some q) 0 (units x.m.geometry n)) shared.found in omega (arith, some, none))
-  taken_by (inr (inl fresh)) some = taken_new x n low small fresh.1
+  taken_by (inr (inl fresh)) some = taken_new (ga.placing x) n low small fresh.1
   taken_by (inr (inr none)) some = absurd (let zero' = no_units none.none (is_some (slack x.m (objects_of x.listings) (holder path) n)) in omega (arith, some, zero'))
 
   lies_by : its_place → NewObjectPlaced x.m x.m' n (slack x.m (objects_of x.listings) (holder path) n) (Some o)
   lies_by (inl shared) = subst (λ (q : Option (ℕ × ℕ)). NewObjectPlaced x.m x.m' n q (Some o)) (sym shared.found) shared.address
   lies_by (inr (inl fresh)) =
-      let runs = runs_are x n low small fresh.1 in
+      let runs = runs_are (ga.placing x) n low small fresh.1 in
       subst (λ (q : Option (ℕ × ℕ)). NewObjectPlaced x.m x.m' n q (Some o)) (sym fresh.0)
       (λ some. stands_now x.m x.m' n low x.id x.parts o x.agreed.is_map x.geometry small fresh.1 runs
       (ap (λ (b : Bool). cond b 0 (file_low x.m'.geometry (bits_in (id_runs x.m' (id_of o.entry.address)) * x.m'.geometry.bit_bytes) o.entry.len)) file
       ∙ ap (λ (g : Geometry). file_low g (bits_in (id_runs x.m' (id_of o.entry.address)) * g.bit_bytes) o.entry.len) x.geometry
-      ∙ ap₂ (λ (k len : ℕ). file_low x.m.geometry (bits_in (id_runs x.m' k) * x.m.geometry.bit_bytes) len) (its_id x n low small fresh.1) len_is
+      ∙ ap₂ (λ (k len : ℕ). file_low x.m.geometry (bits_in (id_runs x.m' k) * x.m.geometry.bit_bytes) len) (its_id (ga.placing x) n low small fresh.1) len_is
       ∙ ap (λ (k : ℕ). file_low x.m.geometry (k * x.m.geometry.bit_bytes) n) (bits_same x.m x.m' n low x.id x.parts o x.agreed.is_map x.geometry small fresh.1 runs)))
   lies_by (inr (inr none)) =
       subst (λ (q : Option (ℕ × ℕ)). NewObjectPlaced x.m x.m' n q (Some o)) (sym (no_slack x.m (objects_of x.listings) (holder path) n none.none))
@@ -191,7 +154,7 @@ module _ (x : NewGrownAddition) (c : Command) (path : Path) (load exec : ℕ) (p
 
   high_by : its_place → (k : ℕ) → is_taken (takings_of x.id x.parts) k ≡ true → (found : List Listing) → Contains (objects_of found) o → (3 ≤ k) × (is_owned (objects_of found) k ≡ true)
   high_by (inl shared) k taken found among = absurd (none_taken x.id x.parts k shared.nothing taken)
-  high_by (inr (inl fresh)) k taken found among = high_new x n low small fresh.1 k taken size_is found among
+  high_by (inr (inl fresh)) k taken found among = high_new (ga.placing x) n low small fresh.1 k taken size_is found among
   high_by (inr (inr none)) k taken found among = absurd (none_taken x.id x.parts k none.nothing taken)
 
   pub new_file : its_place → GrownAdded x c image image'
@@ -270,10 +233,10 @@ module _ (x : NewGrownAddition) (path : Path) (d : Listing) (puts : List Put) (s
   new_directory_made place =
       new_image.changes_by (added.on_new x (Command.Cdir path) path puts stored image image' wr) (Command.Cdir path) [] (added.keeps x (Command.Cdir path) path puts stored image image' wr)
       (λ found sound' order.
-      asked.asked x (Command.Cdir path) path puts stored image image' wr size makes found sound' order (left_new x size 0 (omega arith) place)
-      (λ k taken. high_new x size 0 (omega arith) place k taken its_size found (asked.o_found x (Command.Cdir path) path puts stored image image' wr size makes found sound' order))
-      (λ some. taken_new x size 0 (omega arith) place)
-      (λ some. stands_now x.m x.m' size 0 x.id x.parts p x.agreed.is_map x.geometry (omega arith) place (runs_are x size 0 (omega arith) place)
+      asked.asked x (Command.Cdir path) path puts stored image image' wr size makes found sound' order (left_new (ga.placing x) size 0 (omega arith) place)
+      (λ k taken. high_new (ga.placing x) size 0 (omega arith) place k taken its_size found (asked.o_found x (Command.Cdir path) path puts stored image image' wr size makes found sound' order))
+      (λ some. taken_new (ga.placing x) size 0 (omega arith) place)
+      (λ some. stands_now x.m x.m' size 0 x.id x.parts p x.agreed.is_map x.geometry (omega arith) place (runs_are (ga.placing x) size 0 (omega arith) place)
       (ap (λ (b : Bool). cond b 0 (file_low x.m'.geometry (bits_in (id_runs x.m' (id_of p.entry.address)) * x.m'.geometry.bit_bytes) p.entry.len)) directory))
       (λ none. absurd (let some = place.some in omega (arith, none, some))) (made found sound' order))
       (λ found edited. command_law.cdir image image' (Layout.New x.m) (Layout.New x.m') x.listings found path p

@@ -51,6 +51,7 @@ use Rattle.fc_outcomes.specs.GrownMoving.{NewGrownMovingWritten, grown_view, par
 use Rattle.fc_outcomes.specs.Growth.{holder_now}
 use Rattle.fc_outcomes.specs.Puts.{Put}
 use Rattle.fc_outcomes.specs.Steady.{AreAsked, AsksNothing}
+use Rattle.fc_outcomes.proofs.lemmas.GrownEntriesLemmas.{First, grown_entries}
 use Rattle.fc_outcomes.proofs.lemmas.GrownHolderLemmas.{moved_holder}
 use Rattle.fc_outcomes.proofs.lemmas.GrownMovedLemmas as mv
 use Rattle.fc_outcomes.proofs.lemmas.GrownMovingMayLemmas.{may_rewrite}
@@ -58,29 +59,6 @@ use Rattle.fc_outcomes.proofs.lemmas.GrownSteadyLemmas.{after_elsewhere, after_i
 use Rattle.fc_outcomes.proofs.lemmas.PutLemmas.{directory_bytes}
 use Rattle.fc_outcomes.proofs.lemmas.RenamePathLemmas.{after_same, edited_by, kept_name, named_rename, other_of, turned_other}
 use Rattle.fc_outcomes.proofs.lemmas.SteadyLemmas.{stay_found, unnamed}
-
--- A name goes from entries of which one gets another place.
-without_regrown : (name : List ℕ) (dir : Path) (new : Object) (es : List Entry) → without_name name (map (regrown_entry dir (Some new)) es) ≡ map (regrown_entry dir (Some new)) (without_name name es)
-without_regrown name dir new es =
-    filter-map (λ (d : Entry). not (is_same_name d.name name)) (λ (d : Entry). not (is_same_name d.name name)) (regrown_entry dir (Some new))
-    (λ d. ap (λ (x : List ℕ). not (is_same_name x name)) (name_stays d (is_same_path (dir ++ d.name ∷ []) new.path))) es
-  where
-    name_stays : (d : Entry) (b : Bool) → (let y : Entry = cond b (record d { address = new.entry.address; len = new.entry.len }) d in y.name) ≡ d.name
-    name_stays d true = refl
-    name_stays d false = refl
-
--- what `rename` leaves a directory that gets nothing, and of which one entry gets another place
-pub edited_regrown : (from to dir : Path) (made : Option Entry) (new : Object) (es : List Entry) → is_same_path (holder to) dir ≡ false
-    → map (regrown_entry dir (Some new)) (edited (Command.Rename from to) dir made es) ≡ edited (Command.Rename from to) dir made (map (regrown_entry dir (Some new)) es)
-edited_regrown from to dir made new es none =
-    let a = is_same_path (holder from) dir in
-    ap (map (regrown_entry dir (Some new))) (edited_by from to dir made es a false refl none) ∙ by a
-    ∙ sym (edited_by from to dir made (map (regrown_entry dir (Some new)) es) a false refl none)
-  where
-    by : (b : Bool) → map (regrown_entry dir (Some new)) (cond b (without_name (last_name from) es) es)
-        ≡ cond b (without_name (last_name from) (map (regrown_entry dir (Some new)) es)) (map (regrown_entry dir (Some new)) es)
-    by true = sym (without_regrown (last_name from) dir new es)
-    by false = refl
 
 module _ (x : NewGrownMoving) (from to : Path) (puts : List Put) (image image' : List ℕ) (wr : NewGrownMovingWritten x from to puts image image') (found : List Listing)
     (sound' : AreSound (Layout.New x.m') found) (order : IsPermutation (listings_after (grown_edit x.c x.growing)) found) where
@@ -253,9 +231,6 @@ module _ (x : NewGrownMoving) (from to : Path) (puts : List Put) (image image' :
     });
   }
 
-  abbrev First : Amended → Type 0
-  First b = Contains (edit x.c).amended b ⊎ ((t : Told) × Contains g.again t × (told (edit x.c) t ≡ b))
-
   -- without growth each has the entries that the command leaves it
   unnamed_entries : (k : Listing) → is_same_path (holder from) k.object.path ≡ false → is_same_path (holder to) k.object.path ≡ false → (es : List Entry)
       → edited command k.object.path (named_entry w command) es ≡ es
@@ -275,7 +250,7 @@ module _ (x : NewGrownMoving) (from to : Path) (puts : List Put) (image image' :
       let rest = ar.told_same eg g.holder x.grows.amended_is t at in
       (x.grows.told_is t at).entries ∙ sym (unnamed_entries t.was (rest_from t.was rest) (rest_to t.was rest) (entries_of t.was.content))
 
-  first_entries : (b : Amended) → First b → entries_of b.content ≡ edited command b.was.object.path (named_entry w command) (entries_of b.was.content)
+  first_entries : (b : Amended) → First eg b → entries_of b.content ≡ edited command b.was.object.path (named_entry w command) (entries_of b.was.content)
   first_entries b (inl among) =
       ⊎_elim (λ dir. dir_entries b dir)
       (λ own.
@@ -285,46 +260,11 @@ module _ (x : NewGrownMoving) (from to : Path) (puts : List Put) (image image' :
   first_entries b (inr t) =
       subst (λ (a : Amended). entries_of a.content ≡ edited command a.was.object.path (named_entry w command) (entries_of a.was.content)) t.2 (told_entries t.0 t.1)
 
-  other_steady : (a : Amended) → Contains e'.amended a → Contains g.others a → First a → DirectorySteady image image' v w command a.was (now e' a)
-  other_steady a at there first =
-      steady_so a at
-      (first_entries a first ∙ sym (after_elsewhere eg x.kind y' found command wr.its.grows.growth anew_there a.was (was_in a at) (λ p kid. not_by_other eg a there p kid)))
-
-  -- the one that holds the directory isn't the directory itself
-  holder_to : (hd : Holder) (cut : IsPermutation ((edit x.c).amended ++ map (told (edit x.c)) g.again) (hd.amended ∷ g.others)) (hs : Holds g hd)
-      → ((a : Amended) → Contains (grown_by (edit x.c) g (Some hd)).amended a → CanSay y (regrown (edit x.c) g a.was.object) a.content) → is_same_path (holder to) hd.amended.was.object.path ≡ false
-  holder_to hd cut hs says =
-      let k : Listing = hd.amended.was in
-      let k_is = ((growing.is2 eg hd cut hs says).amends hd.amended (contains_here hd.amended g.others)).number_is in
-      let other : is_same_path g.o.path k.object.path ≡ false =
-      unlike x.nodes g.o.path k.object.path g.dir hd.amended.number x.grows.dir_is k_is
-      (λ same. not_own x.nodes y x.listings k g.o hd.amended.number g.dir h (growing.k_in eg hd cut hs says) (growing.o_held eg hd cut hs says) k_is x.grows.dir_is (sym same)) in
-      other_of (holder to) x.c.l.object.path k.object.path to_holds (ap (λ (p : Object). is_same_path p.path k.object.path) wr.its.into_it ∙ other)
-
-  holder_steady : (hd : Holder) → Holds g hd → Contains e'.amended (holding (edit x.c) g hd) → First hd.amended → is_same_path (holder to) hd.amended.was.object.path ≡ false
-      → DirectorySteady image image' v w command hd.amended.was (now e' (holding (edit x.c) g hd))
-  holder_steady hd hs there first none =
-      let k : Listing = hd.amended.was in
-      steady_so (holding (edit x.c) g hd) there
-      (hs.entries ∙ ap (map (regrown_entry k.object.path (Some anew))) (first_entries hd.amended first)
-      ∙ edited_regrown from to k.object.path (named_entry w command) anew (entries_of k.content) none
-      ∙ sym (after_is eg x.kind y' found command wr.its.grows.growth anew_there k))
+  to_grown : is_same_path (holder to) g.o.path ≡ true
+  to_grown = ap (λ (p : Object). is_same_path (holder to) p.path) (sym wr.its.into_it) ∙ to_holds
 
   all_steady : (a : Amended) → Contains e'.amended a → DirectorySteady image image' v w command a.was (now e' a)
-  all_steady a at = by g.holder x.grows.amended_is x.grows.held x.grows.says at (λ b there. there)
-    where
-      by : (q : Option Holder) (cut : IsPermutation ((edit x.c).amended ++ map (told (edit x.c)) g.again) (amended_first q g.others)) → IsHeldBy g q
-          → ((b : Amended) → Contains (grown_by (edit x.c) g q).amended b → CanSay y (regrown (edit x.c) g b.was.object) b.content) → Contains (amended_by (edit x.c) g q) a
-          → ((b : Amended) → Contains (amended_by (edit x.c) g q) b → Contains e'.amended b) → DirectorySteady image image' v w command a.was (now e' a)
-      by None cut at_top says there within = other_steady a at there (ar.amended_cases eg None cut a there)
-      by (Some hd) cut hs says there within =
-          ⊎_elim
-          (λ same.
-          subst (λ (b : Amended). DirectorySteady image image' v w command b.was (now e' b)) same
-          (holder_steady hd hs (within (holding (edit x.c) g hd) (contains_here (holding (edit x.c) g hd) g.others))
-          (ar.amended_cases eg (Some hd) cut hd.amended (contains_here hd.amended g.others)) (holder_to hd cut hs says)))
-          (λ later. other_steady a at later (ar.amended_cases eg (Some hd) cut a (contains_later hd.amended a g.others later)))
-          (contains_cases (holding (edit x.c) g hd) a g.others there)
+  all_steady a at = steady_so a at (grown_entries eg x.kind y' found from to wr.its.grows.growth anew_there to_grown first_entries a at)
 
   -- ---- and the others
 

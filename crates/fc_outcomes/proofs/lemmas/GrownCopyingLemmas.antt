@@ -1,0 +1,6 @@
+-- `rename` that copies its file into a directory that grows by it, on images, by the laws of outcomes.
+use Rattle.fc_outcomes.specs.GrownCopying.{GrownCopyingLaw}
+use Rattle.fc_outcomes.proofs.lemmas.GrownCopiedAskedLemmas.{grown_copied}
+
+pub grown_copying_law : GrownCopyingLaw
+grown_copying_law = record { new = λ x from to puts stored image image' wr. grown_copied x from to puts stored image image' wr }
