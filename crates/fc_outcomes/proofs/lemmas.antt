@@ -46,5 +46,7 @@ pub mod GrownMovingLemmas
 pub mod GrownCopiedLemmas
 pub mod GrownCopyingMayLemmas
 pub mod GrownCopiedAskedLemmas
+pub mod GrownHolesLemmas
+pub mod GrownCopyingExitLemmas
 pub mod GrownCopyingLemmas
 pub mod GrownFiledLemmas

@@ -15,6 +15,7 @@ use Rattle.fc_image.specs.effects.Short.{is_copied}
 use Rattle.fc_image.specs.effects.Steady.{IsRewritten, with_made, without_name}
 use Rattle.fc_changes.specs.Changed.{IsInNewSpace}
 use Rattle.fc_laws.specs.agree.Agreed.{parts_with}
+use Rattle.fc_laws.specs.takeover.Places.{MayBeWritten}
 use Rattle.fc_edits.specs.Copying.{copied, edit, new_path}
 use Rattle.fc_edits.specs.Edit.{Amended}
 use Rattle.fc_edits.specs.Growing.{regrown}
@@ -61,3 +62,9 @@ pub record NewGrownCopyingWritten (x : NewGrownCopying) (from to : Path) (puts :
 pub record GrownCopyingLaw : Type 0 where
   pub new : (x : NewGrownCopying) (from to : Path) (puts : List Put) (stored image image' : List ℕ) → NewGrownCopyingWritten x from to puts stored image image'
       → Outcome x.kind image image' (grown_view x) (Command.Rename from to) (parts_with x.m' x.nodes' x.owners')
+  -- At every exit the sectors of the copy, and of each directory that says something else, at its new place if it grows, may be written beside
+  -- the map: they are none of another object, nor of lost space. The file at its old place is such another object.
+  pub object_may : (x : NewGrownCopying) (from to : Path) (image : List ℕ) → OpensAs image x.kind (grown_view x) → IsToCopyGrown x from to
+      → MayBeWritten x.kind (grown_view x) x.m (Command.Rename from to) (copied x.c x.c.o).sectors
+  pub directory_may : (x : NewGrownCopying) (from to : Path) (image : List ℕ) (a : Amended) → OpensAs image x.kind (grown_view x) → IsToCopyGrown x from to
+      → Contains (grown_edit x.c x.growing).amended a → MayBeWritten x.kind (grown_view x) x.m (Command.Rename from to) (regrown (edit x.c) x.growing a.was.object).sectors

@@ -92,7 +92,7 @@ pub fn grown_addition()
     ensures { GrownAdditionLaw }
 {}
 
-/// `rename` without a copy does what it promises in a directory that grows, on new maps.
+/// `rename` without a copy does what it promises in a directory that grows, on new maps, and may write where it writes at every exit.
 pub fn grown_moving()
     ensures { GrownMovingLaw }
 {}
