@@ -1,11 +1,10 @@
 -- What `rename` asks if it copies its file and a directory grows by it.
-use Rattle.std.proofs.Common.{◌≡◌, ◌<◌, ◌≤◌, inl, inr, ⊎_elim, ℕ, ◌*◌, Bool, true, false, cond, ◌||◌, List, [], ◌∷◌, ◌++◌, length, refl, sym, ap, ap₂, subst, ◌∙◌, None, Option, Some}
+use Rattle.std.proofs.Common.{◌≡◌, ◌<◌, inl, inr, ⊎_elim, ℕ, ◌*◌, Bool, true, false, cond, ◌||◌, List, [], ◌∷◌, length, sym, ap, ap₂, subst, ◌∙◌, None, Option, Some}
 use Rattle.std.specs.Prelude.{Contains, IfSome, IsPermutation, IsSomeAnd, nat_lt, ◌==◌}
 use Rattle.std.specs.Option.{option_map_or}
 use Rattle.fc_names.specs.Names.{Path, is_same_path}
-use Rattle.fc_names.specs.declared.name.NameForm.{NameForm}
 use Rattle.fc_record.specs.declared.Geometry.{Geometry}
-use Rattle.fc_newmap.specs.Map.{ZoneRun, bits_in, hole_runs, id_runs, sector_of, with_root}
+use Rattle.fc_newmap.specs.Map.{bits_in, hole_runs, id_runs, sector_of, with_root}
 use Rattle.fc_model.specs.Command.{Command}
 use Rattle.fc_model.specs.Tree.{holder}
 use Rattle.fc_dirs.specs.declared.Entry.{Entry}
@@ -13,27 +12,25 @@ use Rattle.fc_dirs.specs.Directory.{directory_size, entries_of}
 use Rattle.fc_image.specs.Layout.{Layout, dir_form, id_of}
 use Rattle.fc_image.specs.Report.{holder_address}
 use Rattle.fc_image.specs.Walk.{Listing, Object, is_directory_object, object_size}
-use Rattle.fc_image.specs.Objects.{is_owned, object_at, objects_of}
+use Rattle.fc_image.specs.Objects.{object_at, objects_of}
 use Rattle.fc_image.specs.Opening.{Opened}
 use Rattle.fc_image.specs.Sound.{AreSound}
 use Rattle.fc_image.specs.effects.Effect.{copies_file}
 use Rattle.fc_image.specs.effects.Placed.{NewObjectPlaced, StandsInNewSpace, file_low, holes_left, made_object, object_parts}
 use Rattle.fc_image.specs.effects.Sharing.{units}
 use Rattle.fc_image.specs.effects.Short.{Growth, is_copied, new_length, object_units}
-use Rattle.fc_image.specs.effects.Steady.{DirectorySteady, EntrySteady, IsRewritten, NamedEntrySteady, NamedStays, edited, entries_after, gets_parent, is_moved_by, may_be_rewritten, named_entry, path_after, with_made, zone0_after}
+use Rattle.fc_image.specs.effects.Steady.{DirectorySteady, EntrySteady, IsRewritten, NamedEntrySteady, NamedStays, edited, gets_parent, is_moved_by, named_entry, path_after, with_made, zone0_after}
 use Rattle.fc_image.proofs.CommandLemmas.{command_law}
 use Rattle.fc_image.proofs.LookupLemmas.{lookup_law}
 use Rattle.fc_image.proofs.PathsLemmas.{itself}
 use Rattle.fc_image.proofs.RenameLemmas.{last_pushed}
 use Rattle.fc_tree.proofs.MemberLemmas.{contains_here, contains_later, no_element}
-use Rattle.fc_tree.proofs.WalkedLemmas.{child_path, listed_directory}
-use Rattle.fc_changes.proofs.BasicLemmas.{clash, unless}
+use Rattle.fc_changes.proofs.BasicLemmas.{clash}
 use Rattle.fc_changes.proofs.MadeLemmas.{file_low_small}
-use Rattle.fc_changes.proofs.ReadsLemmas.{lies_in}
 use Rattle.fc_laws.specs.agree.Agreed.{parts_with}
-use Rattle.fc_edits.specs.Copying.{copied, edit, from_it, new_path, to_it}
+use Rattle.fc_edits.specs.Copying.{copied, new_path}
 use Rattle.fc_edits.specs.Edit.{Amended, Edit, listings_after, now}
-use Rattle.fc_edits.specs.Growing.{Growing, Told, at_place, told}
+use Rattle.fc_edits.specs.Growing.{Growing, Told, at_place}
 use Rattle.fc_edits.specs.GrownCopying.{NewGrownCopying, grown_edit}
 use Rattle.fc_edits.specs.GrownPlaces.{GrownPlacing, NewGrowing}
 use Rattle.fc_edits.specs.NewPlaces.{is_taken, untaken}

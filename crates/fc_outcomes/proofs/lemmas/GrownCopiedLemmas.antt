@@ -1,8 +1,7 @@
 -- `rename` that copies its file into a directory that grows by it, on images: what is written, and what moves.
-use Rattle.std.proofs.Common.{◌≡◌, inl, inr, ⊎_elim, ℕ, Bool, true, false, cond, List, [], ◌∷◌, ◌++◌, refl, sym, ap, ap₂, subst, ◌∙◌, None, Option, Some}
+use Rattle.std.proofs.Common.{◌≡◌, inl, inr, ⊎_elim, ℕ, Bool, false, cond, List, [], ◌∷◌, ◌++◌, refl, sym, ap, ap₂, subst, ◌∙◌, None, Option, Some}
 use Rattle.std.specs.Prelude.{Contains}
 use Rattle.fc_names.specs.Names.{Path, is_same_path}
-use Rattle.fc_record.specs.declared.Geometry.{Geometry}
 use Rattle.fc_model.specs.Tree.{last_name}
 use Rattle.fc_dirs.specs.Directory.{directory_size}
 use Rattle.fc_image.specs.Layout.{Layout, bytes_in, dir_form}
@@ -19,7 +18,7 @@ use Rattle.fc_laws.specs.nodes.Laws.{IsHeld}
 use Rattle.fc_laws.proofs.lemmas.nodes.OtherLemmas.{unlike}
 use Rattle.fc_edits.specs.Copying.{copied, edit, new_path}
 use Rattle.fc_edits.specs.Edit.{Edit, joining, leaving, numbers, objects}
-use Rattle.fc_edits.specs.Growing.{EditGrowing, Growing, Holder, at_place, grown_by}
+use Rattle.fc_edits.specs.Growing.{EditGrowing, Growing, Holder, grown_by}
 use Rattle.fc_edits.specs.GrownCopying.{NewGrownCopying, grown_edit}
 use Rattle.fc_edits.specs.GrownPlaces.{NewGrowing}
 use Rattle.fc_edits.specs.NodesEdit.{NodesEdit}

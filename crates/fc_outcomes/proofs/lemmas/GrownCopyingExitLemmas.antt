@@ -13,7 +13,7 @@ use Rattle.fc_image.specs.Walk.{Object, is_directory_object}
 use Rattle.fc_image.specs.Objects.{objects_of}
 use Rattle.fc_image.specs.Opening.{Opened, boot_place, reserved_in}
 use Rattle.fc_image.specs.Stays.{IsNewKind, OpensAs}
-use Rattle.fc_image.specs.effects.Placed.{HasRunLength, IsFront, file_low, holes_left}
+use Rattle.fc_image.specs.effects.Placed.{HasRunLength, IsFront, file_low}
 use Rattle.fc_image.specs.effects.Steady.{is_idle, may_be_rewritten}
 use Rattle.fc_image.proofs.HolesLemmas.{apart_at, apart_from, in_id}
 use Rattle.fc_image.proofs.PathsLemmas.{itself}

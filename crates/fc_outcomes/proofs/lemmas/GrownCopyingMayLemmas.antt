@@ -1,11 +1,11 @@
 -- Which directories `rename` may rewrite if it copies its file and one grows by it.
-use Rattle.std.proofs.Common.{◌≡◌, ⊎_elim, Bool, true, false, List, ◌∷◌, [], ◌++◌, map, refl, sym, ap, subst, ◌∙◌, None, Option, Some}
+use Rattle.std.proofs.Common.{◌≡◌, ⊎_elim, Bool, true, false, ◌∷◌, [], ◌++◌, map, refl, sym, ap, subst, ◌∙◌, None, Option, Some}
 use Rattle.std.specs.Prelude.{Contains, IsPermutation, ◌||◌, ◌≤◌}
 use Rattle.fc_names.specs.Names.{Path, is_same_path}
 use Rattle.fc_model.specs.Command.{Command}
 use Rattle.fc_model.specs.Tree.{holder}
 use Rattle.fc_image.specs.Layout.{Layout}
-use Rattle.fc_image.specs.Walk.{Listing, Object}
+use Rattle.fc_image.specs.Walk.{Listing}
 use Rattle.fc_image.specs.Opening.{Opened}
 use Rattle.fc_image.specs.effects.Steady.{has_grown, has_new_holder, holds_named, is_renamed_by, may_be_rewritten}
 use Rattle.fc_image.proofs.PathsLemmas.{is_at, itself}

@@ -1,6 +1,6 @@
 -- The entries that `rename` leaves each directory, if the one that it joins grows.
 use Rattle.std.proofs.Common.{◌≡◌, ◌⊎◌, ⊎_elim, ℕ, Bool, true, false, cond, List, [], ◌∷◌, ◌++◌, map, refl, sym, ap, subst, ◌∙◌, None, Option, Some}
-use Rattle.std.specs.Prelude.{Contains, IsPermutation, filter, not}
+use Rattle.std.specs.Prelude.{Contains, IsPermutation, not}
 use Rattle.fc_names.specs.Names.{Path, is_same_name, is_same_path}
 use Rattle.fc_record.specs.declared.Kind.{Kind}
 use Rattle.fc_model.specs.Command.{Command}

@@ -1,8 +1,7 @@
 -- The file and the directory that come to a directory that grows, on images.
-use Rattle.std.proofs.Common.{◌≡◌, ◌<◌, ◌≤◌, inl, inr, ⊎_elim, ℕ, ◌*◌, Bool, true, false, cond, List, [], ◌∷◌, ◌++◌, length, map, refl, sym, ap, ap₂, subst, ◌∙◌, arith, eq-eqb, Some, None, Option}
-use Rattle.std.specs.Prelude.{Contains, IsPermutation, IsSomeAnd, is_some, nat_lt, ◌||◌}
+use Rattle.std.proofs.Common.{◌≡◌, ◌<◌, ◌≤◌, inl, inr, ⊎_elim, ℕ, ◌*◌, Bool, true, false, cond, List, [], ◌∷◌, ◌++◌, length, map, refl, sym, ap, ap₂, subst, ◌∙◌, arith, Some, None, Option}
+use Rattle.std.specs.Prelude.{Contains, IsPermutation, IsSomeAnd, is_some, nat_lt}
 use Rattle.std.specs.Option.{option_map_or}
-use Rattle.std.proofs.lemmas.Bool.{lt-ltb}
 use Rattle.std.proofs.lemmas.List.Elements.{Contains-append_left}
 use Rattle.fc_names.specs.Names.{Path, is_directory, is_same_path}
 use Rattle.fc_names.specs.declared.name.NameForm.{NameForm}
@@ -12,7 +11,7 @@ use Rattle.fc_model.specs.Answer.{changed}
 use Rattle.fc_model.specs.Command.{Command}
 use Rattle.fc_model.specs.Tree.{holder, last_name}
 use Rattle.fc_dirs.specs.Directory.{directory_size}
-use Rattle.fc_image.specs.Layout.{Layout, dir_form, id_of, sectors_at}
+use Rattle.fc_image.specs.Layout.{Layout, dir_form, id_of}
 use Rattle.fc_image.specs.Walk.{Listing, Object, is_directory_object, object_bytes, object_size}
 use Rattle.fc_image.specs.Objects.{is_owned, listing_at, objects_of, tree_of}
 use Rattle.fc_image.specs.Opening.{Opened}
@@ -25,30 +24,25 @@ use Rattle.fc_image.specs.effects.Placed.{NewObjectPlaced, file_low, holes_left}
 use Rattle.fc_image.specs.effects.Steady.{AreWritten, IsMadeDirectory, NewDirectory, new_directory}
 use Rattle.fc_image.proofs.CommandLemmas.{command_law}
 use Rattle.fc_image.proofs.LookupLemmas.{lookup_law}
-use Rattle.fc_plan.specs.Taking.{as_runs}
-use Rattle.fc_plan.proofs.Units.{units_some}
 use Rattle.fc_tree.proofs.MemberLemmas.{contains_here, in_map}
 use Rattle.fc_changes.specs.Changed.{IsFileAt, IsInNewSpace}
-use Rattle.fc_changes.proofs.ChangeLemmas.{a_sector}
 use Rattle.fc_changes.proofs.MadeLemmas.{file_low_small, no_slack}
-use Rattle.fc_changes.proofs.OutsideLemmas.{object_owns}
 use Rattle.fc_changes.proofs.PlacedLemmas.{is_shared}
-use Rattle.fc_laws.proofs.lemmas.agree.BeforeLemmas.{new_shape}
 use Rattle.fc_laws.proofs.lemmas.agree.DirectoryAddedLemmas.{size_of_new}
 use Rattle.fc_laws.proofs.lemmas.nodes.ListLemmas.{in_other}
 use Rattle.fc_edits.specs.Addition.{ComesAlone, over_it}
 use Rattle.fc_edits.specs.Edit.{Edit, listings_after, now, objects, still}
 use Rattle.fc_edits.specs.GrownAddition.{NewGrownAddition, grown_edit}
-use Rattle.fc_edits.specs.NewPlaces.{Taking, is_taken}
+use Rattle.fc_edits.specs.NewPlaces.{is_taken}
 use Rattle.fc_edits.specs.Placing.{takings_of}
 use Rattle.fc_edits.proofs.lemmas.AdditionLemmas as memory
-use Rattle.fc_edits.proofs.lemmas.NewSpaceLemmas.{bits_same, id_in, new_id_high, parts_left, parts_some, stands_now}
+use Rattle.fc_edits.proofs.lemmas.NewSpaceLemmas.{bits_same, stands_now}
 use Rattle.fc_outcomes.specs.Addition.{IsItsFile}
 use Rattle.fc_outcomes.specs.Puts.{Put}
 use Rattle.fc_outcomes.specs.GrownAddition.{GrownAdded, GrownAdditionLaw, IsItsGrownDirectory, NewGrownAdditionWritten}
 use Rattle.fc_outcomes.proofs.lemmas.GrownAddedLemmas as added
 use Rattle.fc_outcomes.proofs.lemmas.GrownAskedLemmas as asked
-use Rattle.fc_outcomes.proofs.lemmas.AddedLemmas.{none_taken, taken_is}
+use Rattle.fc_outcomes.proofs.lemmas.AddedLemmas.{none_taken}
 use Rattle.fc_outcomes.proofs.lemmas.JoinedLemmas.{Makes, makes_directory, makes_file}
 use Rattle.fc_edits.proofs.lemmas.GrownAdditionLemmas as ga
 use Rattle.fc_outcomes.proofs.lemmas.GrownNewSpaceLemmas.{high_new, its_id, left_new, runs_are, taken_new}

@@ -1,12 +1,12 @@
 -- An object in new space, beside a directory that grows.
-use Rattle.std.proofs.Common.{◌≡◌, ◌<◌, ◌≤◌, ℕ, Bool, true, false, cond, List, [], ◌∷◌, ◌++◌, length, refl, sym, ap, subst, ◌∙◌, arith, eq-eqb, Some}
+use Rattle.std.proofs.Common.{◌≡◌, ◌<◌, ◌≤◌, ℕ, Bool, true, false, cond, List, [], ◌∷◌, length, refl, sym, ap, subst, ◌∙◌, arith, eq-eqb, Some}
 use Rattle.std.specs.Prelude.{Contains, IsPermutation, nat_lt, ◌||◌}
 use Rattle.std.proofs.lemmas.Bool.{lt-ltb}
 use Rattle.std.proofs.lemmas.List.Elements.{Contains-append_left}
 use Rattle.fc_record.specs.declared.Geometry.{Geometry}
 use Rattle.fc_newmap.specs.Map.{ZoneRun, hole_runs, id_runs}
 use Rattle.fc_image.specs.Layout.{Layout, dir_form, id_of, sectors_at}
-use Rattle.fc_image.specs.Walk.{Listing, Object, object_size}
+use Rattle.fc_image.specs.Walk.{Listing, object_size}
 use Rattle.fc_image.specs.Objects.{is_owned, objects_of}
 use Rattle.fc_image.specs.effects.Sharing.{units}
 use Rattle.fc_image.specs.effects.Placed.{holes_left}

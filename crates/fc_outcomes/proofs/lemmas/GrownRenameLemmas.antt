@@ -1,10 +1,9 @@
 -- The directories after `rename` without a copy into a directory that grows by it.
-use Rattle.std.proofs.Common.{◌≡◌, ◌⊎◌, inl, inr, ⊎_elim, ℕ, Bool, true, false, cond, ◌||◌, List, [], ◌∷◌, ◌++◌, map, refl, sym, ap, ap₂, subst, ◌∙◌, None, Option, Some}
-use Rattle.std.specs.Prelude.{Contains, IsPermutation, not}
-use Rattle.fc_image.proofs.ShuffleLemmas.{filter-map}
-use Rattle.fc_names.specs.Names.{Path, is_same_name, is_same_path}
+use Rattle.std.proofs.Common.{◌≡◌, inl, inr, ⊎_elim, ℕ, Bool, true, false, cond, ◌||◌, List, map, refl, sym, ap, ap₂, subst, ◌∙◌, Option, Some}
+use Rattle.std.specs.Prelude.{Contains, IsPermutation}
+use Rattle.fc_names.specs.Names.{Path, is_same_path}
 use Rattle.fc_model.specs.Command.{Command}
-use Rattle.fc_model.specs.Tree.{holder, last_name}
+use Rattle.fc_model.specs.Tree.{holder}
 use Rattle.fc_dirs.specs.declared.Entry.{Entry}
 use Rattle.fc_dirs.specs.Directory.{Directory, entries_of}
 use Rattle.fc_image.specs.Layout.{Layout}
@@ -13,24 +12,22 @@ use Rattle.fc_image.specs.Walk.{Listing, Object}
 use Rattle.fc_image.specs.Objects.{object_at, objects_of}
 use Rattle.fc_image.specs.Opening.{Opened}
 use Rattle.fc_image.specs.Sound.{AreSound}
-use Rattle.fc_image.specs.effects.Steady.{DirectorySteady, IsRewritten, edited, entries_after, gets_parent, named_entry, path_after, regrown_entry, without_name}
+use Rattle.fc_image.specs.effects.Steady.{DirectorySteady, IsRewritten, edited, entries_after, gets_parent, named_entry, path_after}
 use Rattle.fc_image.proofs.CommandLemmas.{other_path}
 use Rattle.fc_image.proofs.LookupLemmas.{lookup_law}
 use Rattle.fc_image.proofs.PathsLemmas.{itself}
 use Rattle.fc_image.proofs.RenameLemmas.{moved_itself}
-use Rattle.fc_tree.proofs.MemberLemmas.{contains_cases, contains_here, contains_later, in_map, no_element}
+use Rattle.fc_tree.proofs.MemberLemmas.{in_map, no_element}
 use Rattle.fc_tree.proofs.SoundLemmas.{same_object}
 use Rattle.fc_tree.proofs.WalkedLemmas.{child_path, listed_directory}
 use Rattle.fc_changes.proofs.BasicLemmas.{clash, holder_pushed, unless}
 use Rattle.fc_changes.proofs.BeforeLemmas.{address_by}
 use Rattle.fc_changes.proofs.ReadsLemmas.{lies_in}
 use Rattle.fc_laws.specs.nodes.Laws.{IsHeld}
-use Rattle.fc_laws.specs.agree.Agreed.{CanSay}
 use Rattle.fc_laws.proofs.lemmas.nodes.ListLemmas.{in_other}
-use Rattle.fc_laws.proofs.lemmas.nodes.OtherLemmas.{unlike}
 use Rattle.std.proofs.lemmas.List.Elements.{Contains-append_cases, Contains-append_left}
 use Rattle.fc_edits.specs.Edit.{Amended, Edit, listings_after, now, numbers}
-use Rattle.fc_edits.specs.Growing.{EditGrowing, Growing, Holder, Holds, IsHeldBy, Told, amended_by, amended_first, at_place, grown_by, holding, regrown, told}
+use Rattle.fc_edits.specs.Growing.{EditGrowing, Growing, Told, at_place}
 use Rattle.fc_edits.specs.GrownMoving.{NewGrownMoving, grown_edit}
 use Rattle.fc_edits.specs.Moving.{edit, itself as own_now, moved, new_path}
 use Rattle.fc_edits.specs.NodesEdit.{NodesEdit}
@@ -38,7 +35,7 @@ use Rattle.fc_edits.proofs.lemmas.AgreeLemmas as ag
 use Rattle.fc_edits.proofs.lemmas.AroundLemmas as ar
 use Rattle.fc_edits.proofs.lemmas.GrowingLemmas as growing
 use Rattle.fc_edits.proofs.lemmas.GrowingLemmas.{its_path, its_turn}
-use Rattle.fc_edits.proofs.lemmas.GrownHolderLemmas.{not_by_other, not_by_same}
+use Rattle.fc_edits.proofs.lemmas.GrownHolderLemmas.{not_by_same}
 use Rattle.fc_edits.proofs.lemmas.GrownMemberLemmas as members
 use Rattle.fc_edits.proofs.lemmas.GrownMovingLemmas as gm
 use Rattle.fc_edits.proofs.lemmas.GrownPlaceLemmas as place
@@ -55,7 +52,7 @@ use Rattle.fc_outcomes.proofs.lemmas.GrownEntriesLemmas.{First, grown_entries}
 use Rattle.fc_outcomes.proofs.lemmas.GrownHolderLemmas.{moved_holder}
 use Rattle.fc_outcomes.proofs.lemmas.GrownMovedLemmas as mv
 use Rattle.fc_outcomes.proofs.lemmas.GrownMovingMayLemmas.{may_rewrite}
-use Rattle.fc_outcomes.proofs.lemmas.GrownSteadyLemmas.{after_elsewhere, after_is}
+use Rattle.fc_outcomes.proofs.lemmas.GrownSteadyLemmas.{after_elsewhere}
 use Rattle.fc_outcomes.proofs.lemmas.PutLemmas.{directory_bytes}
 use Rattle.fc_outcomes.proofs.lemmas.RenamePathLemmas.{after_same, edited_by, kept_name, named_rename, other_of, turned_other}
 use Rattle.fc_outcomes.proofs.lemmas.SteadyLemmas.{stay_found, unnamed}
