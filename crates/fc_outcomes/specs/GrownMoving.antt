@@ -1,21 +1,25 @@
 -- `rename` without a copy, into a directory that grows by it, on a new map: from what is written to what it promises.
-use Rattle.std.specs.Prelude.{◌≡◌, ℕ, true, false, List, Contains, if◌then◌else◌}
+use Rattle.std.specs.Prelude.{◌≡◌, ℕ, true, false, List, Contains, Some, if◌then◌else◌}
 use Rattle.fc_names.specs.Names.{Path, is_same_path}
 use Rattle.fc_record.specs.declared.DiscRecord.{DiscRecord}
 use Rattle.fc_model.specs.Command.{Command}
 use Rattle.fc_model.specs.Tree.{last_name}
+use Rattle.fc_dirs.specs.Directory.{entries_of}
 use Rattle.fc_image.specs.Layout.{Layout}
 use Rattle.fc_image.specs.Walk.{Listing}
 use Rattle.fc_image.specs.Opening.{Opened}
 use Rattle.fc_image.specs.Stays.{IsNewKind, OpensAs}
 use Rattle.fc_image.specs.effects.Short.{is_copied}
-use Rattle.fc_image.specs.effects.Steady.{IsRewritten}
+use Rattle.fc_image.specs.effects.Steady.{IsRewritten, with_made, without_name}
+use Rattle.fc_laws.specs.nodes.Edits.{Nodes}
+use Rattle.fc_laws.specs.nodes.Laws.{IsHeld}
 use Rattle.fc_laws.specs.agree.Agreed.{parts_with}
 use Rattle.fc_laws.specs.takeover.Places.{MayBeWritten}
 use Rattle.fc_edits.specs.Edit.{Amended}
 use Rattle.fc_edits.specs.Growing.{Growing, regrown}
 use Rattle.fc_edits.specs.GrownMoving.{NewGrownMoving, grown_edit}
-use Rattle.fc_edits.specs.Moving.{Moving, edit, new_path}
+use Rattle.fc_edits.specs.Moving.{Moving, edit, moved, new_path}
+use Rattle.fc_edits.specs.Transfer.{Renames, Renaming, Transfer, Transfers, renaming_of, transfer_of}
 use Rattle.fc_outcomes.specs.Growth.{Grows, MapGrows, holder_now}
 use Rattle.fc_outcomes.specs.Moving.{HasEntries}
 use Rattle.fc_outcomes.specs.NewImage.{Outcome}
@@ -55,6 +59,13 @@ pub record NewGrownMovingWritten (x : NewGrownMoving) (from to : Path) (puts : L
 
 -- It does what it promises, and the new image has the parts after it.
 pub record GrownMovingLaw : Type 0 where
+  -- The one directory is without the old entry, and the other has the new one; or the one directory has it in place of the old one.
+  pub across : (v : Opened) (nodes : Nodes) (from to : Path) (c : Transfer) (g : Growing) → IsHeld nodes v.layout v.listings → Transfers nodes v.listings c
+      → IsToMoveGrown v from to (transfer_of c) g → entries_of c.k_content ≡ without_name (last_name from) (entries_of c.k.content)
+      → entries_of c.l_content ≡ with_made (Some (moved (transfer_of c) c.o).entry) (entries_of c.l.content) → HasEntries from to (transfer_of c)
+  pub within : (v : Opened) (nodes : Nodes) (from to : Path) (c : Renaming) (g : Growing) → IsHeld nodes v.layout v.listings → Renames nodes v.listings c
+      → IsToMoveGrown v from to (renaming_of c) g → entries_of c.content ≡ with_made (Some (moved (renaming_of c) c.o).entry) (without_name (last_name from) (entries_of c.l.content))
+      → HasEntries from to (renaming_of c)
   pub new : (x : NewGrownMoving) (from to : Path) (puts : List Put) (image image' : List ℕ) → NewGrownMovingWritten x from to puts image image'
       → Outcome x.kind image image' (grown_view x) (Command.Rename from to) (parts_with x.m' x.nodes' x.owners')
   -- At every exit the sectors of each directory that says something else, at its new place if it grows, may be written beside the map: they

@@ -133,8 +133,8 @@ may_old x from to a image opens its at =
 
 pub moving_law : ReadsBack → MovingLaw
 moving_law back = record {
-  across = across;
-  within = within_one;
+  across = λ v nodes from to c h g its left joined. across v nodes from to c h g.found g.k_holds its.from_is its.to_is left joined;
+  within = λ v nodes from to c h g its entries. within_one v nodes from to c h g.found g.holds its.from_is its.to_is entries;
   new = λ x from to puts image image' w. new_moved x from to puts image image' w;
   old = λ x from to puts image image' w. old_moved back x from to puts image image' w;
   new_may = may_new;
