@@ -66,7 +66,7 @@ module _ (v : Opened) (nodes : Nodes) (from to : Path) (c : Transfer) (h : IsHel
 
 -- ---- within one
 
-pub within_one : (v : Opened) (nodes : Nodes) (from to : Path) (c : Renaming) → IsHeld nodes v.layout v.listings 
+pub within_one : (v : Opened) (nodes : Nodes) (from to : Path) (c : Renaming) → IsHeld nodes v.layout v.listings
     → IsPermutation v.listings (c.l ∷ (map (λ (d : Listing × Directory). d.0) c.own ++ c.rest)) → IsPermutation c.l.children (c.o ∷ c.kids) → is_same_path from c.o.path ≡ true
     → is_same_path to (new_path (renaming_of c)) ≡ true
     → entries_of c.content ≡ with_made (Some (moved (renaming_of c) c.o).entry) (without_name (last_name from) (entries_of c.l.content)) → HasEntries from to (renaming_of c)
