@@ -267,12 +267,6 @@ const ONE_FILE: &[(&[&str], &[u8], u8, &[u8])] = &[
         1,
         b"error 3 NotFound\nerror 5 IsDirectory\nerror 3 NotFound\n",
     ),
-    (
-        &["disc"],
-        b"free\nreclaim\n",
-        0,
-        b"free 813056 813056\nok\nreclaimed 0\nok\n",
-    ),
     (&["other"], b"free\ncdir $.A\nfree\n", 12, b""),
     (
         &["disc"],
@@ -298,12 +292,6 @@ const ONE_FILE: &[(&[&str], &[u8], u8, &[u8])] = &[
         b"\n#\ncompact",
         1,
         b"error 11 ReadOnly\n",
-    ),
-    (
-        &["disc"],
-        b"reclaim\nlod\n",
-        1,
-        b"reclaimed 0\nok\nerror 1 BadCommand\n",
     ),
 ];
 
@@ -392,6 +380,19 @@ const OTHER_IMAGES: &[OtherImage] = &[
         b"compact\n",
         3,
         b"bad-image Directory $ Magic\n",
+    ),
+    // The copies of the map are made equal.
+    (
+        &[],
+        b"free\nreclaim\n",
+        0,
+        b"free 813056 813056\nok\nreclaimed 0\nok\n",
+    ),
+    (
+        &[],
+        b"reclaim\nlod\n",
+        1,
+        b"reclaimed 0\nok\nerror 1 BadCommand\n",
     ),
 ];
 
