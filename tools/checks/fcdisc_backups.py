@@ -141,6 +141,8 @@ def early(c: Changes) -> None:
         run.send_signal(signal.SIGINT)
         out, errors = run.communicate(timeout=60)
         c.checks.expect("interrupted after %.2f s" % delay, result=((b"", b"", -signal.SIGINT), (out, errors, run.returncode)))
+    c.start(files={"sitecustomize.py": b"import os; os.kill(os.getpid(), 2)"})  # site would run this
+    c.checks.expect("Python's start is without site", result=(c.run("list", "a.adf"), c.run("list", "a.adf", within='PYTHONPATH=$PWD exec "$@"')))
 
 
 def at_script(pid: int) -> bool:
