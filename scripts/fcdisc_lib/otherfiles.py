@@ -58,7 +58,7 @@ def recognised(file: BinaryIO, name: str) -> Optional[Other]:
         return OLD_HARD_DISC
     if is_dos(head):
         return DOS
-    if name.lower().endswith((".ssd", ".dsd")) and is_dfs(head):
+    if is_dfs(head) and (name.lower().endswith((".ssd", ".dsd")) or has_dfs_files(head)):
         return DFS
     if head and all(byte >= 32 or byte in b"\t\n\r\f\x1b" for byte in head):
         return TEXT
@@ -74,6 +74,18 @@ def is_dos(head: bytes) -> bool:
 def is_dfs(head: bytes) -> bool:
     """Sector 1 has eight times the number of files, and the number of sectors."""
     return len(head) >= 512 and head[261] % 8 == 0 and number(bytes((head[263], head[262] & 3)), 0, 2) in (400, 800)
+
+
+def has_dfs_files(head: bytes) -> bool:
+    """Whether the catalogue has files, by plain names, each inside the disc and before the one that follows it there."""
+    names, places = head[8:head[261] + 8], head[264:head[261] + 264]
+    end = number(bytes((head[263], head[262] & 3)), 0, 2)
+    for at in range(0, len(places), 8):
+        size, start = number(places, at + 4, 2) | (places[at + 6] >> 4 & 3) << 16, places[at + 7] | (places[at + 6] & 3) << 8
+        if start < 2 or start + (size + 255) // 256 > end or any(not 32 <= byte & 127 < 127 for byte in names[at:at + 8]):
+            return False
+        end = start if size else end
+    return 0 < head[261] <= 248
 
 
 def looks_like_image(file: BinaryIO, name: str) -> bool:

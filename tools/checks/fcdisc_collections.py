@@ -31,6 +31,8 @@ BEGINNINGS = {
     "a.mfm": (b"HXCMFM\0", "an MFM image, of a drive's signals"), "a.7z": (b"7z\xbc\xaf\x27\x1c", "a 7z archive"),
 }
 DFS = b"TITLE   " + b"PROG   $" + bytes(240) + b"    \1\10\3\x20" + bytes(248)
+DFS_FILES = (b"TITLE   " + b"TWO    $" + b"ONE    $" + bytes(232) + b"    \1\20\3\x20" + b"\0\x19\x23\x80\12\0\0\3" + b"\0\x19\x23\x80\5\0\0\2"
+             + bytes(232))
 
 
 def half_check(half: bytearray) -> int:
@@ -123,6 +125,11 @@ def other_files(checks: Checks) -> None:
     fill(checks.fresh(b"work"), {b"x.ssd": DFS})
     checks.expect("check of a DFS disc", result=(("x.ssd: no disc: a DFS disc of the BBC Micro: use a program for DFS\n", "", 1),
                                                 checks.run(["check", "x.ssd"])))
+    for name, disc, told in (("x.adf", DFS_FILES, "no disc: a DFS disc of the BBC Micro"), ("x.img", DFS_FILES + bytes(100000), "no disc: a DFS disc"),
+                             ("x.adf", DFS_FILES[:271] + b"\1" + DFS_FILES[272:], "not accepted: no FileCore disc"), ("x.adf", DFS, "not accepted: no FileCore disc")):
+        fill(checks.fresh(b"work"), {name.encode(): disc})
+        out, _, _ = checks.run(["check", name])
+        checks.expect("check of a DFS disc named %s: %s" % (name, told), told=(True, out.startswith("%s: %s" % (name, told))))
     zones = bytearray(user_image(checks))
     zones[0xC6800 + 3] ^= 1  # the first zone of both copies: only the sum over the zones is wrong
     fill(checks.fresh(b"work"), {b"x.adf": bytes(zones)})
