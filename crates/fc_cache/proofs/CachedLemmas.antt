@@ -1,12 +1,14 @@
 -- What is kept stays right over the inner disk's calls.
-use Rattle.std.proofs.Common.{◌≡◌, ◌⊎◌, inl, inr, ⊎_elim, ℕ, Bool, true, false, ◌+◌, ◌*◌, ◌≤◌, List, length, Option, Some, None, Result, Ok, Err, IsErr, nat_eq, option_map, Vec, refl, sym, ◌∙◌, ap, subst}
+use Rattle.std.proofs.Common.{◌≡◌, ◌⊎◌, inl, inr, ⊎_elim, ℕ, Bool, true, false, ◌+◌, ◌*◌, ◌<◌, ◌≤◌, List, length, Option, Some, None, Result, Ok, Err, IsErr, nat_eq, option_map, Vec, refl, sym, ◌∙◌, ap, subst, arith}
 use Rattle.std.specs.Global.{Global}
 use Rattle.std.specs.Option.{ForSome}
-use Rattle.std.proofs.lemmas.Bool.{cases_eq}
-use Rattle.fc_device.specs.Sectors.{sector_at, with_sector}
-use Rattle.fc_device.proofs.SectorLemmas.{sector_at-with_sector_same, sector_at-with_sector_other}
+use Rattle.std.proofs.lemmas.Bool.{cases_eq, cases_lt}
+use Rattle.std.proofs.lemmas.Nat.{mul-le}
+use Rattle.fc_device.specs.Sectors.{sector_at, with_row, with_sector, IsMixOf}
+use Rattle.fc_device.specs.Stops.{HasRowPart}
+use Rattle.fc_device.proofs.SectorLemmas.{sector_at-with_row_before, sector_at-with_row_behind, sector_at-with_sector_same, sector_at-with_sector_other}
 use Rattle.std.specs.Map.{remove_entry}
-use Rattle.fc_cache.specs.Sectors.{Holds, AreWhole, AreSectors, KeepsNoMore, KeepsRead, KeepsWritten, entries_of, is_kept}
+use Rattle.fc_cache.specs.Sectors.{Holds, HoldsNone, AreWhole, AreSectors, KeepsNoMore, KeepsRead, KeepsWritten, entries_of, is_kept}
 use Rattle.fc_cache.specs.declared.kept.Kept.{Kept}
 
 -- kept or not
@@ -83,3 +85,41 @@ module _ (old new : Kept) (size n : ℕ) (from : List ℕ) (told : Option (List 
   written_at told_now written image is =
       let at = before (λ (l : List ℕ). with_sector size l n from) told image (sym written ∙ is) in
       sym (ap (λ (l : List ℕ). sector_at size l n) at.is ∙ sector_at-with_sector_same size at.was n from long (fits at.was at.told_was))
+
+-- a row of sectors was written, whatever became of it
+module _ (old new : Kept) (size n count : ℕ) (from : List ℕ) (told : Option (List ℕ)) (long : length from ≡ count * size)
+    (fits : (image : List ℕ) → told ≡ Some image → n * size + count * size ≤ length image) where
+  -- the sectors outside it are as they were
+  outside : (was : List ℕ) → told ≡ Some was → (m : ℕ) → (m < n) ⊎ (n + count ≤ m) → sector_at size (with_row size was n from) m ≡ sector_at size was m
+  outside was is m where_it_is =
+      let room : n * size + length from ≤ length was = omega (arith, long, fits was is) in
+      ⊎_elim
+      (λ lt. sector_at-with_row_before size was n from room m lt)
+      (λ le.
+      let place : (n + count) * size ≡ n * size + count * size = grind arith in
+      sector_at-with_row_behind size was n from room m (omega (arith, long, place, mul-le (n + count) size m size le (omega arith))))
+      where_it_is
+
+  pub right_without_row : (told_now : Option (List ℕ)) → HasRowPart size n from told told_now → AreRight size told old → KeepsNoMore old new → HoldsNone n count new → AreRight size told_now new
+  right_without_row told_now part right less none image is m bytes there =
+      let at = part.told image is in
+      let now = part.part at.0 at.1 in
+      let mix : IsMixOf size at.0 (with_row size at.0 n from) image = subst (IsMixOf size at.0 (with_row size at.0 n from)) (one_image now.0 image (sym now.1 ∙ is)) now.2 in
+      let was = right at.0 at.1 m bytes (less m bytes there) in
+      ⊎_elim
+      (λ same. was ∙ sym same)
+      (λ written. was ∙ sym (written ∙ outside at.0 at.1 m (place m bytes there)))
+      (mix.each m)
+    where
+      one_image : (a b : List ℕ) → Some a ≡ Some b → a ≡ b
+      one_image a b e = cc
+
+      place : (m : ℕ) (bytes : Vec ℕ Global) → Holds new m bytes → (m < n) ⊎ (n + count ≤ m)
+      place m bytes there =
+          elim (cases_lt m n) [
+            | inl before ↦ inl before
+            | inr from_it ↦ elim (cases_lt m (n + count)) [
+              | inl in_it ↦ absurd (none m bytes from_it in_it there)
+              | inr past ↦ inr past
+            ]
+          ]
