@@ -1,17 +1,14 @@
 -- A disk in memory that writes a row of sectors, one after another.
-use Rattle.std.proofs.Common.{◌≡◌, ℕ, ◌+◌, ◌*◌, ◌<◌, ◌≤◌, List, [], ◌∷◌, ◌++◌, Some, length, take, drop, refl, sym, ◌∙◌, ap, ap₂, subst, arith, append_assoc, length-append, length-drop}
-use Rattle.std.specs.List.{flat_map}
+use Rattle.std.proofs.Common.{◌≡◌, ℕ, ◌+◌, ◌*◌, ◌≤◌, List, [], ◌∷◌, ◌++◌, Some, length, take, drop, refl, sym, ◌∙◌, ap, ap₂, arith, append_assoc, length-append, length-drop}
 use Rattle.std.proofs.lemmas.Grind.{flat_map-append}
 use Rattle.std.proofs.lemmas.List.{append-nil, length-take-le}
 use Rattle.std.proofs.lemmas.List.Elements.{All-nil, All-push}
 use Rattle.std.proofs.Math.Seq.{take-add}
 use Rattle.fc_device.specs.Image.{is_sector_size, told_is, told_long}
-use Rattle.fc_device.specs.Memory.{asked_of, bytes_of, faults_of, gives_of, is_attached, left_of, length_of, moment_of, pending_of, reads_of, record_of, row_writes, sectors_of, size_of, syncs_of, tells_stops_of, writes_of, GoesOn, IsRecordedRow, IsRecordedWrite, IsUnchanged}
+use Rattle.fc_device.specs.Memory.{asked_of, bytes_of, faults_of, gives_of, is_attached, left_of, length_of, moment_of, pending_of, reads_of, record_of, row_writes, sectors_of, size_of, syncs_of, tells_stops_of, writes_of, GoesOn, IsRecordedRow, IsRecordedWrite}
 use Rattle.fc_device.specs.RecordLaws.{left_as_read, left_earlier, left_settled}
-use Rattle.fc_device.specs.Sectors.{with_row, with_sector, IsMixOf}
-use Rattle.fc_device.specs.Stops.{HasRowPart}
+use Rattle.fc_device.specs.Sectors.{with_row, with_sector}
 use Rattle.fc_device.specs.declared.disk.Disk.{Ghosts}
-use Rattle.fc_device.specs.declared.image.Image.{Image}
 use Rattle.fc_device.specs.declared.memory.MemoryDisk.{MemoryDisk}
 use Rattle.fc_device.specs.declared.record.Call.{Call}
 use Rattle.fc_device.specs.declared.record.Call.TheVariants.{Write}
@@ -96,24 +93,6 @@ row_more old mid new n i from piece same fits low is so_far one now =
       has = now ∙ ap₂ (λ (k : ℕ) (l : List ℕ). with_sector k l (n + i) piece) same so_far.has
           ∙ with_row-more size (bytes_of old) n front i piece long whole (omega (arith, long, low, fits)) ∙ ap (with_row size (bytes_of old) n) both;
     }
-
--- the row as it is after a call that failed
-pub row_unchanged : {old mid new : MemoryDisk} {n i : ℕ} {from : List ℕ} → IsRecordedRow old mid n from i → IsUnchanged mid new → IsRecordedRow old new n from i
-row_unchanged so_far same = record {
-  rows = so_far.rows;
-  each = so_far.each;
-  whole = so_far.whole;
-  starts = so_far.starts;
-  recorded = same.same_record ∙ so_far.recorded;
-  has = ap (λ (image : Image). image.bytes.items) same.same_image ∙ so_far.has;
-}
-
--- bytes that are told, before and after
-pub row_part : (size n : ℕ) (bytes old new : List ℕ) → IsMixOf size old (with_row size old n bytes) new → HasRowPart size n bytes (Some old) (Some new)
-row_part size n bytes old new mix = record {
-  part = λ was told. (new, refl, subst (λ (image : List ℕ). IsMixOf size image (with_row size image n bytes) new) (sym (told_is old was told)) mix);
-  told = λ image told. (old, refl);
-}
 
 -- two calls after which a disk goes on
 pub goes_then : {old mid new : MemoryDisk} {writes : ℕ} → GoesOn old mid (reads_of old) (writes_of mid) (syncs_of old) → GoesOn mid new (reads_of mid) writes (syncs_of mid)

@@ -1,9 +1,9 @@
-use Rattle.std.proofs.Common.{◌≡◌, ℕ, List, ◌+◌, ◌-◌, ◌*◌, ◌≤◌, length, take, drop, refl, ap, subst, ◌∙◌, sym, arith}
+use Rattle.std.proofs.Common.{◌≡◌, ℕ, ◌+◌, ◌-◌, ◌*◌, ◌≤◌, length, take, drop, refl, ap, subst, ◌∙◌, sym, arith}
 use Rattle.fc_device.specs.Memory.{bytes_of, size_of}
 use Rattle.fc_device.specs.Sectors.{with_row, with_sector, IsMixOf}
 use Rattle.fc_device.specs.Image.{told_is}
 use Rattle.fc_device.proofs.DiskLaws.{form_same, form_then, row_fits_in}
-use Rattle.fc_device.proofs.RowLemmas.{goes_then, memory, memory_laws, row_more, row_part, row_start, row_unchanged}
+use Rattle.fc_device.proofs.RowLemmas.{goes_then, memory, memory_laws, row_more, row_start}
 use Rattle.fc_device.proofs.SectorLemmas.{apart, mix_first, mix_row_more}
 use Rattle.fc_device.proofs.StopLemmas.{tears_row_more, tears_row_start}
 use Rattle.fc_device.proofs.memory.MemoryDiskDisk.write_row.Goals as goal

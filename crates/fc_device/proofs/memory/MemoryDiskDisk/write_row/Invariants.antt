@@ -1,4 +1,4 @@
-use Rattle.std.proofs.Common.{◌≡◌, Some}
+use Rattle.std.proofs.Common.{◌≡◌}
 use Rattle.fc_device.specs.Calls.{SameForm, StopsTearRow}
 use Rattle.fc_device.specs.Memory.{bytes_of, faults_of, left_of, moment_of, reads_of, size_of, syncs_of, writes_of, GoesOn, IsRecordedRow}
 use Rattle.fc_device.specs.Sectors.{with_row, IsMixOf}
