@@ -1,5 +1,5 @@
 -- Runs of a zone that move up into its holes by one commit.
-use Rattle.std.proofs.Common.{◌≡◌, ◌<◌, ◌≤◌, inl, inr, ℕ, zero, suc, ◌+◌, ◌-◌, ◌*◌, ◌/◌, ◌%◌, Bool, true, false, cond, List, [], ◌∷◌, ◌++◌, length, refl, sym, ap, ap₂, subst, ◌∙◌, arith, append_assoc}
+use Rattle.std.proofs.Common.{◌≡◌, ◌<◌, ◌≤◌, inl, inr, ℕ, ◌+◌, ◌-◌, ◌*◌, ◌/◌, ◌%◌, Bool, true, false, cond, List, [], ◌∷◌, ◌++◌, refl, sym, ap, ap₂, subst, ◌∙◌, arith, append_assoc}
 use Rattle.std.specs.Prelude.{◌||◌, filter, Contains}
 use Rattle.std.specs.List.{range_with_len}
 use Rattle.std.proofs.Math.Nat.{zero-mod}
@@ -16,8 +16,8 @@ use Rattle.fc_zone.specs.declared.RunKind.{RunKind}
 use Rattle.fc_zone.specs.declared.RunKind.TheVariants as kinds
 use Rattle.fc_zone.proofs.HolderLemmas.{run_spelled}
 use Rattle.fc_zone.proofs.ZoneLemmas.{Spells-le}
-use Rattle.fc_newmap.specs.Edits.{IsEdit, KeepsRuns}
-use Rattle.fc_newmap.specs.Map.{Map, ZoneRun, all_runs, first_sector, has_id, hole_runs, id_runs, is_hole, runs_of, sector_count, sector_of, sectors_of, shape, zone_numbers}
+use Rattle.fc_newmap.specs.Edits.{IsEdit}
+use Rattle.fc_newmap.specs.Map.{Map, ZoneRun, all_runs, first_sector, has_id, hole_runs, id_runs, is_hole, runs_of, sector_count, sector_of, shape, zone_numbers}
 use Rattle.fc_newmap.specs.NewMap.{IsNewMap}
 use Rattle.fc_newmap.specs.RunsLaw.{placed}
 use Rattle.fc_newmap.proofs.ComposeLemmas.{edit_none, edit_then, runs_other, zone_cut}
@@ -29,16 +29,16 @@ use Rattle.fc_image.specs.Layout.{Layout, disc_sectors, hole_sectors, id_sectors
 use Rattle.fc_image.specs.Moves.{Carried}
 use Rattle.fc_image.specs.effects.Moves.{Slid, before_holes, with_holes_joined}
 use Rattle.fc_compact.specs.Copying.{ChangesRow, IsCopied, TearsRow}
-use Rattle.fc_compact.specs.Gathering.{Carrying, Drawn, Fits, Gathers, IsGathered, Spares, StaysInHoles, fresh_of}
+use Rattle.fc_compact.specs.Gathering.{Carrying, Drawn, Gathers, IsGathered, Spares, StaysInHoles, fresh_of}
 use Rattle.fc_compact.specs.Joining.{are_holes, ids_in, joined}
 use Rattle.fc_compact.specs.Laws.{Laws}
 use Rattle.fc_compact.specs.Ready.{is_movable_by}
 use Rattle.fc_compact.specs.Settling.{one_if, run_weight, zone_weight}
-use Rattle.fc_compact.specs.Sliding.{HasRuns, hole_at, part, row, run_at}
+use Rattle.fc_compact.specs.Sliding.{HasRuns, hole_at, row, run_at}
 use Rattle.fc_compact.specs.Steps.{SamePart}
 use Rattle.fc_compact.specs.declared.gathering.Front.{Front}
 use Rattle.fc_compact.proofs.CarryLemmas.{carrying_more}
-use Rattle.fc_compact.proofs.FindLemmas.{first_row, hole_room, len_whole, run_follows, some_len}
+use Rattle.fc_compact.proofs.FindLemmas.{first_row, len_whole, run_follows, some_len}
 use Rattle.fc_compact.proofs.JoinLemmas.{count_up, disc_run}
 use Rattle.fc_compact.proofs.MergeLemmas.{weight_cons}
 use Rattle.fc_compact.proofs.PreservesLemmas.{geometry_is}

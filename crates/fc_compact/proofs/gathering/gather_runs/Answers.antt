@@ -1,11 +1,10 @@
-use Rattle.std.proofs.Common.{◌≡◌, ◌<◌, ◌≤◌, ◌+◌, ◌-◌, ◌*◌, ◌/◌, ◌∷◌, ◌++◌, [], ℕ, List, Bool, Some, refl, ap, sym, subst, ◌∙◌, arith, append_assoc, true, false}
+use Rattle.std.proofs.Common.{◌≡◌, ◌<◌, ◌≤◌, ◌*◌, ◌/◌, ◌∷◌, ◌++◌, [], ℕ, List, Bool, refl, ap, sym, subst, ◌∙◌, arith, append_assoc, true, false}
 use Rattle.std.specs.Prelude.{◌||◌}
 use Rattle.fc_device.proofs.DiskLaws.{laws, form_same, form_then}
 use Rattle.fc_record.specs.declared.Geometry.{Geometry}
 use Rattle.fc_zone.specs.declared.Run.{Run}
-use Rattle.fc_newmap.specs.Map.{Map, first_sector, runs_of, sector_count}
+use Rattle.fc_newmap.specs.Map.{first_sector, runs_of, sector_count}
 use Rattle.fc_newmap.proofs.ComposeLemmas.{zone_cut}
-use Rattle.fc_image.specs.Layout.{Layout, disc_sectors, hole_sectors, is_among}
 use Rattle.fc_compact.specs.Copying.{ChangesRow}
 use Rattle.fc_compact.specs.Sliding.{HasRuns}
 use Rattle.fc_compact.proofs.GatherLemmas.{FrontIn, front_fits, front_kept, front_more, gathers_none, more_carrying, one_more, start_front, step_ends}
