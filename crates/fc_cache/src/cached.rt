@@ -13,8 +13,7 @@ use fc_device::{Disk, Extent, Failed};
 use std::alloc::Global;
 
 /// A disk that keeps at most 64 of the sectors of the disk below, and writes through to it. They are those that were used last of
-/// the sectors that were read or written by themselves; of a row of several sectors that is read, and of a row that is written, it
-/// keeps none. What it means is what that disk
+/// the sectors that were read or written by themselves; of a row of several sectors it keeps none. What it means is what that disk
 /// means: whether it is attached, its bytes, what a crash may leave, and so on.
 #[derive(Drop)]
 pub struct CachedDisk<D: Disk> {
@@ -219,9 +218,15 @@ impl<D: Disk> Disk for CachedDisk<D> {
         ensures read_calls { reads_of self.new ≡ reads_of self.old }
         ensures cause { HasCause (faults_of self.old) (faults_of self.new) result }
 
-        // The sectors of a row aren't kept, since they would drive out the sectors that were used last.
-        ensures kept { entries_of self.new.kept ≡ entries_without (range_with_len row.first row.sectors) (entries_of self.old.kept) }
+        // A row of one sector is written as that sector. Of longer rows nothing is kept, since they would drive out the sectors that
+        // were used last.
+        ensures dropped { row.sectors ≡ 1 → OnErr result (is_kept self.new.kept row.first ≡ false) }
+        ensures keeps { row.sectors ≡ 1 → KeepsWritten row.first from.now self.old.kept self.new.kept result }
+        ensures kept { (row.sectors ≡ 1 → ⊥) → entries_of self.new.kept ≡ entries_without (range_with_len row.first row.sectors) (entries_of self.old.kept) }
     {
+        if row.sectors == 1 {
+            return self.write(row.first, from);
+        }
         self.kept.remove_row(row);
         self.inner.write_row(row, from)
     }
