@@ -1,5 +1,5 @@
 -- A directory that is written over, by a change of which one directory is written: it can be, and its bytes fit.
-use Rattle.std.proofs.Common.{◌≡◌, ◌<◌, ◌≤◌, ◌*◌, ℕ, true, List, length, refl, sym, subst, arith, All}
+use Rattle.std.proofs.Common.{◌≡◌, ◌<◌, ◌≤◌, ◌*◌, ℕ, true, List, length, sym, subst, arith, All}
 use Rattle.std.specs.Prelude.{Contains}
 use Rattle.fc_record.specs.declared.Kind.{Kind}
 use Rattle.fc_oldmap.specs.OldMap.{OldMapContent, IsOldMap}

@@ -22,7 +22,6 @@ use Rattle.fc_writing.specs.declared.ready.Source.{Source}
 use Rattle.fc_writing.specs.declared.ready.Source.TheVariants as sources
 use Rattle.fc_writing.specs.Ready.{source_place}
 use Rattle.fc_change.specs.declared.change.Change.{Change}
-use Rattle.fc_change.specs.declared.change.Regrowth.{Regrowth}
 use Rattle.fc_change.specs.declared.change.Says.{Says}
 use Rattle.fc_change.specs.declared.change.Turned.{Turned}
 use Rattle.fc_change.specs.declared.change.Turned.TheVariants as turns

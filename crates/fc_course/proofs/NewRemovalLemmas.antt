@@ -1,20 +1,18 @@
 -- `delete` on a new map: it can be written and taken over, and what it then promises.
-use Rattle.std.proofs.Common.{◌≡◌, ◌<◌, ◌≤◌, ◌*◌, ◌||◌, ℕ, Bool, true, false, List, [], ◌∷◌, ◌++◌, length, refl, sym, ap, subst, ◌∙◌, arith, Option, None, All}
+use Rattle.std.proofs.Common.{◌≡◌, ◌≤◌, ◌*◌, ◌||◌, ℕ, Bool, false, List, [], ◌∷◌, ◌++◌, length, refl, sym, ap, subst, ◌∙◌, arith, Option, None}
 use Rattle.fc_names.specs.Names.{Path}
 use Rattle.fc_alloc.specs.declared.owner.Owner.{Owner}
 use Rattle.fc_record.specs.declared.Kind.{Kind}
 use Rattle.fc_newmap.specs.Map.{Map, map_sectors}
 use Rattle.fc_newmap.specs.NewMap.{IsNewMap}
 use Rattle.fc_model.specs.Command.{Command}
-use Rattle.fc_image.specs.Layout.{Layout, dir_form, disc_sectors, is_apart}
+use Rattle.fc_image.specs.Layout.{Layout, disc_sectors}
 use Rattle.fc_image.specs.Objects.{objects_of}
-use Rattle.fc_image.specs.Opening.{Opened, boot_place, reserved_in}
+use Rattle.fc_image.specs.Opening.{Opened}
 use Rattle.fc_image.specs.Sound.{AreSound}
 use Rattle.fc_image.specs.Stays.{OpensAs}
-use Rattle.fc_image.specs.Walk.{Listing, Object, object_size}
+use Rattle.fc_image.specs.Walk.{Listing, Object}
 use Rattle.fc_image.specs.effects.Steady.{has_grown, has_new_holder, is_given_back}
-use Rattle.fc_image.proofs.HolesLemmas.{Lies}
-use Rattle.fc_objects.specs.Written.{AreApart}
 use Rattle.fc_placing.specs.declared.placing.Placing.{Placing}
 use Rattle.fc_placing.specs.declared.placing.Placing.TheVariants as placings
 use Rattle.fc_placing.specs.Leaving.{LeavesIds}
@@ -29,10 +27,8 @@ use Rattle.fc_laws.specs.nodes.Edits.{Nodes}
 use Rattle.fc_laws.specs.agree.Agreed.{AgreeOn, parts_with}
 use Rattle.fc_laws.proofs.lemmas.agree.BeforeLemmas.{agreed_law, new_facts}
 use Rattle.fc_laws.proofs.lemmas.agree.CutLemmas.{cut_law}
-use Rattle.fc_laws.proofs.lemmas.agree.WalkedLemmas.{object_lies}
 use Rattle.fc_laws.proofs.lemmas.takeover.ApartLemmas.{places_law}
 use Rattle.fc_laws.proofs.lemmas.takeover.KindLemmas.{new_kind}
-use Rattle.fc_laws.proofs.lemmas.takeover.WriteLemmas.{written_bytes_law}
 use Rattle.fc_edits.specs.Deletion.{Deletion, NewDeletion, edit, nodes_without}
 use Rattle.fc_edits.specs.NewPlaces.{GivesBack}
 use Rattle.fc_edits.proofs.lemmas.AddedPlaceLemmas.{space_change}
@@ -47,7 +43,6 @@ use Rattle.fc_writing.specs.New.{CanWrite, IsChanged, IsGiven}
 use Rattle.fc_writing.specs.Ready.{place_of, written_place}
 use Rattle.fc_change.specs.declared.job.Job.TheVariants as jobs
 use Rattle.fc_change.specs.After.{AreOwnersAfter, nodes_after}
-use Rattle.fc_change.specs.declared.spaces.GrownPlace.{GrownPlace}
 use Rattle.fc_change.specs.Directories.{Rewriting}
 use Rattle.fc_change.specs.GrownSpace.{freed}
 use Rattle.fc_change.specs.Places.{AreLeft, ArePlaced, plan_in}

@@ -1,5 +1,5 @@
 -- `set` and `mark` on a new map: they can be written and taken over, and what they then promise.
-use Rattle.std.proofs.Common.{◌≡◌, ◌<◌, ◌≤◌, ◌*◌, ℕ, true, List, [], ◌∷◌, ◌++◌, length, refl, sym, ap, subst, ◌∙◌, arith, Option, None, All}
+use Rattle.std.proofs.Common.{◌≡◌, ◌≤◌, ◌*◌, ℕ, List, [], ◌∷◌, ◌++◌, length, refl, sym, subst, ◌∙◌, Option, None}
 use Rattle.fc_names.specs.Names.{Path}
 use Rattle.fc_alloc.specs.declared.owner.Owner.{Owner}
 use Rattle.fc_record.specs.declared.Kind.{Kind}
@@ -10,8 +10,7 @@ use Rattle.fc_image.specs.Layout.{Layout, dir_form, disc_sectors}
 use Rattle.fc_image.specs.Opening.{Opened}
 use Rattle.fc_image.specs.Sound.{AreSound}
 use Rattle.fc_image.specs.Stays.{OpensAs}
-use Rattle.fc_image.specs.Walk.{Listing, Object, object_size}
-use Rattle.fc_placing.specs.declared.placing.Placing.{Placing}
+use Rattle.fc_image.specs.Walk.{Listing, Object}
 use Rattle.fc_placing.specs.declared.placing.Placing.TheVariants as placings
 use Rattle.fc_placing.proofs.SpaceLemmas.{after}
 use Rattle.fc_plan.specs.declared.plan.Plan.{Plan}
@@ -29,16 +28,14 @@ use Rattle.fc_edits.specs.NewNodes as edited
 use Rattle.fc_edits.specs.Rewording.{NewRewording, Rewording, edit}
 use Rattle.fc_edits.proofs.lemmas.RewordingLemmas.{rewording_law}
 use Rattle.fc_outcomes.specs.NewImage.{Outcome}
-use Rattle.fc_outcomes.specs.Puts.{ArePutOut, Put}
+use Rattle.fc_outcomes.specs.Puts.{ArePutOut}
 use Rattle.fc_outcomes.specs.Rewording as outcomes
 use Rattle.fc_refusals.specs.Targets.{IsTarget}
 use Rattle.fc_refusals.specs.declared.target.Target.{Target}
 use Rattle.fc_writing.specs.Laws.{ChangesOnly}
 use Rattle.fc_writing.specs.New.{CanWrite, IsChanged, IsGiven}
 use Rattle.fc_writing.specs.Ready.{place_of, written_place}
-use Rattle.fc_change.specs.declared.change.Turned.TheVariants as turns
-use Rattle.fc_change.specs.declared.spaces.GrownPlace.{GrownPlace}
-use Rattle.fc_change.specs.After.{AreOwnersAfter, nodes_after}
+use Rattle.fc_change.specs.After.{nodes_after}
 use Rattle.fc_change.specs.Directories.{Rewriting, Tells}
 use Rattle.fc_change.specs.GrownSpace.{freed}
 use Rattle.fc_change.specs.Places.{AreLeft, ArePlaced, plan_in}

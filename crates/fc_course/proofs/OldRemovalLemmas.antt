@@ -1,5 +1,5 @@
 -- `delete` on an old map: its space can go back, it can be written and taken over, and what it then promises.
-use Rattle.std.proofs.Common.{◌≡◌, ◌<◌, ◌≤◌, ◌*◌, ◌||◌, ◌==◌, ◌⊎◌, inl, inr, ℕ, Bool, true, false, cond, List, [], ◌∷◌, ◌++◌, length, refl, sym, ap, ap₂, subst, ◌∙◌, arith, Option, Some, All}
+use Rattle.std.proofs.Common.{◌≡◌, ◌<◌, ◌≤◌, ◌*◌, ◌||◌, ◌==◌, ◌⊎◌, inl, inr, ℕ, Bool, true, false, cond, List, [], ◌∷◌, ◌++◌, length, refl, sym, ap, ap₂, subst, ◌∙◌, arith, Option, Some}
 use Rattle.std.specs.Prelude.{Contains, nat_lt, not}
 use Rattle.std.specs.Option.{option_map_or}
 use Rattle.std.proofs.lemmas.Bool.{cases_lt, lt-ltb, ne_eqb}
@@ -11,17 +11,15 @@ use Rattle.fc_oldmap.specs.declared.Hole.{Hole}
 use Rattle.fc_oldmap.specs.Holes.{after_give, hole, hole_limit}
 use Rattle.fc_oldmap.specs.OldMap.{OldMapContent, IsOldMap, map_units}
 use Rattle.fc_model.specs.Command.{Command}
-use Rattle.fc_image.specs.Layout.{Layout, dir_form, disc_sectors, hole_sectors, is_apart, map_place, sector_bytes}
+use Rattle.fc_image.specs.Layout.{Layout, dir_form, disc_sectors, map_place, sector_bytes}
 use Rattle.fc_image.specs.Edits.{IsAt}
-use Rattle.fc_image.specs.Objects.{has_sectors, objects_of}
+use Rattle.fc_image.specs.Objects.{has_sectors}
 use Rattle.fc_image.specs.Opening.{Opened, reserved_in}
 use Rattle.fc_image.specs.Sound.{AreSound}
 use Rattle.fc_image.specs.Stays.{OpensAs}
-use Rattle.fc_image.specs.Walk.{Listing, Object, object_size}
-use Rattle.fc_image.specs.effects.Short.{holes_without, old_need, space_of, with_space_of}
+use Rattle.fc_image.specs.Walk.{Listing, Object}
+use Rattle.fc_image.specs.effects.Short.{old_need, space_of, with_space_of}
 use Rattle.fc_image.specs.effects.Steady.{has_grown, has_new_holder}
-use Rattle.fc_image.proofs.HolesLemmas.{Lies}
-use Rattle.fc_objects.specs.Written.{AreApart}
 use Rattle.fc_oldchanges.specs.Owed.{IsBefore, IsMapAfter, holding}
 use Rattle.fc_space.specs.Space.{PlacesSuffice}
 use Rattle.fc_tree.specs.declared.node.Node.{Node}
@@ -30,13 +28,11 @@ use Rattle.fc_tree.specs.Nodes.{HoldObjects}
 use Rattle.fc_tree.specs.Parts.{ArePartsOf, Parts}
 use Rattle.fc_laws.specs.nodes.Edits.{Nodes}
 use Rattle.fc_laws.proofs.lemmas.agree.BeforeLemmas.{agreed_law}
-use Rattle.fc_laws.proofs.lemmas.agree.WalkedLemmas.{object_lies}
 use Rattle.fc_oldlaws.specs.agree.Laws.{AgreeOn, parts_with}
 use Rattle.fc_oldlaws.specs.agree.Spaces.{CanGive}
 use Rattle.fc_oldlaws.proofs.lemmas.agree.BeforeLemmas.{sound as old_sound}
 use Rattle.fc_oldlaws.proofs.lemmas.agree.GivenLemmas.{space_law}
 use Rattle.fc_oldlaws.proofs.lemmas.takeover.ApartLemmas.{places_law}
-use Rattle.fc_oldlaws.proofs.lemmas.takeover.WriteLemmas.{written_bytes_law}
 use Rattle.fc_edits.specs.Deletion.{Deletion, OldDeletion, holes_with_it, nodes_without}
 use Rattle.fc_edits.proofs.lemmas.DeletionLemmas.{deletion_law}
 use Rattle.fc_outcomes.specs.NewImage.{Outcome}

@@ -1,5 +1,5 @@
 -- `set` and `mark` on an old map: they can be written and taken over, and what they then promise.
-use Rattle.std.proofs.Common.{◌≡◌, ◌<◌, ◌≤◌, ◌*◌, ℕ, true, List, [], ◌∷◌, ◌++◌, length, refl, sym, ap, subst, ◌∙◌, Option, None}
+use Rattle.std.proofs.Common.{◌≡◌, ◌≤◌, ◌*◌, ℕ, List, [], ◌∷◌, ◌++◌, length, refl, sym, ap, subst, ◌∙◌, Option, None}
 use Rattle.fc_names.specs.Names.{Path}
 use Rattle.fc_alloc.specs.declared.owner.Owner.{Owner}
 use Rattle.fc_record.specs.declared.Kind.{Kind}
@@ -9,7 +9,7 @@ use Rattle.fc_image.specs.Layout.{Layout, dir_form, disc_sectors, map_place, sec
 use Rattle.fc_image.specs.Opening.{Opened}
 use Rattle.fc_image.specs.Sound.{AreSound}
 use Rattle.fc_image.specs.Stays.{OpensAs}
-use Rattle.fc_image.specs.Walk.{Listing, Object}
+use Rattle.fc_image.specs.Walk.{Listing}
 use Rattle.fc_oldchanges.specs.Owed.{IsBefore, IsMapAfter}
 use Rattle.fc_space.specs.Space.{PlacesSuffice}
 use Rattle.fc_tree.specs.declared.node.Node.{Node}
@@ -32,9 +32,9 @@ use Rattle.fc_refusals.specs.declared.target.Target.{Target}
 use Rattle.fc_writing.specs.Laws.{ChangesOnly}
 use Rattle.fc_writing.specs.Old.{CanWrite, IsChanged}
 use Rattle.fc_writing.specs.Ready.{place_of, written_place}
-use Rattle.fc_change.specs.After.{AreOwnersAfter, nodes_after}
+use Rattle.fc_change.specs.After.{nodes_after}
 use Rattle.fc_change.specs.Directories.{Rewriting, Tells}
-use Rattle.fc_change.specs.OldSpace.{LieBehind, map_given, map_taken}
+use Rattle.fc_change.specs.OldSpace.{map_given, map_taken}
 use Rattle.fc_change.specs.Places.{ArePlacedOld, IsOldStep}
 use Rattle.fc_course.specs.declared.stages.Prepared.{Prepared}
 use Rattle.fc_course.specs.Promises.{WritesPlaces}

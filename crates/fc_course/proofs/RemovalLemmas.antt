@@ -1,8 +1,7 @@
 -- `delete`, on any map: what its stages need, and the deletion that its change is.
-use Rattle.std.proofs.Common.{◌≡◌, ◌<◌, ℕ, cond, List, [], ◌∷◌, ◌++◌, length, remove, slice_get, refl, sym, ap, subst, ◌∙◌, Option, Some, None}
-use Rattle.std.specs.Prelude.{Contains, IsPermutation, IsSome, is_some}
-use Rattle.std.specs.FinMap.{get, remove as take}
-use Rattle.std.specs.Option.{option_map_or}
+use Rattle.std.proofs.Common.{◌≡◌, ℕ, cond, List, [], ◌∷◌, ◌++◌, remove, refl, sym, ap, subst, ◌∙◌, Option, Some, None}
+use Rattle.std.specs.Prelude.{Contains, IsPermutation}
+use Rattle.std.specs.FinMap.{remove as take}
 use Rattle.std.proofs.lemmas.Option.{slice_get_within}
 use Rattle.fc_names.specs.Names.{Path, is_same_path}
 use Rattle.fc_names.specs.declared.name.NameForm.{NameForm}
@@ -12,21 +11,18 @@ use Rattle.fc_model.specs.Command.{Command}
 use Rattle.fc_model.specs.Tree.{last_name}
 use Rattle.fc_dirs.specs.declared.Entry.{Entry}
 use Rattle.fc_dirs.specs.Directory.{Directory, entries_of}
-use Rattle.fc_drafts.specs.Draft.{CanAddress, directory_in, with_head, with_less}
+use Rattle.fc_drafts.specs.Draft.{directory_in, with_head, with_less}
 use Rattle.fc_drafts.specs.Rewriting.{HasLeft}
-use Rattle.fc_image.specs.Layout.{Layout, dir_form, sectors_at}
-use Rattle.fc_image.specs.Edits.{IsAt}
-use Rattle.fc_image.specs.Objects.{has_sectors, listing_at, object_at, objects_of}
+use Rattle.fc_image.specs.Layout.{Layout, dir_form}
+use Rattle.fc_image.specs.Objects.{has_sectors, objects_of}
 use Rattle.fc_image.specs.Report.{holder_address}
 use Rattle.fc_image.specs.Sound.{AreSound}
-use Rattle.fc_image.specs.Walk.{Listing, Object, object_size}
-use Rattle.fc_tree.specs.declared.node.Node.{Node}
+use Rattle.fc_image.specs.Walk.{Listing, Object}
 use Rattle.fc_tree.specs.Agree.{HasForm}
-use Rattle.fc_tree.specs.Counts.{address_in}
-use Rattle.fc_tree.specs.Nodes.{HasNode, HoldObjects, body_in, body_of}
+use Rattle.fc_tree.specs.Nodes.{HoldObjects, body_in}
 use Rattle.fc_tree.specs.Parts.{AreOwners}
 use Rattle.fc_tree.proofs.SoundLemmas.{children_stored}
-use Rattle.fc_tree.proofs.WalkedLemmas.{child_is_object, child_path, contained, listed_directory, same_some}
+use Rattle.fc_tree.proofs.WalkedLemmas.{child_path}
 use Rattle.fc_changes.proofs.ReadsLemmas.{lies_in, same_name_turned}
 use Rattle.fc_changes.specs.Owed.{GoesAlone}
 use Rattle.fc_laws.specs.nodes.Edits.{Nodes, OwnersEdited, owner_with, owners_with, with_body}
@@ -35,7 +31,6 @@ use Rattle.fc_laws.proofs.lemmas.nodes.ListLemmas.{cut_at, map_remove}
 use Rattle.fc_laws.proofs.lemmas.nodes.OwnerLemmas.{owner_law}
 use Rattle.fc_edits.specs.Deletion.{Deletion, IsDeletion, nodes_without}
 use Rattle.fc_outcomes.specs.Deletion.{LeavesOut}
-use Rattle.fc_refusals.specs.Places.{entries_in}
 use Rattle.fc_refusals.specs.Targets.{IsRemovable, IsTarget}
 use Rattle.fc_refusals.specs.declared.target.Target.{Target}
 use Rattle.fc_change.specs.declared.change.Change.{Change}
@@ -45,12 +40,9 @@ use Rattle.fc_change.specs.declared.change.Turned.TheVariants as turns
 use Rattle.fc_change.specs.After.{AreOwnersAfter, IsRegrownOwner, IsTurnedOwner, gone_in, nodes_after, with_regrown, with_said, with_turned, without_gone}
 use Rattle.fc_change.specs.declared.change.Regrowth.{Regrowth}
 use Rattle.fc_change.specs.Directories.{CanTell, Rewriting, Tells}
-use Rattle.fc_change.specs.Drafts.{IsEntryOf}
 use Rattle.fc_change.specs.Owned.{HasNoOwner}
-use Rattle.fc_change.specs.Prepared.{HasPlace, IsPieceOf}
-use Rattle.fc_tree.specs.Parts.{Parts}
+use Rattle.fc_change.specs.Prepared.{IsPieceOf}
 use Rattle.fc_writing.specs.declared.ready.Piece.{Piece}
-use Rattle.fc_writing.specs.Ready.{place_of}
 use Rattle.fc_course.specs.Run.{IsMapIn}
 use Rattle.fc_course.proofs.NodeLemmas.{can_address, child_entry, content_is, each_at, entry_is, held_at, says_it, sectors_are, size_of_form}
 use Rattle.fc_course.proofs.NodeLemmas as its

@@ -35,7 +35,6 @@ use Rattle.fc_refusals.specs.declared.target.Target.{Target}
 use Rattle.fc_writing.proofs.LeavesLemmas.{leaves_law}
 use Rattle.fc_change.specs.declared.change.Says.{Says}
 use Rattle.fc_change.specs.declared.change.Turned.{Turned}
-use Rattle.fc_change.specs.declared.job.Job.{Job}
 use Rattle.fc_change.specs.declared.job.Job.TheVariants as jobs
 use Rattle.fc_change.specs.declared.job.Wants.{Wants}
 use Rattle.fc_change.specs.After.{AreOwnersAfter, CanTakeOver, CanTurnNode, CanTurnOwner, CanRegrowNode, owners_admitted}
@@ -43,7 +42,6 @@ use Rattle.fc_change.specs.Needs.{AreWants}
 use Rattle.fc_change.specs.OldSpace.{LieBehind, map_given}
 use Rattle.fc_change.specs.Shortage.{shortage}
 use Rattle.fc_course.specs.declared.stages.Prepared.{Prepared}
-use Rattle.fc_course.specs.Jobs.{HasLaws, IsJudged}
 use Rattle.fc_course.specs.Laws.{HasFront, JobLaws}
 use Rattle.fc_course.specs.Promises.{ChangesParts, WritesPlacesOf}
 use Rattle.fc_course.specs.Run.{IsMapOf, IsRun, KeepsBehind}
@@ -52,7 +50,6 @@ use Rattle.fc_course.specs.Written.{CanWriteOn, ChangeLeavesOn, IsChangedOn}
 use Rattle.fc_course.proofs.NewRemovalLemmas as new
 use Rattle.fc_course.proofs.EmptySpaceLemmas.{empty_space}
 use Rattle.fc_course.proofs.OldRemovalLemmas as old
-use Rattle.fc_course.proofs.RemovalLemmas as removal
 use Rattle.fc_course.proofs.TargetLemmas as target_of
 use Rattle.fc_course.proofs.RemovalStageLemmas.{IsRemovalChange, MayGo, can_prepare_job, may_go, removal_change, removal_wants, view_of}
 use Rattle.fc_course.proofs.ShortLemmas.{new_short, old_short}

@@ -1,17 +1,11 @@
 -- `delete`: each stage can follow on the one before, and what is ready in the end.
-use Rattle.std.proofs.Common.{◌≡◌, ◌<◌, ◌^◌, ℕ, List, [], ◌∷◌, ◌++◌, refl, sym, ap, subst, ◌∙◌, arith, Option, Some, None}
-use Rattle.std.specs.Prelude.{Contains, Vec}
-use Rattle.std.specs.declared.alloc.Global.{Global}
-use Rattle.std.specs.Option.{option_map}
-use Rattle.fc_alloc.specs.declared.owner.Owner.{Owner}
-use Rattle.fc_device.specs.declared.disk.Extent.{Extent}
-use Rattle.fc_drafts.specs.declared.room.Room.TheVariants as rooms
+use Rattle.std.proofs.Common.{◌≡◌, ◌<◌, ◌^◌, ℕ, List, [], ◌∷◌, refl, sym, ap, subst, ◌∙◌, arith, Option, Some, None}
+use Rattle.std.specs.Prelude.{Contains}
 use Rattle.fc_names.specs.Names.{Path}
 use Rattle.fc_record.specs.declared.Kind.{Kind}
 use Rattle.fc_oldmap.specs.OldMap.{OldMapContent}
-use Rattle.fc_newmap.specs.Map.{Map}
 use Rattle.fc_model.specs.Command.{Command}
-use Rattle.fc_image.specs.Layout.{Layout, sectors_at}
+use Rattle.fc_image.specs.Layout.{Layout}
 use Rattle.fc_image.specs.Opening.{Opened}
 use Rattle.fc_image.specs.Sound.{AreSound}
 use Rattle.fc_image.specs.Walk.{Listing}
@@ -21,36 +15,22 @@ use Rattle.fc_tree.proofs.MemberLemmas.{no_element}
 use Rattle.fc_laws.specs.nodes.Edits.{Nodes}
 use Rattle.fc_laws.proofs.lemmas.agree.BeforeLemmas.{agreed_law}
 use Rattle.fc_edits.proofs.lemmas.ShapeLemmas.{of_one, only}
-use Rattle.fc_objects.specs.Extents.{sectors_in}
-use Rattle.fc_placing.specs.declared.placing.Placing.{Placing}
-use Rattle.fc_placing.specs.declared.placing.Placing.TheVariants as placings
-use Rattle.fc_plan.specs.declared.plan.Plan.{Plan}
 use Rattle.fc_refusals.specs.Targets.{IsRemovable}
 use Rattle.fc_refusals.specs.declared.target.Target.{Target}
-use Rattle.fc_writing.specs.declared.ready.Piece.{Piece}
-use Rattle.fc_writing.specs.declared.ready.Ready.{Ready}
-use Rattle.fc_writing.specs.declared.ready.Source.{Source}
-use Rattle.fc_writing.specs.declared.ready.Source.TheVariants as sources
-use Rattle.fc_writing.specs.Ready.{source_place}
 use Rattle.fc_change.specs.declared.change.Change.{Change}
 use Rattle.fc_change.specs.declared.change.Regrowth.{Regrowth}
 use Rattle.fc_change.specs.declared.change.Says.{Says}
-use Rattle.fc_change.specs.declared.change.Turned.{Turned}
 use Rattle.fc_change.specs.declared.change.Turned.TheVariants as turns
-use Rattle.fc_change.specs.declared.job.Growth.{Growth}
 use Rattle.fc_change.specs.declared.job.Job.TheVariants as jobs
 use Rattle.fc_change.specs.declared.job.Wants.{Wants}
-use Rattle.fc_change.specs.declared.spaces.GrownPlace.{GrownPlace}
-use Rattle.fc_change.specs.declared.spaces.Place.{Place}
 use Rattle.fc_change.specs.declared.spaces.Spaces.{Spaces}
 use Rattle.fc_change.specs.Directories.{CanTell, CanTellAround, IsGrownThere, Rewriting, TellAll, Tells}
-use Rattle.fc_change.specs.Drafts.{CanDraft, CanTellJob, IsChangeOf, address_in, grown_in, told}
+use Rattle.fc_change.specs.Drafts.{CanDraft, CanTellJob, IsChangeOf, address_in, told}
 use Rattle.fc_change.specs.Jobs.{IsJob}
-use Rattle.fc_change.specs.Needs.{AreWants, room_of}
+use Rattle.fc_change.specs.Needs.{AreWants}
 use Rattle.fc_change.specs.OldSpace.{CanFree, LieBehind}
-use Rattle.fc_change.specs.GrownSpace.{IsGrown}
-use Rattle.fc_change.specs.Places.{ArePlacesFor, ArePlacesOn, CanPlace, IsCopiedFrom, IsOldPlaced, IsPlaceFor, IsPlacingFor, extents_in, plan_in}
-use Rattle.fc_change.specs.Prepared.{ArePiecesOf, CanPrepare, HasPlace, IsGrownPiece, IsNewPiece, IsPieceOf, IsReadyFor, IsSourceOf, PiecesMatch}
+use Rattle.fc_change.specs.Places.{CanPlace}
+use Rattle.fc_change.specs.Prepared.{CanPrepare, HasPlace}
 use Rattle.fc_course.specs.Jobs.{IsJobFor}
 use Rattle.fc_course.specs.Stages.{CanPrepareJob, IsSpaced}
 use Rattle.fc_course.specs.Run.{IsMapIn}

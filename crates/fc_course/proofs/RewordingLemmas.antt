@@ -1,5 +1,5 @@
 -- `set` and `mark`, on any map: what their stages need, and the edit that their change is.
-use Rattle.std.proofs.Common.{◌≡◌, ◌<◌, ◌+◌, ◌*◌, ◌/◌, ◌%◌, inl, inr, ℕ, zero, suc, cond, ◌||◌, false, true, Bool, List, [], ◌∷◌, length, map, remove, slice_get, slice_set, refl, sym, ap, subst, ◌∙◌, arith, Option, Some, None}
+use Rattle.std.proofs.Common.{◌≡◌, ◌<◌, ◌+◌, ◌*◌, ◌/◌, ◌%◌, inl, inr, ℕ, zero, suc, cond, ◌||◌, false, true, Bool, List, [], ◌∷◌, map, remove, slice_get, slice_set, refl, sym, ap, subst, ◌∙◌, arith, Option, Some, None}
 use Rattle.std.specs.Prelude.{Contains, IsPermutation}
 use Rattle.std.specs.Option.{option_map, option_map_or}
 use Rattle.std.proofs.lemmas.Option.{slice_get_within}
@@ -35,7 +35,7 @@ use Rattle.fc_laws.specs.nodes.Edits.{Nodes, with_body, with_edited}
 use Rattle.fc_laws.specs.nodes.Laws.{IsHeld}
 use Rattle.fc_laws.proofs.lemmas.agree.CutLemmas.{cut_law}
 use Rattle.fc_laws.proofs.lemmas.nodes.ListLemmas.{cut_at, set_at}
-use Rattle.fc_edits.specs.Edit.{AreEdited, joined_in}
+use Rattle.fc_edits.specs.Edit.{AreEdited}
 use Rattle.fc_edits.specs.NewNodes.{HasNumbers, entered}
 use Rattle.fc_edits.specs.NewNodes as edited
 use Rattle.fc_edits.specs.Rewording.{IsReworded, Rewording, edit}
@@ -48,9 +48,7 @@ use Rattle.fc_tree.proofs.MemberLemmas.{no_element}
 use Rattle.std.specs.FinMap.{get, insert as put}
 use Rattle.fc_change.specs.declared.change.Change.{Change}
 use Rattle.fc_change.specs.declared.change.Says.{Says}
-use Rattle.fc_change.specs.declared.change.Turned.{Turned}
 use Rattle.fc_change.specs.declared.change.Turned.TheVariants as turns
-use Rattle.fc_change.specs.declared.change.Regrowth.{Regrowth}
 use Rattle.fc_change.specs.declared.job.Job.{Job}
 use Rattle.fc_change.specs.declared.job.Job.TheVariants as jobs
 use Rattle.fc_change.specs.declared.job.ObjectWords.{ObjectWords}

@@ -8,16 +8,14 @@ use Rattle.fc_drafts.specs.declared.room.Room.TheVariants as rooms
 use Rattle.fc_dirs.specs.declared.Entry.{Entry}
 use Rattle.fc_names.specs.Names.{Path}
 use Rattle.fc_record.specs.declared.Kind.{Kind}
-use Rattle.fc_oldmap.specs.OldMap.{OldMapContent, IsOldMap}
-use Rattle.fc_newmap.specs.Map.{Map}
-use Rattle.fc_newmap.specs.NewMap.{IsNewMap}
+use Rattle.fc_oldmap.specs.OldMap.{OldMapContent}
 use Rattle.fc_model.specs.Command.{Command}
 use Rattle.fc_image.specs.Layout.{Layout, dir_form, disc_sectors}
 use Rattle.fc_image.specs.Objects.{has_sectors, objects_of}
 use Rattle.fc_image.specs.Opening.{Opened}
 use Rattle.fc_image.specs.Sound.{AreSound}
 use Rattle.fc_image.specs.Stays.{OpensAs}
-use Rattle.fc_image.specs.Walk.{Listing, Object}
+use Rattle.fc_image.specs.Walk.{Object}
 use Rattle.fc_image.specs.effects.Short.{short}
 use Rattle.fc_oldchanges.proofs.BeforeLemmas.{opened_as}
 use Rattle.fc_space.specs.Space.{PlacesSuffice}

@@ -1,5 +1,5 @@
 -- `set` and `mark`: whose job it is, each stage can follow on the one before, and what their change is.
-use Rattle.std.proofs.Common.{◌≡◌, ◌<◌, ◌^◌, ℕ, List, [], ◌∷◌, refl, sym, ap, subst, ◌∙◌, arith, Option, Some, None, slice_get}
+use Rattle.std.proofs.Common.{◌≡◌, ◌<◌, ◌^◌, ℕ, List, [], ◌∷◌, refl, sym, ap, subst, ◌∙◌, arith, Option, None}
 use Rattle.std.specs.Prelude.{Contains}
 use Rattle.fc_names.specs.Names.{Path}
 use Rattle.fc_record.specs.declared.Kind.{Kind}
@@ -23,14 +23,13 @@ use Rattle.fc_refusals.specs.declared.target.Target.{Target}
 use Rattle.fc_change.specs.declared.change.Change.{Change}
 use Rattle.fc_change.specs.declared.change.Regrowth.{Regrowth}
 use Rattle.fc_change.specs.declared.change.Says.{Says}
-use Rattle.fc_change.specs.declared.change.Turned.{Turned}
 use Rattle.fc_change.specs.declared.change.Turned.TheVariants as turns
 use Rattle.fc_change.specs.declared.job.Job.TheVariants as jobs
 use Rattle.fc_change.specs.declared.job.ObjectWords.{ObjectWords}
 use Rattle.fc_change.specs.declared.job.Wants.{Wants}
 use Rattle.fc_change.specs.declared.spaces.Spaces.{Spaces}
 use Rattle.fc_change.specs.Directories.{CanTell, CanTellAround, IsGrownThere, Rewriting, TellAll, Tells}
-use Rattle.fc_change.specs.Drafts.{CanDraft, CanTellJob, IsChangeOf, IsEntryOf, IsPlaced, address_in, grown_in, told}
+use Rattle.fc_change.specs.Drafts.{CanDraft, CanTellJob, IsChangeOf, IsEntryOf, IsPlaced, address_in, told}
 use Rattle.fc_change.specs.Jobs.{IsJob}
 use Rattle.fc_change.specs.Needs.{AreWants, CanWant}
 use Rattle.fc_change.specs.OldSpace.{LieBehind}

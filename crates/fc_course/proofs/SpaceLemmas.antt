@@ -1,5 +1,5 @@
 -- The steps of a change of space can be made of a new map.
-use Rattle.std.proofs.Common.{◌≡◌, ℕ, Bool, true, false, List, [], ◌∷◌, filter, refl, sym, ap, ap₂, cond, subst, ◌∙◌, arith, Option, Some, None}
+use Rattle.std.proofs.Common.{◌≡◌, ℕ, Bool, true, false, List, [], refl, sym, ap, subst, ◌∙◌, arith, Option, Some, None}
 use Rattle.std.specs.Prelude.{◌||◌, AllPairs, Contains, IfSome, IsSome}
 use Rattle.std.specs.Option.{option_to_list}
 use Rattle.fc_newmap.specs.Map.{Map, hole_runs, runs_of, zone_numbers}

@@ -1,5 +1,5 @@
 -- The owner of an object that gets another entry of its address and length: it stays as it is.
-use Rattle.std.proofs.Common.{◌≡◌, ◌<◌, ◌+◌, ◌*◌, ◌++◌, min, ℕ, zero, Bool, true, false, cond, find, List, [], ◌∷◌, length, map, take, drop, refl, sym, ap, ap₂, subst, ◌∙◌, arith, Option, Some, None, is_some, eq-eqb, inl, inr}
+use Rattle.std.proofs.Common.{◌≡◌, ◌+◌, ◌++◌, min, ℕ, Bool, true, false, cond, find, List, [], ◌∷◌, length, take, drop, refl, sym, ap, ap₂, subst, ◌∙◌, arith, Option, Some, None, is_some, inl, inr}
 use Rattle.std.specs.Prelude.{◌==◌, Contains, nat_le, nat_lt, not}
 use Rattle.std.specs.Int.{div_ceil}
 use Rattle.std.proofs.Math.Nat.{zero-div, zero-mod}
@@ -15,22 +15,15 @@ use Rattle.fc_oldmap.specs.OldMap.{OldMapContent}
 use Rattle.fc_newmap.specs.Map.{Map}
 use Rattle.fc_image.specs.Layout.{Layout, dir_form, first_part, id_of, id_sectors, is_object_id, low_of, low_start, sector_bytes, sectors_at}
 use Rattle.fc_image.specs.Edits.{IsAt}
-use Rattle.fc_image.specs.Objects.{has_sectors, objects_of}
-use Rattle.fc_image.specs.Sound.{AreSound}
-use Rattle.fc_image.specs.Walk.{Listing, Object, is_directory_object, object_size}
-use Rattle.fc_laws.specs.nodes.Edits.{Nodes, owner_with}
+use Rattle.fc_image.specs.Objects.{has_sectors}
+use Rattle.fc_image.specs.Walk.{Object, object_size}
+use Rattle.fc_laws.specs.nodes.Edits.{owner_with}
 use Rattle.fc_laws.proofs.lemmas.nodes.ListLemmas.{map_fixed}
 use Rattle.fc_oldchanges.proofs.PlaceLemmas.{row_or_none}
-use Rattle.fc_tree.specs.Nodes.{HoldObjects, number_of}
-use Rattle.fc_tree.specs.Parts.{AreOwners, first_in, owner_of}
+use Rattle.fc_tree.specs.Parts.{first_in}
 use Rattle.fc_tree.proofs.WalkedLemmas.{same_some}
-use Rattle.fc_change.specs.declared.change.Change.{Change}
-use Rattle.fc_change.specs.declared.change.Regrowth.{Regrowth}
-use Rattle.fc_change.specs.declared.change.Turned.{Turned}
-use Rattle.fc_change.specs.declared.change.Turned.TheVariants as turns
-use Rattle.fc_change.specs.After.{AreOwnersAfter, CanTurnOwner, HasPlaceFor, IsRegrownOwner, IsTurnedOwner, owners_admitted}
-use Rattle.fc_change.specs.Owned.{HasNoOwner, IsOwnerNow, entry_owner, owner_if, owners_with_room}
-use Rattle.fc_course.proofs.OwnerLemmas.{only_owner, owner_is}
+use Rattle.fc_change.specs.After.{HasPlaceFor}
+use Rattle.fc_change.specs.Owned.{IsOwnerNow, entry_owner, owner_if, owners_with_room}
 
 -- ---- as many sectors as the bytes need
 

@@ -1,5 +1,5 @@
 -- The target of a job, by any walk whose objects the nodes hold: where it lies, and what its directory is told.
-use Rattle.std.proofs.Common.{◌≡◌, ℕ, List, [], slice_get, refl, sym, ap, subst, ◌∙◌, Option, Some, None}
+use Rattle.std.proofs.Common.{◌≡◌, ℕ, List, [], slice_get, sym, ap, subst, ◌∙◌, Option, Some, None}
 use Rattle.std.specs.Prelude.{Contains, IsSome, is_some}
 use Rattle.std.specs.FinMap.{get}
 use Rattle.std.specs.Option.{option_map_or}

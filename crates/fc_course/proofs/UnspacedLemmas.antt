@@ -1,5 +1,5 @@
 -- `set` and `mark` are refused for want of space as what they want is: on a map that is sound, never.
-use Rattle.std.proofs.Common.{◌≡◌, ℕ, List, length, Option, Some, None, sym, ap, ◌∙◌}
+use Rattle.std.proofs.Common.{◌≡◌, List, length, None, sym, ap, ◌∙◌}
 use Rattle.fc_names.specs.Names.{Path}
 use Rattle.fc_alloc.specs.declared.owner.Owner.{Owner}
 use Rattle.fc_oldmap.specs.OldMap.{OldMapContent}
