@@ -1,12 +1,15 @@
 -- What is kept stays right over the inner disk's calls.
-use Rattle.std.proofs.Common.{◌≡◌, ◌⊎◌, inl, inr, ⊎_elim, ℕ, Bool, true, false, ◌+◌, ◌*◌, ◌≤◌, List, length, Option, Some, None, Result, Ok, Err, IsErr, nat_eq, option_map, Vec, refl, sym, ◌∙◌, ap, subst}
+use Rattle.std.proofs.Common.{◌≡◌, ◌⊎◌, inl, inr, ⊎_elim, ℕ, Bool, true, false, ◌+◌, ◌*◌, ◌<◌, ◌≤◌, List, length, Option, Some, None, Result, Ok, Err, IsErr, OnOk, nat_eq, option_map, Vec, refl, sym, ◌∙◌, ap, subst, arith}
 use Rattle.std.specs.Global.{Global}
 use Rattle.std.specs.Option.{ForSome}
-use Rattle.std.proofs.lemmas.Bool.{cases_eq}
-use Rattle.fc_device.specs.Sectors.{sector_at, with_sector}
-use Rattle.fc_device.proofs.SectorLemmas.{sector_at-with_sector_same, sector_at-with_sector_other}
+use Rattle.std.proofs.lemmas.Bool.{cases_eq, cases_lt}
+use Rattle.std.proofs.lemmas.Nat.{mul-le}
+use Rattle.std.proofs.lemmas.Result.{on_ok_weaker}
+use Rattle.fc_device.specs.Sectors.{sector_at, with_row, with_sector, IsMixOf}
+use Rattle.fc_device.specs.Stops.{HasRowPart, LeavesOnly, RowOldOrNew, SectorOldOrNew}
+use Rattle.fc_device.proofs.SectorLemmas.{length-with_row, mix_first, mix_second, with_row-one, sector_at-with_row_before, sector_at-with_row_behind, sector_at-with_sector_same, sector_at-with_sector_other}
 use Rattle.std.specs.Map.{remove_entry}
-use Rattle.fc_cache.specs.Sectors.{Holds, AreWhole, AreSectors, KeepsNoMore, KeepsRead, KeepsWritten, entries_of, is_kept}
+use Rattle.fc_cache.specs.Sectors.{Holds, HoldsNone, AreWhole, AreSectors, KeepsNoMore, KeepsRead, KeepsWritten, entries_of, is_kept}
 use Rattle.fc_cache.specs.declared.kept.Kept.{Kept}
 
 -- kept or not
@@ -83,3 +86,88 @@ module _ (old new : Kept) (size n : ℕ) (from : List ℕ) (told : Option (List 
   written_at told_now written image is =
       let at = before (λ (l : List ℕ). with_sector size l n from) told image (sym written ∙ is) in
       sym (ap (λ (l : List ℕ). sector_at size l n) at.is ∙ sector_at-with_sector_same size at.was n from long (fits at.was at.told_was))
+
+-- a row of sectors was written, whatever became of it
+module _ (old new : Kept) (size n count : ℕ) (from : List ℕ) (told : Option (List ℕ)) (long : length from ≡ count * size)
+    (fits : (image : List ℕ) → told ≡ Some image → n * size + count * size ≤ length image) where
+  -- the sectors outside it are as they were
+  outside : (was : List ℕ) → told ≡ Some was → (m : ℕ) → (m < n) ⊎ (n + count ≤ m) → sector_at size (with_row size was n from) m ≡ sector_at size was m
+  outside was is m where_it_is =
+      let room : n * size + length from ≤ length was = omega (arith, long, fits was is) in
+      ⊎_elim
+      (λ lt. sector_at-with_row_before size was n from room m lt)
+      (λ le.
+      let place : (n + count) * size ≡ n * size + count * size = grind arith in
+      sector_at-with_row_behind size was n from room m (omega (arith, long, place, mul-le (n + count) size m size le (omega arith))))
+      where_it_is
+
+  pub right_without_row : (told_now : Option (List ℕ)) → HasRowPart size n from told told_now → AreRight size told old → KeepsNoMore old new → HoldsNone n count new → AreRight size told_now new
+  right_without_row told_now part right less none image is m bytes there =
+      let at = part.told image is in
+      let now = part.part at.0 at.1 in
+      let mix : IsMixOf size at.0 (with_row size at.0 n from) image = subst (IsMixOf size at.0 (with_row size at.0 n from)) (one_image now.0 image (sym now.1 ∙ is)) now.2 in
+      let was = right at.0 at.1 m bytes (less m bytes there) in
+      ⊎_elim
+      (λ same. was ∙ sym same)
+      (λ written. was ∙ sym (written ∙ outside at.0 at.1 m (place m bytes there)))
+      (mix.each m)
+    where
+      one_image : (a b : List ℕ) → Some a ≡ Some b → a ≡ b
+      one_image a b e = cc
+
+      place : (m : ℕ) (bytes : Vec ℕ Global) → Holds new m bytes → (m < n) ⊎ (n + count ≤ m)
+      place m bytes there =
+          elim (cases_lt m n) [
+            | inl before ↦ inl before
+            | inr from_it ↦ elim (cases_lt m (n + count)) [
+              | inl in_it ↦ absurd (none m bytes from_it in_it there)
+              | inr past ↦ inr past
+            ]
+          ]
+
+-- ---- a row of one sector, which was written as that sector
+
+module _ (size n count : ℕ) (from : List ℕ) (one : count ≡ 1) (long : length from ≡ count * size) where
+  as_sector : (was : List ℕ) → with_row size was n from ≡ with_sector size was n from
+  as_sector was = with_row-one size was n from (long ∙ ap (λ (k : ℕ). k * size) one ∙ (let e : 1 * size ≡ size = omega arith in e))
+
+  pub row_written : {T E : Type 0} (result : Result T E) (told now : Option (List ℕ)) → OnOk result (now ≡ option_map (λ image. with_sector size image n from) told)
+      → OnOk result (now ≡ option_map (λ image. with_row size image n from) told)
+  row_written result told now written = on_ok_weaker result (λ is. is ∙ same told) written
+    where
+      same : (told : Option (List ℕ)) → option_map (λ image. with_sector size image n from) told ≡ option_map (λ image. with_row size image n from) told
+      same None = refl
+      same (Some was) = ap (λ (l : List ℕ). Some l) (sym (as_sector was))
+
+  mixed : (was image : List ℕ) → n * size + length from ≤ length was → (image ≡ was) ⊎ (image ≡ with_sector size was n from) → IsMixOf size was (with_row size was n from) image
+  mixed was image fits which =
+      ⊎_elim
+      (λ same. subst (IsMixOf size was (with_row size was n from)) (sym same) (mix_first size was (with_row size was n from)))
+      (λ new. subst (IsMixOf size was (with_row size was n from)) (as_sector was ∙ sym new) (mix_second size was (with_row size was n from) (length-with_row size was n from fits)))
+      which
+
+  pub row_part : (told now : Option (List ℕ)) → ((image : List ℕ) → told ≡ Some image → n * size + count * size ≤ length image)
+      → (now ≡ told) ⊎ (now ≡ option_map (λ image. with_sector size image n from) told) → HasRowPart size n from told now
+  row_part told now fits old_or_new = record {
+    part = λ was is.
+        let room : n * size + length from ≤ length was = omega (arith, long, fits was is) in
+        ⊎_elim
+        (λ same. (was, same ∙ is, mixed was was room (inl refl)))
+        (λ written. (with_sector size was n from, written ∙ ap (λ (t : Option (List ℕ)). option_map (λ image. with_sector size image n from) t) is, mixed was (with_sector size was n from) room (inr refl)))
+        old_or_new;
+    told = λ image is.
+        ⊎_elim
+        (λ same. (image, sym same ∙ is))
+        (λ written. let at = before (λ (l : List ℕ). with_sector size l n from) told image (sym written ∙ is) in (at.was, at.told_was))
+        old_or_new;
+  }
+
+  -- a crash leaves what it leaves of a row
+  pub row_stops : {D : Type 0} (moment : D → ℕ) (left_since : D → ℕ → List ℕ → Type 0) (old new : D) (images : List ℕ → Type 0)
+      → LeavesOnly moment left_since old new (SectorOldOrNew size n from images) → LeavesOnly moment left_since old new (RowOldOrNew size n from images)
+  row_stops moment left_since old new images leaves = record {
+    later = leaves.later;
+    since = λ image left. let at = leaves.since image left in (at.0, at.1, λ fits. mixed at.0 image fits at.2);
+    before = leaves.before;
+    keeps = leaves.keeps;
+  }

@@ -1,16 +1,16 @@
 -- The entries of a cache under their numbers.
-use Rattle.std.proofs.Common.{◌≡◌, ◌⊎◌, inl, inr, ⊎_elim, ℕ, Bool, true, false, nat_eq, cond, List, [], ◌∷◌, length, is_some, Contains, Some, None, Result, Ok, Err, OnOk, OnErr, Vec, refl, sym, ◌∙◌, ap, ap₂, subst, arith}
+use Rattle.std.proofs.Common.{◌≡◌, ◌⊎◌, inl, inr, ⊎_elim, ℕ, zero, suc, ◌+◌, Bool, true, false, nat_eq, cond, List, [], ◌∷◌, length, is_some, Contains, Some, None, Result, Ok, Err, OnOk, OnErr, Vec, refl, sym, ◌∙◌, ap, ap₂, subst, arith}
 use Rattle.std.proofs.lemmas.Bool.Decides.{nat_tests}
 use Rattle.std.proofs.lemmas.Map.{lookup-remove_entry}
 use Rattle.std.specs.Cmp.{nat_eq_equiv}
 use Rattle.std.specs.Global.{Global}
-use Rattle.std.specs.List.{IsDistinct}
+use Rattle.std.specs.List.{IsDistinct, range_with_len}
 use Rattle.std.specs.Map.{keys_of, lookup, remove_entry}
 use Rattle.lru.specs.LruCache.{LruCache, lru_cache, promoted, put_entries}
 use Rattle.lru.proofs.CallerLemmas.{Contains-lookup, Contains-put_entries}
 use Rattle.lru.proofs.Pairs.{promoted_absent}
 use Rattle.lru.proofs.Splits.{Contains-cons, Contains-nil}
-use Rattle.fc_cache.specs.Sectors.{IsPut}
+use Rattle.fc_cache.specs.Sectors.{IsPut, entries_without}
 
 same_number : (n k : ℕ) → nat_eq n k ≡ true → k ≡ n
 same_number n k test = grind (arith, nat_tests)
@@ -73,3 +73,13 @@ pub put_is : {T E : Type 0} (result : Result T E) (old new : LruCache ℕ (Vec �
 put_is (Ok x) old new n bytes from es same cap is ok err =
     inr (bytes, is, ap (λ (k : LruCache ℕ (Vec ℕ Global)). k.entries) ok ∙ ap₂ (λ (l : List (ℕ × Vec ℕ Global)) (k : ℕ). put_entries nat_eq (lru_cache l k) n bytes) (sym same) cap)
 put_is (Err e) old new n bytes from es same cap is ok err = inl (ap (λ (k : LruCache ℕ (Vec ℕ Global)). k.entries) err ∙ sym same)
+
+-- one sector more isn't among the entries
+pub entries_without-more : (first count : ℕ) (entries : List (ℕ × Vec ℕ Global))
+    → remove_entry (nat_eq (first + count)) (entries_without (range_with_len first count) entries) ≡ entries_without (range_with_len first (count + 1)) entries
+entries_without-more first zero entries =
+    ap (λ (k : ℕ). remove_entry (nat_eq k) entries) (let e : first + zero ≡ first = omega arith in e)
+entries_without-more first (suc count) entries =
+    ap (λ (k : ℕ). remove_entry (nat_eq k) (entries_without (range_with_len (first + 1) count) (remove_entry (nat_eq first) entries))) (let e : first + suc count ≡ first + 1 + count = omega arith in e)
+    ∙ entries_without-more (first + 1) count (remove_entry (nat_eq first) entries)
+    ∙ ap (λ (k : ℕ). entries_without (range_with_len first k) entries) (let e : suc (count + 1) ≡ suc count + 1 = omega arith in e)

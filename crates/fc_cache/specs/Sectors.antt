@@ -1,5 +1,5 @@
 -- The sectors that a cache keeps.
-use Rattle.std.specs.Prelude.{◌≡◌, ◌⊎◌, ℕ, Bool, Option, Some, None, is_some, List, [], length, nat_eq, Vec, Contains, Result, OnOk, OnErr, IsTrue, IsFalse}
+use Rattle.std.specs.Prelude.{◌≡◌, ◌⊎◌, ℕ, ◌+◌, ◌<◌, ◌≤◌, ◌∷◌, Bool, Option, Some, None, is_some, List, [], length, nat_eq, Vec, Contains, Result, OnOk, OnErr, IsTrue, IsFalse}
 use Rattle.std.specs.Global.{Global}
 use Rattle.std.specs.Map.{lookup, remove_entry}
 use Rattle.lru.specs.LruCache.{LruCache, lru_cache, promoted, put_entries}
@@ -33,6 +33,15 @@ AreSectors size image kept = (n : ℕ) (bytes : Vec ℕ Global) → Holds kept n
 -- nothing is kept that wasn't before
 abbrev pub KeepsNoMore : Kept → Kept → Type 0
 KeepsNoMore old new = (n : ℕ) (bytes : Vec ℕ Global) → Holds new n bytes → Holds old n bytes
+
+-- the entries but those of some sectors
+abbrev pub entries_without : List ℕ → List (ℕ × Vec ℕ Global) → List (ℕ × Vec ℕ Global)
+entries_without [] entries = entries
+entries_without (n ∷ sectors) entries = entries_without sectors (remove_entry (nat_eq n) entries)
+
+-- no sector of the row is kept
+abbrev pub HoldsNone : ℕ → ℕ → Kept → Type 0
+HoldsNone first sectors kept = (n : ℕ) (bytes : Vec ℕ Global) → first ≤ n → n < first + sectors → Holds kept n bytes → ⊥
 
 -- Sector n is kept with these bytes, as the one that was used last; or all is as it was, since no memory was found for it.
 abbrev pub IsPut : ℕ → List ℕ → List (ℕ × Vec ℕ Global) → List (ℕ × Vec ℕ Global) → Type 0

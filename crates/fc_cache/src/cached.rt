@@ -1,11 +1,12 @@
 // The cached disk itself.
 ghost use Rattle.std.specs.Prelude.{◌≡◌, ◌⊎◌, ◌≤◌, ◌<◌, ◌+◌, ◌*◌, ◌^◌, ◌++◌, true, false, None, Ok, [], ◌∷◌, length, replicate, option_map, is_some, IsTrue, IsFalse, IsOk, OnOk, OnErr, IfOk};
+ghost use Rattle.std.specs.List.{range_with_len};
 ghost use Rattle.std.specs.Option.{ForSome};
 ghost use Rattle.fc_device.specs.Faults.{HasCause};
 ghost use Rattle.fc_device.specs.Form.{KeepsForm, IsFresh, IsUntouched};
-ghost use Rattle.fc_device.specs.Sectors.{row_at, sector_at, with_sector};
-ghost use Rattle.fc_device.specs.Stops.{LeavesOnly, SectorOldOrNew, StillLeaves};
-ghost use Rattle.fc_cache.specs.Sectors.{entries_of, is_kept, AreSectors, AreWhole, KeepsRead, KeepsWritten};
+ghost use Rattle.fc_device.specs.Sectors.{row_at, sector_at, with_row, with_sector};
+ghost use Rattle.fc_device.specs.Stops.{HasRowPart, LeavesOnly, RowOldOrNew, SectorOldOrNew, StillLeaves};
+ghost use Rattle.fc_cache.specs.Sectors.{entries_of, entries_without, is_kept, AreSectors, AreWhole, KeepsRead, KeepsWritten};
 
 use crate::kept::Kept;
 use fc_device::{Disk, Extent, Failed};
@@ -202,6 +203,32 @@ impl<D: Disk> Disk for CachedDisk<D> {
         self.inner.write(n, from)?;
         self.kept.put(n, from);
         Ok(())
+    }
+
+    fn write_row(&mut self, row: Extent, from: &[u8]) -> Result<(), Failed>
+        requires attached { IsTrue (attached_of self.old) }
+        requires on_disk { row.first + row.sectors ≤ sectors_of self.old }
+        requires whole { length from.now ≡ row.sectors * size_of self.old }
+        ensures written { OnOk result (bytes_of self.new ≡ option_map (λ image. with_row (size_of self.old) image row.first from.now) (bytes_of self.old)) }
+        ensures old_or_new { HasRowPart (size_of self.old) row.first from.now (bytes_of self.old) (bytes_of self.new) }
+        ensures form { KeepsForm attached_of tells_stops_of gives_of asked_of sectors_of size_of length_of self.old self.new }
+        ensures stops { LeavesOnly moment_of left_of self.old self.new
+            (RowOldOrNew (size_of self.old) row.first from.now (left_of self.old (moment_of self.old))) }
+        ensures still { StillLeaves moment_of left_of self.old self.new }
+        ensures read_calls { reads_of self.new ≡ reads_of self.old }
+        ensures cause { HasCause (faults_of self.old) (faults_of self.new) result }
+
+        // A row of one sector is written as that sector. Of longer rows nothing is kept, since they would drive out the sectors that
+        // were used last.
+        ensures dropped { row.sectors ≡ 1 → OnErr result (is_kept self.new.kept row.first ≡ false) }
+        ensures keeps { row.sectors ≡ 1 → KeepsWritten row.first from.now self.old.kept self.new.kept result }
+        ensures kept { (row.sectors ≡ 1 → ⊥) → entries_of self.new.kept ≡ entries_without (range_with_len row.first row.sectors) (entries_of self.old.kept) }
+    {
+        if row.sectors == 1 {
+            return self.write(row.first, from);
+        }
+        self.kept.remove_row(row);
+        self.inner.write_row(row, from)
     }
 
     fn sync(&mut self) -> Result<(), Failed>

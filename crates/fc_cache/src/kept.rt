@@ -1,10 +1,12 @@
 // The sectors that are kept, by their numbers.
-ghost use Rattle.std.specs.Prelude.{◌≡◌, ◌⊎◌, false, ℕ, Some, [], length, nat_eq, Vec, IsTrue};
+ghost use Rattle.std.specs.Prelude.{◌≡◌, ◌⊎◌, ◌+◌, ◌<◌, ◌^◌, false, ℕ, Some, [], length, nat_eq, Vec, IsTrue};
 ghost use Rattle.std.specs.Global.{Global};
+ghost use Rattle.std.specs.List.{range_with_len};
 ghost use Rattle.std.specs.Map.{remove_entry};
 ghost use Rattle.std.specs.Option.{ForSome};
 ghost use Rattle.lru.specs.LruCache.{promoted};
 
+use fc_device::Extent;
 use lru::LruCache;
 use std::alloc::Global;
 use std::num::NonZeroUsize;
@@ -21,7 +23,7 @@ pub struct Kept {
 }
 
 impl Kept {
-    ghost use Rattle.fc_cache.specs.Sectors.{entries_of, is_kept, AreWhole, Holds, IsPut, KeepsNoMore};
+    ghost use Rattle.fc_cache.specs.Sectors.{entries_of, entries_without, is_kept, AreWhole, Holds, HoldsNone, IsPut, KeepsNoMore};
 
     /// Keeps nothing yet.
     pub fn new(alloc: Global) -> Kept
@@ -78,6 +80,18 @@ impl Kept {
             if cache.len() > 0 {
                 cache.pop(&n);
             }
+        }
+    }
+
+    /// Drops the sectors of a row.
+    pub fn remove_row(&mut self, row: Extent)
+        requires fits { row.first + row.sectors < 2 ^ 64 }
+        ensures none { HoldsNone row.first row.sectors self.new }
+        ensures order { entries_of self.new ≡ entries_without (range_with_len row.first row.sectors) (entries_of self.old) }
+        ensures no_more { KeepsNoMore self.old self.new }
+    {
+        for i in 0..row.sectors {
+            self.remove(row.first + i);
         }
     }
 

@@ -1,5 +1,5 @@
 -- The zones that change by what is taken of a new map and goes back.
-use Rattle.std.proofs.Common.{◌≡◌, ◌||◌, ◌++◌, ℕ, Bool, true, false, List, [], Option, Some, None, refl, ap, ap₂, ◌∙◌}
+use Rattle.std.proofs.Common.{◌≡◌, ◌||◌, ◌++◌, ℕ, Bool, true, false, List, [], ◌∷◌, length, ◌==◌, Option, Some, None, refl, sym, ap, ap₂, ◌∙◌}
 use Rattle.std.specs.Prelude.{filter}
 use Rattle.std.specs.Borrow.{Bor}
 use Rattle.std.specs.Option.{option_copied}
@@ -11,6 +11,7 @@ use Rattle.fc_plan.specs.Giving.{has_run_of}
 use Rattle.fc_plan.specs.Parts.{fronts, has_part}
 use Rattle.fc_writing.specs.Steps.{is_changed}
 use Rattle.fc_change.specs.GrownSpace.{plans_of}
+use Rattle.fc_change.specs.Steps.{IsNoStep}
 
 lent : (o : Option (Bor Plan)) → plan_in o ≡ option_copied o
 lent None = refl
@@ -42,3 +43,10 @@ zones_listed m object dir own grown gone old zones own_is grown_is none are =
     are ∙ ap (λ (xs : List ℕ). xs ++ filter (is_changed_by m (plan_in object) (plan_in dir) gone) (zone_numbers m.geometry)) none
     ∙ filter_same (is_changed_by m (plan_in object) (plan_in dir) gone) (is_changed m (plans_of own grown) gone) (zone_numbers m.geometry)
     (λ z at. ap₂ (λ (a b : Option Plan). is_changed_by m a b gone z) (lent object ∙ own_is) (lent dir ∙ grown_is) ∙ one_after m own grown gone z)
+
+-- Some identifiers go back.
+pub some_given : (gone : List ℕ) (count : ℕ) (empty : Bool) → length gone ≡ count → empty ≡ (count == 0) → empty ≡ false → IsNoStep [] gone None → ⊥
+some_given gone count empty long is none nothing =
+    let z : count ≡ 0 = sym long ∙ ap (λ (xs : List ℕ). length xs) nothing.gone_are in
+    let e : true ≡ false = sym (ap (λ (n : ℕ). n == 0) z) ∙ sym is ∙ none in
+    cc

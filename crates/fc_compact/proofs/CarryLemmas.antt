@@ -21,7 +21,7 @@ use Rattle.fc_copies.specs.declared.Which.TheVariants.{One}
 use Rattle.fc_copies.specs.Copies.{Chooses, CommitEnds, CommitLeaves, HoldsCopies, copy_of, is_sound}
 use Rattle.fc_copies.proofs.ReadingLemmas.{chooses_one}
 use Rattle.fc_image.specs.Layout.{Layout, hole_sectors, id_sectors, is_among}
-use Rattle.fc_image.specs.Objects.{is_movable, objects_of}
+use Rattle.fc_image.specs.Objects.{objects_of}
 use Rattle.fc_image.specs.Opening.{Opened, is_hole_or_movable}
 use Rattle.fc_image.specs.Stays.{IsNewKind, OpensAs}
 use Rattle.fc_image.specs.Walk.{Listing, Object}

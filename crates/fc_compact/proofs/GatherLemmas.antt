@@ -1,5 +1,5 @@
 -- Runs of a zone that move up into its holes by one commit.
-use Rattle.std.proofs.Common.{◌≡◌, ◌<◌, ◌≤◌, inl, inr, ℕ, zero, suc, ◌+◌, ◌-◌, ◌*◌, ◌/◌, ◌%◌, Bool, true, false, cond, List, [], ◌∷◌, ◌++◌, length, refl, sym, ap, ap₂, subst, ◌∙◌, arith, append_assoc}
+use Rattle.std.proofs.Common.{◌≡◌, ◌<◌, ◌≤◌, inl, inr, ℕ, ◌+◌, ◌-◌, ◌*◌, ◌/◌, ◌%◌, Bool, true, false, cond, List, [], ◌∷◌, ◌++◌, refl, sym, ap, ap₂, subst, ◌∙◌, arith, append_assoc}
 use Rattle.std.specs.Prelude.{◌||◌, filter, Contains}
 use Rattle.std.specs.List.{range_with_len}
 use Rattle.std.proofs.Math.Nat.{zero-mod}
@@ -7,15 +7,17 @@ use Rattle.std.proofs.lemmas.Bool.{cases_eq}
 use Rattle.std.proofs.lemmas.List.{map-append}
 use Rattle.std.proofs.lemmas.List.Elements.{Contains-append_right}
 use Rattle.fc_bytes.specs.Bits.{bits}
+use Rattle.fc_device.specs.Calls.{SameForm}
 use Rattle.fc_device.specs.declared.disk.Disk.{Ghosts}
+use Rattle.fc_device.proofs.DiskLaws.{Laws as DiskLaws, form_then}
 use Rattle.fc_record.specs.declared.Geometry.{Geometry}
 use Rattle.fc_zone.specs.declared.Run.{Run}
 use Rattle.fc_zone.specs.declared.RunKind.{RunKind}
 use Rattle.fc_zone.specs.declared.RunKind.TheVariants as kinds
 use Rattle.fc_zone.proofs.HolderLemmas.{run_spelled}
 use Rattle.fc_zone.proofs.ZoneLemmas.{Spells-le}
-use Rattle.fc_newmap.specs.Edits.{IsEdit, KeepsRuns}
-use Rattle.fc_newmap.specs.Map.{Map, ZoneRun, all_runs, first_sector, has_id, hole_runs, id_runs, is_hole, runs_of, sector_count, sector_of, sectors_of, shape, zone_numbers}
+use Rattle.fc_newmap.specs.Edits.{IsEdit}
+use Rattle.fc_newmap.specs.Map.{Map, ZoneRun, all_runs, first_sector, has_id, hole_runs, id_runs, is_hole, runs_of, sector_count, sector_of, shape, zone_numbers}
 use Rattle.fc_newmap.specs.NewMap.{IsNewMap}
 use Rattle.fc_newmap.specs.RunsLaw.{placed}
 use Rattle.fc_newmap.proofs.ComposeLemmas.{edit_none, edit_then, runs_other, zone_cut}
@@ -27,19 +29,20 @@ use Rattle.fc_image.specs.Layout.{Layout, disc_sectors, hole_sectors, id_sectors
 use Rattle.fc_image.specs.Moves.{Carried}
 use Rattle.fc_image.specs.effects.Moves.{Slid, before_holes, with_holes_joined}
 use Rattle.fc_compact.specs.Copying.{ChangesRow, IsCopied, TearsRow}
-use Rattle.fc_compact.specs.Gathering.{Carrying, Drawn, Fits, Gathers, IsGathered, fresh_of}
+use Rattle.fc_compact.specs.Gathering.{Carrying, Drawn, Gathers, IsGathered, Spares, StaysInHoles, fresh_of}
 use Rattle.fc_compact.specs.Joining.{are_holes, ids_in, joined}
 use Rattle.fc_compact.specs.Laws.{Laws}
 use Rattle.fc_compact.specs.Ready.{is_movable_by}
 use Rattle.fc_compact.specs.Settling.{one_if, run_weight, zone_weight}
-use Rattle.fc_compact.specs.Sliding.{HasRuns, hole_at, part, row, run_at}
+use Rattle.fc_compact.specs.Sliding.{HasRuns, hole_at, row, run_at}
 use Rattle.fc_compact.specs.Steps.{SamePart}
 use Rattle.fc_compact.specs.declared.gathering.Front.{Front}
 use Rattle.fc_compact.proofs.CarryLemmas.{carrying_more}
-use Rattle.fc_compact.proofs.FindLemmas.{first_row, hole_room, len_whole, run_follows, some_len}
+use Rattle.fc_compact.proofs.FindLemmas.{first_row, len_whole, run_follows, some_len}
 use Rattle.fc_compact.proofs.JoinLemmas.{count_up, disc_run}
 use Rattle.fc_compact.proofs.MergeLemmas.{weight_cons}
 use Rattle.fc_compact.proofs.PreservesLemmas.{geometry_is}
+use Rattle.fc_compact.proofs.RowLemmas.{kept_torn}
 use Rattle.fc_compact.proofs.ShiftLemmas.{part_some}
 use Rattle.fc_compact.proofs.SlidLemmas.{part_same, slid_falls}
 use Rattle.fc_compact.proofs.SlideLemmas.{count, count_more, count_none, hole_low, hole_on, on, place_more}
@@ -251,17 +254,11 @@ pub record OneMore (m w : Map) (owners : List Owner) (z : ℕ) (any : Bool) (s :
   pub cut : HasRuns w z (front ++ s.run ∷ rest)
   pub gathers : Gathers owners m w z any
   pub few : s.fresh ≤ s.run.len
-  pub in_holes : (i : ℕ) → i < sector_count m.geometry (z, record s.run { len = s.fresh }) → is_among (hole_sectors (Layout.New m)) (first_sector m.geometry (z, s.run) + i) ≡ true
 
 module _ (law : Laws) (m w w' : Map) (owners : List Owner) (z : ℕ) (low : z < m.geometry.zones) (any : Bool) (was : Gathers owners m w z any) (front ahead : List Run) (run next : Run)
-    (here : HasRuns w z (front ++ run ∷ (next ∷ ahead))) (fresh : ℕ) (few : fresh ≤ run.len) (passed : List Run) (behind : HasRuns m z (passed ++ next ∷ ahead))
-    (in_holes : (i : ℕ) → i < sector_count m.geometry (z, record run { len = fresh }) → is_among (hole_sectors (Layout.New m)) (first_sector m.geometry (z, run) + i) ≡ true)
-    (s : Front) (step : IsGathered owners w w' z run next fresh s) where
-  geo : w.geometry ≡ m.geometry
-  geo = was.edit.geometry
-
+    (here : HasRuns w z (front ++ run ∷ (next ∷ ahead))) (fresh : ℕ) (few : fresh ≤ run.len) (s : Front) (step : IsGathered owners w w' z run next fresh s) where
   low_w : z < w.geometry.zones
-  low_w = subst (λ (h : Geometry). z < h.zones) (sym geo) low
+  low_w = subst (λ (h : Geometry). z < h.zones) (sym was.edit.geometry) low
 
   is : IsNewMap w
   is = was.edit.map
@@ -280,16 +277,6 @@ module _ (law : Laws) (m w w' : Map) (owners : List Owner) (z : ℕ) (low : z < 
           let hole : Run = record run { start = run.start + next.len } in
           let falls = drawn_falls law w w' is z low_w front ahead run next id here fits.is_hole fits.is_run drawn in
           let before = was.falls in
-          let moved : (i : ℕ) → i < sector_count m.geometry (z, record hole { len = fresh - next.len }) → is_among (hole_sectors (Layout.New m)) (first_sector m.geometry (z, hole) + i) ≡ true =
-          λ i lt.
-          (let place : first_sector m.geometry (z, hole) ≡ first_sector m.geometry (z, run) + sector_count m.geometry (z, next) =
-          subst (λ (h : Geometry). first_sector h (z, hole) ≡ first_sector h (z, run) + sector_count h (z, next)) geo (drawn_place law w w' is z low_w front ahead run next id here fits.is_hole fits.is_run drawn) in
-          let count : sector_count m.geometry (z, record run { len = fresh }) ≡ sector_count m.geometry (z, next) + sector_count m.geometry (z, record run { len = fresh - next.len }) =
-          subst (λ (h : Geometry). sector_count h (z, record run { len = fresh }) ≡ sector_count h (z, next) + sector_count h (z, record run { len = fresh - next.len })) geo
-          (drawn_count law w w' is z low_w front ahead run next id here fits.is_hole fits.is_run drawn fresh fits.room) in
-          subst (λ (k : ℕ). is_among (hole_sectors (Layout.New m)) k ≡ true)
-          (let at : first_sector m.geometry (z, run) + (sector_count m.geometry (z, next) + i) ≡ first_sector m.geometry (z, hole) + i = omega (arith, place) in at)
-          (in_holes (sector_count m.geometry (z, next) + i) (omega (arith, lt, count)))) in
           record {
             front = front ++ gone ∷ [];
             cut = drawn.runs front ahead here ∙ sym (append_assoc front (gone ∷ []) (hole ∷ ahead)) ∙ ap (λ (r : Run). (front ++ gone ∷ []) ++ r ∷ ahead) (sym f.3);
@@ -301,8 +288,6 @@ module _ (law : Laws) (m w w' : Map) (owners : List Owner) (z : ℕ) (low : z < 
               same = λ h. absurd (let t = or_true any in cc);
             };
             few = (let a = ap (λ (r : Run). r.len) f.3 in let b = f.4 in omega (arith, a, b, few));
-            in_holes = subst (λ (r : Run). (i : ℕ) → i < sector_count m.geometry (z, record r { len = s.fresh }) → is_among (hole_sectors (Layout.New m)) (first_sector m.geometry (z, r) + i) ≡ true) (sym f.3)
-                (subst (λ (k : ℕ). (i : ℕ) → i < sector_count m.geometry (z, record hole { len = k }) → is_among (hole_sectors (Layout.New m)) (first_sector m.geometry (z, hole) + i) ≡ true) (sym f.4) moved);
           }
       by false e =
           let f = step.none e in
@@ -311,22 +296,70 @@ module _ (law : Laws) (m w w' : Map) (owners : List Owner) (z : ℕ) (low : z < 
             cut = ap (λ (n : Map). runs_of n z) f.0 ∙ here ∙ sym (append_assoc front (run ∷ []) (next ∷ ahead)) ∙ ap (λ (r : Run). (front ++ run ∷ []) ++ r ∷ ahead) (sym f.1);
             gathers = subst (λ (n : Map). Gathers owners m n z (any || false)) (sym f.0) (subst (λ (b : Bool). Gathers owners m w z b) (sym (or_false any)) was);
             few = (let a = ap (λ (r : Run). r.len) f.1 in let b = f.2 in let fit = front_fits next in omega (arith, a, b, fit));
-            in_holes = subst (λ (r : Run). (i : ℕ) → i < sector_count m.geometry (z, record r { len = s.fresh }) → is_among (hole_sectors (Layout.New m)) (first_sector m.geometry (z, r) + i) ≡ true) (sym f.1)
-                (subst (λ (k : ℕ). (i : ℕ) → i < sector_count m.geometry (z, record next { len = k }) → is_among (hole_sectors (Layout.New m)) (first_sector m.geometry (z, next) + i) ≡ true) (sym f.2)
-                (start_front m was.edit.was z low passed ahead next behind));
           }
 
-  pub more_carrying : (before image : List ℕ)
+-- the sectors of a run's front are those of a hole of the map m
+abbrev pub FrontIn : Map → ℕ → Run → ℕ → Type 0
+FrontIn m z run fresh =
+    (i : ℕ) → i < sector_count m.geometry (z, record run { len = fresh }) → is_among (hole_sectors (Layout.New m)) (first_sector m.geometry (z, run) + i) ≡ true
+
+-- a map m from which on runs of other zones may have been drawn
+module _ (law : Laws) (m w w' : Map) (owners : List Owner) (z : ℕ) (is_m : IsNewMap m) (is : IsNewMap w) (geo : w.geometry ≡ m.geometry) (low : z < m.geometry.zones) (front ahead : List Run) (run next : Run)
+    (here : HasRuns w z (front ++ run ∷ (next ∷ ahead))) (fresh : ℕ) (few : fresh ≤ run.len) (in_holes : FrontIn m z run fresh) (s : Front) (step : IsGathered owners w w' z run next fresh s) where
+  low_z : z < w.geometry.zones
+  low_z = subst (λ (h : Geometry). z < h.zones) (sym geo) low
+
+  pub front_more : (passed : List Run) → HasRuns m z (passed ++ next ∷ ahead) → FrontIn m z s.run s.fresh
+  front_more passed behind = by s.moved refl
+    where
+      by : (b : Bool) → s.moved ≡ b → FrontIn m z s.run s.fresh
+      by true e =
+          let f = step.some e in
+          let id = f.0 in
+          let fits = f.1 in
+          let drawn = f.2 in
+          let hole : Run = record run { start = run.start + next.len } in
+          let moved : FrontIn m z hole (fresh - next.len) =
+          λ i lt.
+          (let place : first_sector m.geometry (z, hole) ≡ first_sector m.geometry (z, run) + sector_count m.geometry (z, next) =
+          subst (λ (h : Geometry). first_sector h (z, hole) ≡ first_sector h (z, run) + sector_count h (z, next)) geo (drawn_place law w w' is z low_z front ahead run next id here fits.is_hole fits.is_run drawn) in
+          let count : sector_count m.geometry (z, record run { len = fresh }) ≡ sector_count m.geometry (z, next) + sector_count m.geometry (z, record run { len = fresh - next.len }) =
+          subst (λ (h : Geometry). sector_count h (z, record run { len = fresh }) ≡ sector_count h (z, next) + sector_count h (z, record run { len = fresh - next.len })) geo
+          (drawn_count law w w' is z low_z front ahead run next id here fits.is_hole fits.is_run drawn fresh fits.room) in
+          subst (λ (k : ℕ). is_among (hole_sectors (Layout.New m)) k ≡ true)
+          (let at : first_sector m.geometry (z, run) + (sector_count m.geometry (z, next) + i) ≡ first_sector m.geometry (z, hole) + i = omega (arith, place) in at)
+          (in_holes (sector_count m.geometry (z, next) + i) (omega (arith, lt, count)))) in
+          subst (λ (r : Run). FrontIn m z r s.fresh) (sym f.3) (subst (λ (k : ℕ). FrontIn m z hole k) (sym f.4) moved)
+      by false e =
+          let f = step.none e in
+          subst (λ (r : Run). FrontIn m z r s.fresh) (sym f.1) (subst (λ (k : ℕ). FrontIn m z next k) (sym f.2) (start_front m is_m z low passed ahead next behind))
+
+  pub more_carrying : ((k : ℕ) → is_movable_by owners k ≡ false → id_runs w k ≡ id_runs m k) → (before image : List ℕ)
       → ChangesRow m.geometry.sector (first_sector w.geometry (z, run)) (sector_count w.geometry (z, record run { len = fresh })) before image
       → (s.moved ≡ true → IsCopied w.geometry.sector (first_sector w.geometry (z, next)) (first_sector w.geometry (z, run)) (sector_count w.geometry (z, next)) image)
       → (s.moved ≡ false → image ≡ before) → Carrying m w owners before → Carrying m w' owners image
-  more_carrying before image row copied same carrying = by s.moved refl
+  more_carrying fixed before image row copied same carrying = by s.moved refl
     where
       by : (b : Bool) → s.moved ≡ b → Carrying m w' owners image
       by true e =
           let f = step.some e in
           let fits = f.1 in
-          drawn_carrying law w w' is z low_w front ahead run next f.0 here fits.is_hole fits.is_run f.2 m owners was.edit.was geo was.fixed fits.movable fresh few fits.room
+          drawn_carrying law w w' is z low_z front ahead run next f.0 here fits.is_hole fits.is_run f.2 m owners is_m geo fixed fits.movable fresh few fits.room
           (subst (λ (h : Geometry). (i : ℕ) → i < sector_count h (z, record run { len = fresh }) → is_among (hole_sectors (Layout.New m)) (first_sector h (z, run) + i) ≡ true) (sym geo) in_holes)
           before image row (copied e) carrying
       by false e = subst (λ (n : Map). Carrying m n owners image) (sym (step.none e).0) (subst (Carrying m w owners) (sym (same e)) carrying)
+
+-- a front more is written
+pub front_kept : {D : Type 0} {d : Ghosts D} (law : DiskLaws d) {old mid new : D} (n m w : Map) (owners : List Owner) (z : ℕ) (spares : Spares n m owners z) (is : IsNewMap w) (geo : w.geometry ≡ m.geometry)
+    (low : z < m.geometry.zones) (front rest : List Run) (run : Run) (cut : HasRuns w z (front ++ run ∷ rest)) (fresh : ℕ) (few : fresh ≤ run.len) (in_holes : FrontIn n z run fresh)
+    → SameForm d old mid → d.sector_size old ≡ m.geometry.sector → disc_sectors (Layout.New m) ≤ d.sectors old → Turned d mid new w.geometry z run fresh
+    → StaysInHoles d old mid n → StaysInHoles d old new n
+front_kept {d = d} law {old} {mid} {new} n m w owners z spares is geo low front rest run cut fresh few in_holes form size disc tears kept start first before =
+    let both : w.geometry ≡ n.geometry = geo ∙ spares.geometry in
+    let on_disc = front_on_disc w is z (subst (λ (h : Geometry). z < h.zones) (sym geo) low) front rest run cut fresh few in
+    let same : disc_sectors (Layout.New w) ≡ disc_sectors (Layout.New m) = ap (λ (h : Geometry). h.disc_bits * h.bit_bytes / h.sector) geo in
+    let stay = first.sectors_stay in
+    kept_torn n (first_sector n.geometry (z, run)) (sector_count n.geometry (z, record run { len = fresh })) in_holes law (form_then d first form)
+    (form.size_stays ∙ size ∙ ap (λ (h : Geometry). h.sector) spares.geometry)
+    (subst (λ (h : Geometry). first_sector h (z, run) + sector_count h (z, record run { len = fresh }) ≤ d.sectors start) both (omega (arith, on_disc, same, disc, stay)))
+    (kept start first before) (subst (λ (h : Geometry). Turned d mid new h z run fresh) both tears)

@@ -10,7 +10,7 @@ mod FindLemmas
 mod StepLemmas
 mod CarryLemmas
 mod GatherLemmas
-mod GatheredLemmas
+mod DrawnLemmas
 mod LeadsLemmas
 mod ReleaseLemmas
 mod ListedLemmas

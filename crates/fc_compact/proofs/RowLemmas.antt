@@ -4,7 +4,7 @@ use Rattle.std.specs.Option.{ForSome}
 use Rattle.std.proofs.lemmas.Bool.{cases_eq}
 use Rattle.fc_device.specs.Calls.{SameForm, StopsAndExitsLeave}
 use Rattle.fc_device.specs.Sectors.{sector_at, with_sector}
-use Rattle.fc_device.specs.Stops.{Keeps, LeavesOnly, SectorOldOrNew}
+use Rattle.fc_device.specs.Stops.{LeavesOnly, SectorOldOrNew}
 use Rattle.fc_device.specs.declared.disk.Disk.{Ghosts}
 use Rattle.fc_device.proofs.DiskLaws.{Laws as DiskLaws, sector_fits}
 use Rattle.fc_device.proofs.SectorLemmas.{length-with_sector, sector_at-with_sector_same, sector_at-with_sector_other}

@@ -1,15 +1,22 @@
 -- Several moves that one commit makes current: copies in holes of a map, and the map by which they count.
-use Rattle.std.specs.Prelude.{◌≡◌, ◌<◌, ◌≤◌, ◌⊎◌, ℕ, ◌+◌, ◌-◌, Bool, true, false, List, ◌∷◌, ◌++◌, map, if◌then◌else◌}
+use Rattle.std.specs.Prelude.{◌≡◌, ◌<◌, ◌≤◌, ◌⊎◌, ℕ, ◌+◌, ◌-◌, Bool, true, false, List, [], ◌∷◌, ◌++◌, map, if◌then◌else◌, All}
+use Rattle.std.specs.List.{sum_by}
+use Rattle.std.specs.List.Sorted.{IsStrictlyIncreasing}
+use Rattle.fc_device.specs.Calls.{SameForm, StopsAndExitsLeave}
 use Rattle.fc_device.specs.Sectors.{sector_at}
+use Rattle.fc_device.specs.declared.disk.Disk.{Ghosts}
 use Rattle.fc_zone.specs.declared.Run.{Run}
 use Rattle.fc_zone.specs.declared.RunKind.TheVariants.{Hole, Id}
 use Rattle.fc_newmap.specs.Edits.{IsEdit}
-use Rattle.fc_newmap.specs.Map.{Map, id_runs, is_hole, runs_of}
+use Rattle.fc_newmap.specs.Map.{Map, id_runs, is_hole, runs_of, zone_numbers}
+use Rattle.fc_newmap.specs.NewMap.{IsNewMap}
 use Rattle.fc_alloc.specs.declared.owner.Owner.{Owner}
 use Rattle.fc_image.specs.Layout.{Layout, hole_sectors, id_sectors, is_among}
 use Rattle.fc_compact.specs.Compacting.{loose_sectors}
 use Rattle.fc_compact.specs.declared.gathering.Front.{Front}
-use Rattle.fc_compact.specs.Joining.{ids_in}
+use Rattle.fc_compact.specs.declared.gathering.Gathered.{Gathered}
+use Rattle.fc_compact.specs.Copying.{ChangesHoles}
+use Rattle.fc_compact.specs.Joining.{EditsListed, ids_in}
 use Rattle.fc_compact.specs.Ready.{is_movable_by}
 use Rattle.fc_compact.specs.Settling.{one_if, zone_weight}
 use Rattle.fc_compact.specs.Sliding.{HasRuns}
@@ -68,9 +75,51 @@ pub record Gathers (owners : List Owner) (m m' : Map) (z : ℕ) (any : Bool) : T
   pub falls : zone_weight (runs_of m' z) + one_if any ≤ zone_weight (runs_of m z)
   pub same : any ≡ false → m' ≡ m
 
--- So they have, and are committed.
-pub record HasGathered (owners : List Owner) (m m' : Map) (z : ℕ) (any : Bool) : Type 0 where
+-- From m to w movable runs have moved, but none of zone z.
+pub record Spares (m w : Map) (owners : List Owner) (z : ℕ) : Type 0 where
+  pub was : IsNewMap m
+  pub geometry : w.geometry ≡ m.geometry
+  pub fixed : (id : ℕ) → is_movable_by owners id ≡ false → id_runs w id ≡ id_runs m id
+  pub runs : runs_of w z ≡ runs_of m z
+
+-- If a crash since some start and every exit left changes in the map's holes alone, so they do after this.
+abbrev pub StaysInHoles : {D : Type 0} → Ghosts D → D → D → Map → Type 0
+StaysInHoles {D = D} d old new m = (start : D) → SameForm d start old → StopsAndExitsLeave d start old (ChangesHoles m) → StopsAndExitsLeave d start new (ChangesHoles m)
+
+-- Movable runs of one zone have moved up, and holes that touched are one.
+pub record HasDrawn (owners : List Owner) (m m' : Map) (z : ℕ) (any : Bool) : Type 0 where
   pub packs : Packs owners m m'
-  pub others : (y : ℕ) → (y ≡ z → ⊥) → runs_of m' y ≡ runs_of m y
+  pub edit : IsEdit m m' z
   pub falls : zone_weight (runs_of m' z) + one_if any ≤ zone_weight (runs_of m z)
   pub same : any ≡ false → m' ≡ m
+
+-- In a zone from `from` on and before `end` the weight of the runs has fallen.
+pub record FallsIn (m m' : Map) (from end : ℕ) : Type 0 where
+  pub zone : ℕ
+  pub low : from ≤ zone
+  pub high : zone < end
+  pub falls : zone_weight (runs_of m' zone) + 1 ≤ zone_weight (runs_of m zone)
+
+-- Movable runs of these zones have moved up, of which each is from `from` on and before `end`.
+pub record GathersZones (owners : List Owner) (m m' : Map) (from end : ℕ) (zones : List ℕ) : Type 0 where
+  pub packs : Packs owners m m'
+  pub edits : EditsListed m m' zones
+  pub rising : IsStrictlyIncreasing zones
+  pub low : All (λ y. from ≤ y) zones
+  pub high : All (λ y. y < end) zones
+  pub less : (y : ℕ) → zone_weight (runs_of m' y) ≤ zone_weight (runs_of m y)
+  pub falls : (zones ≡ [] → ⊥) → FallsIn m m' from end
+  pub same : zones ≡ [] → m' ≡ m
+
+-- So they have, and are committed.
+pub record HasGathered (owners : List Owner) (m m' : Map) (from end : ℕ) (s : Gathered) : Type 0 where
+  pub next : from < s.next
+  pub packs : Packs owners m m'
+  pub others : (y : ℕ) → (y < from) ⊎ (end ≤ y) → runs_of m' y ≡ runs_of m y
+  pub less : (y : ℕ) → zone_weight (runs_of m' y) ≤ zone_weight (runs_of m y)
+  pub falls : s.any ≡ true → FallsIn m m' from end
+  pub same : s.any ≡ false → m' ≡ m
+
+-- the weight of the runs of all zones
+abbrev pub all_weight : Map → ℕ
+all_weight m = sum_by (λ y. zone_weight (runs_of m y)) (zone_numbers m.geometry)

@@ -77,7 +77,7 @@ fn is_changed(map: &NewMap, z: u16, id: u32, zone: u16) -> bool
 }
 
 // Appends a number to a list, if it is flagged.
-fn push_if(changed: &mut ArrayVec<u16, 9>, z: u16, flag: bool)
+pub fn push_if(changed: &mut ArrayVec<u16, 9>, z: u16, flag: bool)
     requires { flag ≡ true → length changed.old.items < 9 }
     ensures { changed.new.items ≡ (if flag then changed.old.items ++ z ∷ [] else changed.old.items) }
 {

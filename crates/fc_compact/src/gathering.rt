@@ -1,22 +1,25 @@
-// Runs that move up into the holes of their zone by one commit, as many as there is room for.
-ghost use Rattle.std.specs.Prelude.{◌≡◌, ◌<◌, ◌≤◌, ◌+◌, ◌*◌, ◌++◌, ◌∷◌, true, false, ℕ, List, IsTrue, IsFalse, OnOk, IfOk, IfSome};
+// Runs that move up into the holes of their zones, as many as there is room for, by one commit of at most nine zones.
+ghost use Rattle.std.specs.Prelude.{◌≡◌, ◌<◌, ◌≤◌, ◌+◌, ◌*◌, ◌++◌, ◌∷◌, [], true, false, ℕ, List, IsTrue, IsFalse, OnOk, IfOk, IfSome};
 ghost use Rattle.std.specs.Option.{ForSome};
 ghost use Rattle.fc_device.specs.Calls.{FailsByFault, SameForm, StopsAndExitsLeave};
 ghost use Rattle.fc_zone.specs.declared.Run.{Run};
-ghost use Rattle.fc_newmap.specs.Map.{first_sector, sector_count};
+ghost use Rattle.fc_newmap.specs.Map.{Map, first_sector, sector_count};
 ghost use Rattle.fc_image.specs.Layout.{Layout, disc_sectors};
 ghost use Rattle.fc_compact.specs.Copying.{ChangesHoles, IsCopied, TearsRow};
 ghost use Rattle.fc_compact.specs.Ready.{IsReady, is_movable_by};
 ghost use Rattle.fc_compact.specs.Sliding.{HasRuns};
-ghost use Rattle.fc_compact.specs.Steps.{Preserves};
+ghost use Rattle.fc_compact.specs.Settling.{one_if};
+ghost use Rattle.fc_compact.specs.Steps.{Packs, Preserves};
 
 use crate::copying::copy_row;
+use crate::finding::push_if;
 use crate::laws;
 use crate::settling::is_movable;
 use crate::shifting::shift;
-use crate::sliding::commit_zone;
 use crate::touching::join_holes_in;
+use arrayvec::ArrayVec;
 use fc_alloc::Owners;
+use fc_copies::commit;
 use fc_device::{Disk, DiskFault};
 use fc_newmap::{NewMap, extent_of};
 use fc_zone::{Run, RunKind};
@@ -29,7 +32,14 @@ pub struct Front {
     pub moved: bool,
 }
 
-ghost use Rattle.fc_compact.specs.Gathering.{CanDraw, Carrying, Drawn, Fits, Gathers, HasGathered, IsGathered, fresh_of};
+/// How far a gathering came: the zone after those that were looked at, and whether a run was drawn.
+#[derive(Clone, Copy, Debug)]
+pub struct Gathered {
+    pub next: u16,
+    pub any: bool,
+}
+
+ghost use Rattle.fc_compact.specs.Gathering.{CanDraw, Carrying, Drawn, Fits, Gathers, GathersZones, HasDrawn, HasGathered, IsGathered, Spares, StaysInHoles, all_weight, fresh_of};
 
 // The bits of a run that are a hole.
 fn fresh_of(run: Run) -> u32
@@ -143,6 +153,8 @@ fn gather_pair<D: Disk>(
 
 // Draws runs up into the holes of a zone, from its front to its back, each into what was a hole when this began. Nothing is
 // synced or committed. Answers whether one was.
+//
+// Before, runs of other zones may have been drawn: what holds of them from a map on holds of these runs too.
 fn gather_runs<D: Disk>(
     disk: &mut D,
     map: &mut NewMap,
@@ -150,12 +162,12 @@ fn gather_runs<D: Disk>(
     z: u16,
 ) -> Result<bool, DiskFault>
     requires attached { IsTrue (D.attached disk.old) }
-    requires settled { IsFalse (D.pending disk.old) }
     requires size { D.sector_size disk.old ≡ map.old.geometry.sector }
     requires disc { disc_sectors (Layout.New map.old) ≤ D.sectors disk.old }
     requires zone { z < map.old.geometry.zones }
-    ensures kept { StopsAndExitsLeave D.Disk disk.old disk.new (ChangesHoles map.old) }
-    ensures carrying { OnOk result (ForSome (D.bytes disk.new) (Carrying map.old map.new owners.now)) }
+    ensures kept { (m : Map) → Spares m map.old owners.now z → StaysInHoles D.Disk disk.old disk.new m }
+    ensures carrying { (m : Map) → Spares m map.old owners.now z → ForSome (D.bytes disk.old) (Carrying m map.old owners.now)
+        → OnOk result (ForSome (D.bytes disk.new) (Carrying m map.new owners.now)) }
     ensures gathers { IfOk result (Gathers owners.now map.old map.new z) }
     ensures still { IfOk result (λ any. any ≡ false → disk.new ≡ disk.old) }
     ensures geometry { map.new.geometry ≡ map.old.geometry }
@@ -179,25 +191,24 @@ fn gather_runs<D: Disk>(
     Ok(any)
 }
 
-// Draws runs up into the holes of a zone, joins holes that touch, and commits the zone once. Answers whether a run was drawn.
-pub fn gather<D: Disk>(
+// Draws runs up into the holes of a zone, and joins holes that touch. Nothing is synced or committed. Answers whether a run
+// was drawn.
+fn gather_zone<D: Disk>(
     disk: &mut D,
     map: &mut NewMap,
     owners: &Owners,
     z: u16,
 ) -> Result<bool, DiskFault>
     requires attached { IsTrue (D.attached disk.old) }
-    requires settled { IsFalse (D.pending disk.old) }
     requires size { D.sector_size disk.old ≡ map.old.geometry.sector }
-    requires on_disk { map.old.geometry.map_sector + 2 * map.old.geometry.zones ≤ D.sectors disk.old }
     requires disc { disc_sectors (Layout.New map.old) ≤ D.sectors disk.old }
-    requires ready { ForSome (D.bytes disk.old) (IsReady map.old owners.now) }
     requires zone { z < map.old.geometry.zones }
-    ensures keeps { StopsAndExitsLeave D.Disk disk.old disk.new (Preserves map.old owners.now) }
-    ensures ready { OnOk result (ForSome (D.bytes disk.new) (IsReady map.new owners.now)) }
-    ensures gathered { IfOk result (HasGathered owners.now map.old map.new z) }
+    ensures kept { (m : Map) → Spares m map.old owners.now z → StaysInHoles D.Disk disk.old disk.new m }
+    ensures carrying { (m : Map) → Spares m map.old owners.now z → ForSome (D.bytes disk.old) (Carrying m map.old owners.now)
+        → OnOk result (ForSome (D.bytes disk.new) (Carrying m map.new owners.now)) }
+    ensures drawn { IfOk result (HasDrawn owners.now map.old map.new z) }
+    ensures still { IfOk result (λ any. any ≡ false → disk.new ≡ disk.old) }
     ensures geometry { map.new.geometry ≡ map.old.geometry }
-    ensures durable { OnOk result (IsFalse (D.pending disk.new)) }
     ensures form { SameForm D.Disk disk.old disk.new }
     ensures cause { FailsByFault D.Disk disk.old disk.new result }
 {
@@ -208,7 +219,139 @@ pub fn gather<D: Disk>(
         return Ok(false);
     }
     join_holes_in(map, z);
-    disk.sync()?;
-    commit_zone(disk, map, z)?;
     Ok(true)
+}
+
+// Draws runs up in the zones from `from` on and before `end`, until nine have changed, and lists these. Nothing is synced or
+// committed. Answers the zone after those that were looked at.
+fn gather_zones<D: Disk>(
+    disk: &mut D,
+    map: &mut NewMap,
+    owners: &Owners,
+    from: u16,
+    end: u16,
+    changed: &mut ArrayVec<u16, 9>,
+) -> Result<u16, DiskFault>
+    requires attached { IsTrue (D.attached disk.old) }
+    requires settled { IsFalse (D.pending disk.old) }
+    requires size { D.sector_size disk.old ≡ map.old.geometry.sector }
+    requires disc { disc_sectors (Layout.New map.old) ≤ D.sectors disk.old }
+    requires some { from < end }
+    requires end { end ≤ map.old.geometry.zones }
+    requires none { changed.old.items ≡ [] }
+    ensures kept { StopsAndExitsLeave D.Disk disk.old disk.new (ChangesHoles map.old) }
+    ensures carrying { OnOk result (ForSome (D.bytes disk.new) (Carrying map.old map.new owners.now)) }
+    ensures gathers { OnOk result (GathersZones owners.now map.old map.new from end changed.new.items) }
+    ensures next { IfOk result (λ next. from < next) }
+    ensures still { OnOk result (changed.new.items ≡ [] → disk.new ≡ disk.old) }
+    ensures geometry { map.new.geometry ≡ map.old.geometry }
+    ensures form { SameForm D.Disk disk.old disk.new }
+    ensures cause { FailsByFault D.Disk disk.old disk.new result }
+{
+    laws();
+    map.is_map();
+    for z in from..end {
+        if changed.is_full() {
+            return Ok(z);
+        }
+        let any = gather_zone(disk, map, owners, z)?;
+        push_if(changed, z, any);
+    }
+    Ok(end)
+}
+
+// Draws runs up into the holes of the zones from `from` on and before `end`, until nine zones have changed, joins holes that
+// touch, and commits these zones once.
+pub fn gather<D: Disk>(
+    disk: &mut D,
+    map: &mut NewMap,
+    owners: &Owners,
+    from: u16,
+    end: u16,
+) -> Result<Gathered, DiskFault>
+    requires attached { IsTrue (D.attached disk.old) }
+    requires settled { IsFalse (D.pending disk.old) }
+    requires size { D.sector_size disk.old ≡ map.old.geometry.sector }
+    requires on_disk { map.old.geometry.map_sector + 2 * map.old.geometry.zones ≤ D.sectors disk.old }
+    requires disc { disc_sectors (Layout.New map.old) ≤ D.sectors disk.old }
+    requires ready { ForSome (D.bytes disk.old) (IsReady map.old owners.now) }
+    requires some { from < end }
+    requires end { end ≤ map.old.geometry.zones }
+    ensures keeps { StopsAndExitsLeave D.Disk disk.old disk.new (Preserves map.old owners.now) }
+    ensures ready { OnOk result (ForSome (D.bytes disk.new) (IsReady map.new owners.now)) }
+    ensures gathered { IfOk result (HasGathered owners.now map.old map.new from end) }
+    ensures geometry { map.new.geometry ≡ map.old.geometry }
+    ensures durable { OnOk result (IsFalse (D.pending disk.new)) }
+    ensures form { SameForm D.Disk disk.old disk.new }
+    ensures cause { FailsByFault D.Disk disk.old disk.new result }
+{
+    laws();
+    map.is_map();
+    let mut changed: ArrayVec<u16, 9> = ArrayVec::new();
+    let next = gather_zones(disk, map, owners, from, end, &mut changed)?;
+    if changed.is_empty() {
+        return Ok(Gathered { next, any: false });
+    }
+    disk.sync()?;
+    commit(disk, map, &changed)?;
+    Ok(Gathered { next, any: true })
+}
+
+// Draws runs up in all zones, nine zones to a commit. Answers whether one was drawn.
+fn gather_all<D: Disk>(disk: &mut D, map: &mut NewMap, owners: &Owners) -> Result<bool, DiskFault>
+    requires attached { IsTrue (D.attached disk.old) }
+    requires settled { IsFalse (D.pending disk.old) }
+    requires size { D.sector_size disk.old ≡ map.old.geometry.sector }
+    requires on_disk { map.old.geometry.map_sector + 2 * map.old.geometry.zones ≤ D.sectors disk.old }
+    requires disc { disc_sectors (Layout.New map.old) ≤ D.sectors disk.old }
+    requires ready { ForSome (D.bytes disk.old) (IsReady map.old owners.now) }
+    ensures keeps { StopsAndExitsLeave D.Disk disk.old disk.new (Preserves map.old owners.now) }
+    ensures ready { OnOk result (ForSome (D.bytes disk.new) (IsReady map.new owners.now)) }
+    ensures packs { OnOk result (Packs owners.now map.old map.new) }
+    ensures falls { IfOk result (λ any. all_weight map.new + one_if any ≤ all_weight map.old) }
+    ensures geometry { map.new.geometry ≡ map.old.geometry }
+    ensures durable { OnOk result (IsFalse (D.pending disk.new)) }
+    ensures form { SameForm D.Disk disk.old disk.new }
+    ensures cause { FailsByFault D.Disk disk.old disk.new result }
+{
+    laws();
+    map.is_map();
+    let zones = map.geometry().zones;
+    let mut next = 0;
+    let mut any = false;
+    while next < zones {
+        let step = gather(disk, map, owners, next, zones)?;
+        next = step.next;
+        any |= step.any;
+    }
+    Ok(any)
+}
+
+// Draws runs up in all zones, again and again until none moves.
+pub fn gather_rounds<D: Disk>(
+    disk: &mut D,
+    map: &mut NewMap,
+    owners: &Owners,
+) -> Result<(), DiskFault>
+    requires attached { IsTrue (D.attached disk.old) }
+    requires settled { IsFalse (D.pending disk.old) }
+    requires size { D.sector_size disk.old ≡ map.old.geometry.sector }
+    requires on_disk { map.old.geometry.map_sector + 2 * map.old.geometry.zones ≤ D.sectors disk.old }
+    requires disc { disc_sectors (Layout.New map.old) ≤ D.sectors disk.old }
+    requires ready { ForSome (D.bytes disk.old) (IsReady map.old owners.now) }
+    ensures keeps { StopsAndExitsLeave D.Disk disk.old disk.new (Preserves map.old owners.now) }
+    ensures ready { OnOk result (ForSome (D.bytes disk.new) (IsReady map.new owners.now)) }
+    ensures packs { OnOk result (Packs owners.now map.old map.new) }
+    ensures geometry { map.new.geometry ≡ map.old.geometry }
+    ensures durable { OnOk result (IsFalse (D.pending disk.new)) }
+    ensures form { SameForm D.Disk disk.old disk.new }
+    ensures cause { FailsByFault D.Disk disk.old disk.new result }
+{
+    laws();
+    map.is_map();
+    let mut any = true;
+    while any {
+        any = gather_all(disk, map, owners)?;
+    }
+    Ok(())
 }

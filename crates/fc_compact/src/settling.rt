@@ -13,7 +13,7 @@ ghost use Rattle.fc_compact.specs.Sliding.{HasRuns};
 ghost use Rattle.fc_compact.specs.Steps.{Packs, Preserves};
 
 use crate::finding::walk_in;
-use crate::gathering::gather;
+use crate::gathering::{gather, gather_rounds};
 use crate::laws;
 use crate::sliding::{commit_zone, slide};
 use fc_alloc::Owners;
@@ -231,6 +231,15 @@ fn is_settled_in(map: &NewMap, owners: &Owners, z: u16) -> bool
     true
 }
 
+// The end of the range that is one zone.
+fn end_of(g: &Geometry, z: u16) -> u16
+    requires { z < g.now.zones }
+    ensures { result ≡ z + 1 }
+{
+    let after = g.zones - z - 1;
+    g.zones - after
+}
+
 // Takes the steps that are left in a zone: all that one commit can, or if it can none, one after another. Answers whether one
 // was taken.
 fn settle_more<D: Disk>(
@@ -256,8 +265,9 @@ fn settle_more<D: Disk>(
 {
     laws();
     map.is_map();
-    let gathered = gather(disk, map, owners, z)?;
-    if gathered {
+    let end = end_of(map.geometry(), z);
+    let gathered = gather(disk, map, owners, z, end)?;
+    if gathered.any {
         return Ok(true);
     }
     settle_pass(disk, map, owners, z)
@@ -324,6 +334,7 @@ pub fn settle_all<D: Disk>(disk: &mut D, map: &mut NewMap, owners: &Owners) -> R
     laws();
     map.is_map();
     let zones = map.geometry().zones;
+    gather_rounds(disk, map, owners)?;
     for z in 0..zones {
         settle_zone(disk, map, owners, z)?;
     }

@@ -25,7 +25,7 @@ use Rattle.fc_course.proofs.ChangeLemmas.{map_of}
 
 -- the laws of a job of holdings that stand for a disk
 pub laws_for : {D : Type 0} (d : Ghosts D) (was : Holdings) (old : D) → CourseLaw → (stands : Stands d was old) → IsMapIn (layout_of was.places) → PlacesSuffice (layout_of was.places) → (job : Job) (name bytes : List ℕ)
-    → HasLaws job → IsJudged (parts_of was) job name bytes → JobLaws stands.agree.0 (parts_of was) job name bytes
+    → HasLaws (parts_of was) job → IsJudged (parts_of was) job name bytes → JobLaws stands.agree.0 (parts_of was) job name bytes
 laws_for d was old law stands is suffice job name bytes has judged =
     law (parts_of was) job name bytes stands.agree.0 has (map_of (layout_of was.places) (d.sectors old) is stands.map_room) suffice stands.agree.1 judged
 

@@ -5,6 +5,10 @@ pub mod OldMapLemmas
 pub mod NodeLemmas
 pub mod OwnerLemmas
 pub mod PutLemmas
+pub mod TargetLemmas
+pub mod EmptySpaceLemmas
+pub mod DirectoryLemmas
+pub mod StayingLemmas
 pub mod RemovalLemmas
 pub mod RemovalStageLemmas
 pub mod PieceLemmas
@@ -12,6 +16,13 @@ pub mod NewRemovalLemmas
 pub mod OldRemovalLemmas
 pub mod ShortLemmas
 pub mod RemovalRunLemmas
+pub mod RewordingLemmas
+pub mod RewordingStageLemmas
+pub mod NewRewordingLemmas
+pub mod OldRewordingLemmas
+pub mod UnspacedLemmas
+pub mod RewordingRunLemmas
+pub mod JobLemmas
 pub mod AnswerLemmas
 pub mod ChangeLemmas
 pub mod AdmitLemmas

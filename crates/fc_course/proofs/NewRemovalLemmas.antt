@@ -1,20 +1,18 @@
 -- `delete` on a new map: it can be written and taken over, and what it then promises.
-use Rattle.std.proofs.Common.{◌≡◌, ◌<◌, ◌≤◌, ◌*◌, ◌||◌, ℕ, Bool, true, false, List, [], ◌∷◌, ◌++◌, length, refl, sym, ap, subst, ◌∙◌, arith, Option, None, All}
+use Rattle.std.proofs.Common.{◌≡◌, ◌≤◌, ◌*◌, ◌||◌, ℕ, Bool, false, List, [], ◌∷◌, ◌++◌, length, refl, sym, ap, subst, ◌∙◌, arith, Option, None}
 use Rattle.fc_names.specs.Names.{Path}
 use Rattle.fc_alloc.specs.declared.owner.Owner.{Owner}
 use Rattle.fc_record.specs.declared.Kind.{Kind}
 use Rattle.fc_newmap.specs.Map.{Map, map_sectors}
 use Rattle.fc_newmap.specs.NewMap.{IsNewMap}
 use Rattle.fc_model.specs.Command.{Command}
-use Rattle.fc_image.specs.Layout.{Layout, dir_form, disc_sectors, is_apart}
+use Rattle.fc_image.specs.Layout.{Layout, disc_sectors}
 use Rattle.fc_image.specs.Objects.{objects_of}
-use Rattle.fc_image.specs.Opening.{Opened, boot_place, reserved_in}
+use Rattle.fc_image.specs.Opening.{Opened}
 use Rattle.fc_image.specs.Sound.{AreSound}
 use Rattle.fc_image.specs.Stays.{OpensAs}
-use Rattle.fc_image.specs.Walk.{Listing, Object, object_size}
+use Rattle.fc_image.specs.Walk.{Listing, Object}
 use Rattle.fc_image.specs.effects.Steady.{has_grown, has_new_holder, is_given_back}
-use Rattle.fc_image.proofs.HolesLemmas.{Lies}
-use Rattle.fc_objects.specs.Written.{AreApart}
 use Rattle.fc_placing.specs.declared.placing.Placing.{Placing}
 use Rattle.fc_placing.specs.declared.placing.Placing.TheVariants as placings
 use Rattle.fc_placing.specs.Leaving.{LeavesIds}
@@ -29,10 +27,8 @@ use Rattle.fc_laws.specs.nodes.Edits.{Nodes}
 use Rattle.fc_laws.specs.agree.Agreed.{AgreeOn, parts_with}
 use Rattle.fc_laws.proofs.lemmas.agree.BeforeLemmas.{agreed_law, new_facts}
 use Rattle.fc_laws.proofs.lemmas.agree.CutLemmas.{cut_law}
-use Rattle.fc_laws.proofs.lemmas.agree.WalkedLemmas.{object_lies}
 use Rattle.fc_laws.proofs.lemmas.takeover.ApartLemmas.{places_law}
 use Rattle.fc_laws.proofs.lemmas.takeover.KindLemmas.{new_kind}
-use Rattle.fc_laws.proofs.lemmas.takeover.WriteLemmas.{written_bytes_law}
 use Rattle.fc_edits.specs.Deletion.{Deletion, NewDeletion, edit, nodes_without}
 use Rattle.fc_edits.specs.NewPlaces.{GivesBack}
 use Rattle.fc_edits.proofs.lemmas.AddedPlaceLemmas.{space_change}
@@ -47,8 +43,8 @@ use Rattle.fc_writing.specs.New.{CanWrite, IsChanged, IsGiven}
 use Rattle.fc_writing.specs.Ready.{place_of, written_place}
 use Rattle.fc_change.specs.declared.job.Job.TheVariants as jobs
 use Rattle.fc_change.specs.After.{AreOwnersAfter, nodes_after}
-use Rattle.fc_change.specs.declared.spaces.GrownPlace.{GrownPlace}
-use Rattle.fc_change.specs.GrownSpace.{freed, gone_at_once, kept_parts, plans_of, root_of}
+use Rattle.fc_change.specs.Directories.{Rewriting}
+use Rattle.fc_change.specs.GrownSpace.{freed}
 use Rattle.fc_change.specs.Places.{AreLeft, ArePlaced, plan_in}
 use Rattle.fc_change.specs.Shortage.{is_grown_alone}
 use Rattle.fc_change.specs.Steps.{IsStep}
@@ -56,11 +52,12 @@ use Rattle.fc_placing.specs.Places.{shared_id}
 use Rattle.fc_course.specs.declared.stages.Prepared.{Prepared}
 use Rattle.fc_course.specs.Promises.{WritesPlaces}
 use Rattle.fc_course.specs.Stages.{IsPreparedFor}
-use Rattle.fc_course.proofs.NodeLemmas as its_dir
-use Rattle.fc_course.proofs.PieceLemmas.{all_low, apart_front}
+use Rattle.fc_course.proofs.DirectoryLemmas.{can_put_new, fits_new}
+use Rattle.fc_course.proofs.EmptySpaceLemmas.{BringsNone, IsEmptySpace, IsOneReady, WantsNoSpace, empty_space, none_planned, one_ready, placed_nowhere, takes_none}
 use Rattle.fc_course.proofs.PieceLemmas as piece
 use Rattle.fc_course.proofs.RemovalLemmas as removal
-use Rattle.fc_course.proofs.RemovalStageLemmas.{IsEmptySpace, IsRemovalChange, IsRemovalReady, MayGo, WantsNoSpace, empty_space, none_planned, placed_nowhere, removal_change, removal_ready, removal_wants, view_of}
+use Rattle.fc_course.proofs.TargetLemmas as target_of
+use Rattle.fc_course.proofs.RemovalStageLemmas.{IsRemovalChange, MayGo, removal_change, removal_wants, view_of}
 use Rattle.fc_course.proofs.SpaceLemmas.{can_give, can_take}
 use Rattle.fc_course.proofs.StepLemmas.{IsTwoStepped, both_steps}
 
@@ -81,8 +78,8 @@ module _ (outcome_law : outcomes.DeletionLaw) (m : Map) (nodes : Nodes) (owners 
   pub change : IsRemovalChange nodes t p.change
   change = removal_change h t name prep.spaces p.change empty.grown prep.change
 
-  pub ready : IsRemovalReady (Layout.New m) nodes change.said prep.spaces p.ready
-  ready = removal_ready h t p.change prep.spaces p.ready empty change prep.ready
+  pub ready : IsOneReady (Layout.New m) nodes change.said prep.spaces p.ready
+  ready = one_ready h p.change prep.spaces p.ready change.said empty change.says (subst BringsNone (sym change.goes) tt) prep.ready
 
   -- ---- the map
 
@@ -92,15 +89,8 @@ module _ (outcome_law : outcomes.DeletionLaw) (m : Map) (nodes : Nodes) (owners 
   no_directory : placed.dir ≡ None
   no_directory = (none_planned h prep.wants none m (plan_in placed.placing) placed.dir prep.spaces.grown placed.grown).0
 
-  -- what is taken, if a directory has this plan and this place
-  abbrev TakesFor : Placing → Option Plan → Option GrownPlace → Type 0
-  TakesFor placing dir place = IsStep m (plans_of (plan_in placing) dir) (gone_at_once dir (is_grown_alone h prep.wants.grows)) (kept_parts dir (is_grown_alone h prep.wants.grows)) (root_of place) prep.spaces.take
-
   takes : IsStep m [] [] [] None p.ready.take
-  takes =
-      let alone = subst (λ (g : Option GrownPlace). TakesFor placed.placing placed.dir g) empty.grown placed.take in
-      let none_taken = subst (λ (d : Option Plan). TakesFor placed.placing d None) no_directory alone in
-      subst (IsStep m [] [] [] None) (sym ready.take) (subst (λ (x : Placing). TakesFor x None None) nowhere none_taken)
+  takes = subst (IsStep m [] [] [] None) (sym ready.take) (takes_none m (is_grown_alone h prep.wants.grows) placed.placing placed.dir prep.spaces.grown prep.spaces.take nowhere no_directory empty.grown placed.take)
 
   gives : IsStep m [] placed.gone [] None p.ready.give
   gives =
@@ -119,24 +109,11 @@ module _ (outcome_law : outcomes.DeletionLaw) (m : Map) (nodes : Nodes) (owners 
     abbrev its : IsRemovable nodes a.listings path t
     its = may (view_of h kind a) sound (agreed_law.viewed kind h a)
 
-    abbrev dir : Object
-    dir = its.target.listing.object
-
-    same_place : place_of ready.piece ≡ dir.sectors
-    same_place = removal.place_is (Layout.New m) nodes a.listings sound a.walked.held path t its a.walked.forms change.said change.tells ready.piece ready.is_piece
-
-    lies : Lies (Layout.New m) (reserved_in kind (Layout.New m)) dir
-    lies = object_lies kind (Layout.New m) nodes a.root a.listings a.walked dir
-        (its_dir.among nodes (Layout.New m) a.listings sound a.walked.held its.target.listing its.target.listed t.holder its.target.holder_is)
-
-    low : All (λ s. s < n) dir.sectors
-    low = all_low n dir.sectors (λ s e. (let on = (suffice dir.entry.address (object_size (dir_form (Layout.New m)) dir.entry) dir.sectors lies.placed).on_disc s e in omega (arith, on, room)))
-
     pub can_write : CanWrite n m p.ready
     can_write = record {
-      put = piece.can_put p.ready ready.piece ready.one n (map_sectors m.geometry) (subst (λ (ss : List ℕ). All (λ s. s < n) ss) (sym same_place) low)
-          (subst AreApart (sym same_place) (written_bytes_law.apart m dir is_map lies.placed))
-          (subst (λ (ss : List ℕ). is_apart ss (map_sectors m.geometry) ≡ true) (sym same_place) (apart_front dir.sectors (map_sectors m.geometry) (boot_place kind m.geometry.sector) lies.apart));
+      put = can_put_new kind m nodes a.root a.listings its.target.listing.object n is_map
+          (record { walked = a.walked; among = target_of.dir_among (Layout.New m) nodes a.listings sound a.walked.held path t its.target; room = room; suffice = suffice }) p.ready ready.piece ready.one
+          (target_of.place_is (Layout.New m) nodes a.listings sound a.walked.held path t its.target (Rewriting.Leaves t.at) change.said change.tells ready.piece ready.is_piece);
       take = can_take m None p.ready.take takes tt;
       give = λ mid done. can_give m mid None placed.gone p.ready.take p.ready.give is_map takes gives tt done;
     }
@@ -205,16 +182,13 @@ module _ (outcome_law : outcomes.DeletionLaw) (m : Map) (nodes : Nodes) (owners 
         l = may.target.listing.object
 
         sectors_same : place_of ready.piece ≡ l.sectors
-        sectors_same = removal.place_is (Layout.New m) nodes listings before agreed.walked.held path t may agreed.walked.forms change.said change.tells ready.piece ready.is_piece
+        sectors_same = target_of.place_is (Layout.New m) nodes listings before agreed.walked.held path t may.target (Rewriting.Leaves t.at) change.said change.tells ready.piece ready.is_piece
 
         leaves : outcomes.LeavesOut path (Layout.New m) listings d ready.piece.bytes.items
         leaves = removal.leaves (Layout.New m) nodes listings before agreed.walked.held path t may agreed.walked.forms change.said change.tells ready.piece ready.is_piece
 
         long : length ready.piece.bytes.items ≤ length (place_of ready.piece) * m.geometry.sector
-        long =
-            subst (λ (k : ℕ). k ≤ length (place_of ready.piece) * m.geometry.sector) (sym leaves.long)
-            (subst (λ (ss : List ℕ). object_size (dir_form (Layout.New m)) l.entry ≤ length ss * m.geometry.sector) (sym sectors_same)
-            (written_bytes_law.room m l is_map (removal.dir_placed (Layout.New m) nodes listings before agreed.walked.held path t may)))
+        long = fits_new m l ready.piece is_map (target_of.dir_placed (Layout.New m) nodes listings before agreed.walked.held path t may.target) sectors_same leaves.long
 
         pub outcome : Outcome kind was image (record { kind = kind; layout = Layout.New m; listings = listings }) (Command.Delete path) (parts_with m' nodes' owners')
         unfolding deletes
@@ -244,7 +218,7 @@ module _ (outcome_law : outcomes.DeletionLaw) (m : Map) (nodes : Nodes) (owners 
     places = record {
       sectors = may.target.listing.object.sectors;
       only = subst (λ (ss : List ℕ). ChangesOnly m.geometry.sector (ss ++ map_sectors m.geometry) was image)
-          (removal.place_is (Layout.New m) nodes view.listings then agreed.walked.held path t may agreed.walked.forms change.said change.tells ready.piece ready.is_piece)
+          (target_of.place_is (Layout.New m) nodes view.listings then agreed.walked.held path t may.target (Rewriting.Leaves t.at) change.said change.tells ready.piece ready.is_piece)
           (piece.changes_only p.ready ready.piece ready.one m.geometry.sector (map_sectors m.geometry) was image only);
       may = places_law.directory kind was view m (Command.Delete path) may.target.listing (record { opens = opens; layout = sym parts.layout }) may.target.listed
           (ap (λ (b : Bool). b || false || has_grown view (Command.Delete path) may.target.listing.object.path || has_new_holder view (Command.Delete path) may.target.listing.object.path) may.target.above);

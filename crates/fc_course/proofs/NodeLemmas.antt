@@ -5,7 +5,7 @@ use Rattle.std.specs.Int.{div_ceil}
 use Rattle.std.specs.Option.{option_map, option_map_or}
 use Rattle.std.specs.Ordering.{nat_cmp}
 use Rattle.std.specs.FinMap.{FinMap, get}
-use Rattle.std.proofs.lemmas.Bool.{eqb-true, leb-true, ltb-true}
+use Rattle.std.proofs.lemmas.Bool.{and_parts, eqb-true, leb-true, ltb-true}
 use Rattle.std.proofs.lemmas.Nat.{div-add-mod'}
 use Rattle.std.proofs.Math.Nat.{pow-le-pow_right}
 use Rattle.fc_names.specs.Names.{is_directory}
@@ -108,11 +108,6 @@ child_entry layout listings l i o sound listed at = ap (λ (es : List Entry). sl
 
 -- ---- addresses
 
-both_true : (a b : Bool) → (a && b) ≡ true → (a ≡ true) × (b ≡ true)
-both_true true true e = (refl, refl)
-both_true true false e = absurd (cc)
-both_true false b e = absurd (cc)
-
 valid_idlen : (r : DiscRecord) → is_valid r ≡ true → is_idlen_right r ≡ true
 unfolding record_fault
 valid_idlen r e = by (is_sector_right r) (is_idlen_right r) (find (λ c. not c.2) (drop 2 (conditions r))) e
@@ -129,7 +124,7 @@ short_idlen g is = subst (λ (h : Geometry). h.version ≡ 0 → h.idlen ≤ 15)
     of_record : (r : DiscRecord) → is_valid r ≡ true → (geometry r).version ≡ 0 → (geometry r).idlen ≤ 15
     of_record r valid zero_version =
         let right = ap (λ (b : Bool). nat_le (r.log2_sector + 3) r.idlen && nat_le r.idlen (cond b 15 19)) (sym (eq-eqb r.version 0 zero_version)) ∙ valid_idlen r valid in
-        leb-true r.idlen 15 (both_true (nat_le (r.log2_sector + 3) r.idlen) (nat_le r.idlen 15) right).1
+        leb-true r.idlen 15 (and_parts (nat_le (r.log2_sector + 3) r.idlen) (nat_le r.idlen 15) right).1
 
 -- an address at which bytes lie fits the three bytes of a small directory
 pub low_address : (m : Map) (address bytes : ℕ) (xs : List ℕ) → IsNewMap m → m.geometry.version ≡ 0 → (bytes == 0) ≡ false → sectors_at (Layout.New m) address bytes ≡ Some xs → address < 2 ^ 24
@@ -137,7 +132,7 @@ unfolding sectors_at
 low_address m address bytes xs is old some at =
     let here : new_sectors m address bytes ≡ Some xs = ap (λ (b : Bool). cond b (Some []) (new_sectors m address bytes)) (sym some) ∙ at in
     let id = by (is_object_id m (id_of address)) refl here in
-    let low = ltb-true (id_of address) (id_limit m.geometry) (both_true (nat_le 2 (id_of address)) (nat_lt (id_of address) (id_limit m.geometry)) id).1 in
+    let low = ltb-true (id_of address) (id_limit m.geometry) (and_parts (nat_le 2 (id_of address)) (nat_lt (id_of address) (id_limit m.geometry)) id).1 in
     let few : 2 ^ m.geometry.idlen ≤ 2 ^ 15 = pow-le-pow_right {n = 2} (omega arith) (short_idlen m.geometry is.of_record old) in
     let parts = div-add-mod' address 256 in
     let rest = mod-lt address {m = 256} (omega arith) in

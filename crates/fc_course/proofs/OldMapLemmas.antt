@@ -10,12 +10,15 @@ use Rattle.fc_oldmap.specs.declared.Hole.{Hole}
 use Rattle.fc_oldmap.specs.Holes.{hole_limit}
 use Rattle.fc_oldmap.specs.OldMap.{OldMapContent, IsOldMap, checked_half, map_units, triples, with_holes}
 use Rattle.fc_image.specs.Layout.{Layout, sector_bytes}
+use Rattle.fc_image.specs.effects.Short.{holes_without}
 use Rattle.fc_oldchanges.specs.Owed.{IsMapAfter, holding}
+use Rattle.fc_oldchanges.proofs.GrowthLemmas.{none_needed}
 use Rattle.fc_oldlaws.proofs.lemmas.takeover.AgainLemmas.{map_twice}
 use Rattle.fc_writing.specs.declared.ready.MapStep.{MapStep}
 use Rattle.fc_writing.specs.declared.ready.MapStep.TheVariants as steps
 use Rattle.fc_writing.specs.declared.ready.Ready.{Ready}
-use Rattle.fc_writing.specs.Old.{front_after, front_given, front_in, front_taken, with_map}
+use Rattle.fc_writing.specs.Old.{IsOfDisc, front_after, front_given, front_in, front_taken, with_map}
+use Rattle.fc_change.specs.OldSpace.{map_taken}
 use Rattle.fc_change.specs.Places.{IsOldStep}
 use Rattle.fc_course.specs.Written.{map_after, space_after}
 
@@ -104,6 +107,16 @@ after_step was now (steps.Old m) is = is.0
 
 pub after_both : (space mid now : OldMapContent) (r : Ready) → IsOldStep space mid r.take → IsOldStep mid now r.give → map_after space r ≡ now
 after_both space mid now r take give = ap (space_after r.give) (after_step space mid r.take take) ∙ after_step mid now r.give give
+
+-- nothing is taken
+pub none_taken : (space : OldMapContent) → IsOldMap space → map_taken space 0 ≡ space
+none_taken space is = ap (λ (n : ℕ). holding space (holes_without n space.holes)) (none_needed space is.units)
+
+-- A step to a map with other holes is one of the same disc.
+pub of_disc : (space was to : OldMapContent) (step : MapStep) → IsOldStep was to step → to ≡ holding space to.holes → IsOfDisc space step
+of_disc space was to steps.Nothing is same = tt
+of_disc space was to (steps.New s) is same = absurd is
+of_disc space was to (steps.Old m) is same = (ap (λ (x : OldMapContent). x.disc_units) (is.0 ∙ same), ap (λ (x : OldMapContent). x.sector_units) (is.0 ∙ same))
 
 few_holes : (was now : OldMapContent) (step : MapStep) → length was.holes ≤ hole_limit → IsOldStep was now step → length now.holes ≤ hole_limit
 few_holes was now steps.Nothing few is = subst (λ (m : OldMapContent). length m.holes ≤ hole_limit) (sym is) few

@@ -1,5 +1,5 @@
 -- `delete` on an old map: its space can go back, it can be written and taken over, and what it then promises.
-use Rattle.std.proofs.Common.{◌≡◌, ◌<◌, ◌≤◌, ◌*◌, ◌||◌, ◌==◌, ◌⊎◌, inl, inr, ℕ, Bool, true, false, cond, List, [], ◌∷◌, ◌++◌, length, refl, sym, ap, ap₂, subst, ◌∙◌, arith, Option, Some, All}
+use Rattle.std.proofs.Common.{◌≡◌, ◌<◌, ◌≤◌, ◌*◌, ◌||◌, ◌==◌, ◌⊎◌, inl, inr, ℕ, Bool, true, false, cond, List, [], ◌∷◌, ◌++◌, length, refl, sym, ap, ap₂, subst, ◌∙◌, arith, Option, Some}
 use Rattle.std.specs.Prelude.{Contains, nat_lt, not}
 use Rattle.std.specs.Option.{option_map_or}
 use Rattle.std.proofs.lemmas.Bool.{cases_lt, lt-ltb, ne_eqb}
@@ -11,33 +11,28 @@ use Rattle.fc_oldmap.specs.declared.Hole.{Hole}
 use Rattle.fc_oldmap.specs.Holes.{after_give, hole, hole_limit}
 use Rattle.fc_oldmap.specs.OldMap.{OldMapContent, IsOldMap, map_units}
 use Rattle.fc_model.specs.Command.{Command}
-use Rattle.fc_image.specs.Layout.{Layout, dir_form, disc_sectors, hole_sectors, is_apart, map_place, sector_bytes}
+use Rattle.fc_image.specs.Layout.{Layout, dir_form, disc_sectors, map_place, sector_bytes}
 use Rattle.fc_image.specs.Edits.{IsAt}
-use Rattle.fc_image.specs.Objects.{has_sectors, objects_of}
+use Rattle.fc_image.specs.Objects.{has_sectors}
 use Rattle.fc_image.specs.Opening.{Opened, reserved_in}
 use Rattle.fc_image.specs.Sound.{AreSound}
 use Rattle.fc_image.specs.Stays.{OpensAs}
-use Rattle.fc_image.specs.Walk.{Listing, Object, object_size}
-use Rattle.fc_image.specs.effects.Short.{holes_without, old_need, space_of, with_space_of}
+use Rattle.fc_image.specs.Walk.{Listing, Object}
+use Rattle.fc_image.specs.effects.Short.{old_need, space_of, with_space_of}
 use Rattle.fc_image.specs.effects.Steady.{has_grown, has_new_holder}
-use Rattle.fc_image.proofs.HolesLemmas.{Lies}
-use Rattle.fc_objects.specs.Written.{AreApart}
 use Rattle.fc_oldchanges.specs.Owed.{IsBefore, IsMapAfter, holding}
-use Rattle.fc_oldchanges.proofs.GrowthLemmas.{none_needed}
 use Rattle.fc_space.specs.Space.{PlacesSuffice}
 use Rattle.fc_tree.specs.declared.node.Node.{Node}
-use Rattle.fc_tree.specs.Agree.{Agree, HasForm}
+use Rattle.fc_tree.specs.Agree.{Agree, AreWalked, HasForm}
 use Rattle.fc_tree.specs.Nodes.{HoldObjects}
 use Rattle.fc_tree.specs.Parts.{ArePartsOf, Parts}
 use Rattle.fc_laws.specs.nodes.Edits.{Nodes}
 use Rattle.fc_laws.proofs.lemmas.agree.BeforeLemmas.{agreed_law}
-use Rattle.fc_laws.proofs.lemmas.agree.WalkedLemmas.{object_lies}
 use Rattle.fc_oldlaws.specs.agree.Laws.{AgreeOn, parts_with}
 use Rattle.fc_oldlaws.specs.agree.Spaces.{CanGive}
 use Rattle.fc_oldlaws.proofs.lemmas.agree.BeforeLemmas.{sound as old_sound}
 use Rattle.fc_oldlaws.proofs.lemmas.agree.GivenLemmas.{space_law}
 use Rattle.fc_oldlaws.proofs.lemmas.takeover.ApartLemmas.{places_law}
-use Rattle.fc_oldlaws.proofs.lemmas.takeover.WriteLemmas.{written_bytes_law}
 use Rattle.fc_edits.specs.Deletion.{Deletion, OldDeletion, holes_with_it, nodes_without}
 use Rattle.fc_edits.proofs.lemmas.DeletionLemmas.{deletion_law}
 use Rattle.fc_outcomes.specs.NewImage.{Outcome}
@@ -48,22 +43,24 @@ use Rattle.fc_refusals.specs.declared.target.Target.{Target}
 use Rattle.fc_writing.specs.declared.ready.MapStep.{MapStep}
 use Rattle.fc_writing.specs.declared.ready.MapStep.TheVariants as steps
 use Rattle.fc_writing.specs.Laws.{ChangesOnly}
-use Rattle.fc_writing.specs.Old.{CanWrite, IsChanged, IsOfDisc}
+use Rattle.fc_writing.specs.Old.{CanWrite, IsChanged}
 use Rattle.fc_writing.specs.Ready.{place_of, written_place}
 use Rattle.fc_change.specs.declared.job.Job.TheVariants as jobs
 use Rattle.fc_change.specs.After.{AreOwnersAfter, nodes_after}
+use Rattle.fc_change.specs.Directories.{Rewriting}
 use Rattle.fc_change.specs.OldSpace.{CanFree, LieBehind, map_given, map_taken, space_at, units_of, with_space_of as map_with}
 use Rattle.fc_change.specs.Places.{ArePlacedOld, IsOldStep}
 use Rattle.fc_course.specs.declared.stages.Prepared.{Prepared}
 use Rattle.fc_course.specs.Promises.{WritesPlaces}
 use Rattle.fc_course.specs.Stages.{IsPreparedFor}
 use Rattle.fc_course.specs.Written.{map_after}
-use Rattle.fc_course.proofs.NodeLemmas as its_dir
-use Rattle.fc_course.proofs.OldMapLemmas.{after_both, both_steps}
-use Rattle.fc_course.proofs.PieceLemmas.{all_low, apart_front}
+use Rattle.fc_course.proofs.DirectoryLemmas.{can_put_old, fits_old}
+use Rattle.fc_course.proofs.EmptySpaceLemmas.{BringsNone, IsEmptySpace, IsOneReady, empty_space, one_ready}
+use Rattle.fc_course.proofs.OldMapLemmas.{after_both, both_steps, none_taken, of_disc}
 use Rattle.fc_course.proofs.PieceLemmas as piece
 use Rattle.fc_course.proofs.RemovalLemmas as removal
-use Rattle.fc_course.proofs.RemovalStageLemmas.{IsEmptySpace, IsRemovalChange, IsRemovalReady, MayGo, empty_space, removal_change, removal_ready, removal_wants, view_of}
+use Rattle.fc_course.proofs.TargetLemmas as target_of
+use Rattle.fc_course.proofs.RemovalStageLemmas.{IsRemovalChange, MayGo, removal_change, removal_wants, view_of}
 
 -- ---- the space of an object
 
@@ -76,10 +73,6 @@ not_zero n = elim (cases_lt 0 n) [
   | inl some ↦ ne_eqb n 0 (λ e. omega (arith, some, e)) ∙ sym (ap not (lt-ltb 0 n some))
   | inr none ↦ (let z : n ≡ 0 = omega (arith, none) in subst (λ (k : ℕ). (k == 0) ≡ not (nat_lt 0 k)) (sym z) refl)
 ]
-
--- nothing is taken
-pub none_taken : (space : OldMapContent) → IsOldMap space → map_taken space 0 ≡ space
-none_taken space is = ap (λ (n : ℕ). holding space (holes_without n space.holes)) (none_needed space is.units)
 
 module _ (space : OldMapContent) (o : Object) (is : IsOldMap space) (at : IsAt (Layout.Old space) o) where
   pub has_units : has_sectors o ≡ nat_lt 0 (units_of space o.entry)
@@ -104,8 +97,8 @@ module _ (space : OldMapContent) (o : Object) (is : IsOldMap space) (at : IsAt (
 pub given_at : (space : OldMapContent) (nodes : Nodes) → IsOldMap space → (t : Target) (path : Path) (listings : List Listing) → (sound : AreSound (Layout.Old space) listings) (held : HoldObjects nodes listings)
     → (may : IsRemovable nodes listings path t) → map_given space nodes (Some t.node) space ≡ holding space (with_space_of space (Some may.target.object) space.holes)
 given_at space nodes is t path listings sound held may =
-    ap (λ (n : Option Node). option_map_or (λ (x : Node). map_with x.entry space) n space) (removal.node_is (Layout.Old space) nodes listings sound held path t may)
-    ∙ given_is space may.target.object is (removal.placed (Layout.Old space) nodes listings sound held path t may)
+    ap (λ (n : Option Node). option_map_or (λ (x : Node). map_with x.entry space) n space) (target_of.node_is (Layout.Old space) nodes listings sound held path t may.target)
+    ∙ given_is space may.target.object is (target_of.placed (Layout.Old space) nodes listings sound held path t may.target)
 
 -- ---- before anything is written
 
@@ -124,17 +117,17 @@ module _ (space : OldMapContent) (nodes : Nodes) (owners : List Owner) (is_map :
     its_object = its.target.object
 
     its_place : IsAt (Layout.Old space) its_object
-    its_place = removal.placed (Layout.Old space) nodes a.listings sound a.walked.held path t its
+    its_place = target_of.placed (Layout.Old space) nodes a.listings sound a.walked.held path t its.target
 
     -- the object's space can go back, if it has some
     can_free_it : CanFree space 0 nodes t.node
     can_free_it = record {
-      node = removal.node (Layout.Old space) nodes a.listings sound a.walked.held path t its;
-      there = removal.node_is (Layout.Old space) nodes a.listings sound a.walked.held path t its;
+      node = target_of.node (Layout.Old space) nodes a.listings sound a.walked.held path t its.target;
+      there = target_of.node_is (Layout.Old space) nodes a.listings sound a.walked.held path t its.target;
       free = λ some.
           subst (CanGive space (map_taken space 0).holes) (space_is space its_object is_map its_place)
           (space_law.given kind space nodes owners a.root a.listings its_object (old_need space 0) (space_law.named kind h space refl is_map behind a)
-          (removal.among (Layout.Old space) nodes a.listings sound a.walked.held path t its) (some_sectors space its_object is_map its_place some));
+          (target_of.among (Layout.Old space) nodes a.listings sound a.walked.held path t its.target) (some_sectors space its_object is_map its_place some));
     }
 
     pub can_free : (other : OldMapContent) (n : ℕ) → Layout.Old space ≡ Layout.Old other → n ≡ t.node → CanFree other 0 nodes n
@@ -155,8 +148,8 @@ module _ (space : OldMapContent) (nodes : Nodes) (owners : List Owner) (is_map :
     pub change : IsRemovalChange nodes t p.change
     change = removal_change h t name prep.spaces p.change empty.grown prep.change
 
-    pub ready : IsRemovalReady (Layout.Old space) nodes change.said prep.spaces p.ready
-    ready = removal_ready h t p.change prep.spaces p.ready empty change prep.ready
+    pub ready : IsOneReady (Layout.Old space) nodes change.said prep.spaces p.ready
+    ready = one_ready h p.change prep.spaces p.ready change.said empty change.says (subst BringsNone (sym change.goes) tt) prep.ready
 
     -- ---- the map
 
@@ -194,34 +187,24 @@ module _ (space : OldMapContent) (nodes : Nodes) (owners : List Owner) (is_map :
       pub few_now : length (with_space_of space (Some o) space.holes) ≤ hole_limit
       few_now = subst (λ (m : OldMapContent). length m.holes ≤ hole_limit) now_is (few p.ready.give gives)
 
-      of_disc : (was to : OldMapContent) (step : MapStep) → IsOldStep was to step → to ≡ holding space to.holes → IsOfDisc space step
-      of_disc was to steps.Nothing is same = tt
-      of_disc was to (steps.New s) is same = absurd is
-      of_disc was to (steps.Old m) is same = (ap (λ (x : OldMapContent). x.disc_units) (is.0 ∙ same), ap (λ (x : OldMapContent). x.sector_units) (is.0 ∙ same))
-
       abbrev dir : Object
       dir = may.target.listing.object
 
       -- it can be written
       module _ (kind : Kind) (a : Agree kind h) (same : a.listings ≡ listings) (n : ℕ) (room : disc_sectors (Layout.Old space) ≤ n) (suffice : PlacesSuffice (Layout.Old space))
           (form : (k : Listing) → Contains listings k → HasForm (dir_form (Layout.Old space)) k.object.entry.len k.content) where
-        same_place : place_of ready.piece ≡ dir.sectors
-        same_place = removal.place_is (Layout.Old space) nodes listings sound' held path t may form change.said change.tells ready.piece ready.is_piece
-
-        lies : Lies (Layout.Old space) (reserved_in kind (Layout.Old space)) dir
-        lies = object_lies kind (Layout.Old space) nodes a.root a.listings a.walked dir
-            (subst (λ (ls : List Listing). Contains (objects_of ls) dir) (sym same) (its_dir.among nodes (Layout.Old space) listings sound' held may.target.listing may.target.listed t.holder may.target.holder_is))
-
-        low : All (λ s. s < n) dir.sectors
-        low = all_low n dir.sectors (λ s e. (let on = (suffice dir.entry.address (object_size (dir_form (Layout.Old space)) dir.entry) dir.sectors lies.placed).on_disc s e in omega (arith, on, room)))
-
         pub can_write : CanWrite n space p.ready
         can_write = record {
-          put = piece.can_put p.ready ready.piece ready.one n (map_place (Layout.Old space)) (subst (λ (ss : List ℕ). All (λ s. s < n) ss) (sym same_place) low)
-              (subst AreApart (sym same_place) (written_bytes_law.apart space dir is_map lies.placed))
-              (subst (λ (ss : List ℕ). is_apart ss (map_place (Layout.Old space)) ≡ true) (sym same_place) (apart_front dir.sectors (map_place (Layout.Old space)) (hole_sectors (Layout.Old space)) lies.apart));
-          take = of_disc space space p.ready.take takes refl;
-          give = of_disc space now p.ready.give gives (now_is ∙ ap (λ (m : OldMapContent). holding space m.holes) (sym now_is));
+          put = can_put_old kind space nodes a.root listings dir n is_map
+              (record {
+                walked = subst (AreWalked nodes (Layout.Old space) (reserved_in kind (Layout.Old space)) a.root.entry.address a.root.entry.len) same a.walked;
+                among = target_of.dir_among (Layout.Old space) nodes listings sound' held path t may.target;
+                room = room;
+                suffice = suffice;
+              }) p.ready ready.piece ready.one
+              (target_of.place_is (Layout.Old space) nodes listings sound' held path t may.target (Rewriting.Leaves t.at) change.said change.tells ready.piece ready.is_piece);
+          take = of_disc space space space p.ready.take takes refl;
+          give = of_disc space space now p.ready.give gives (now_is ∙ ap (λ (m : OldMapContent). holding space m.holes) (sym now_is));
         }
 
     -- ---- after it
@@ -291,16 +274,13 @@ module _ (space : OldMapContent) (nodes : Nodes) (owners : List Owner) (is_map :
         l = may.target.listing.object
 
         sectors_same : place_of ready.piece ≡ l.sectors
-        sectors_same = removal.place_is (Layout.Old space) nodes listings before agreed.walked.held path t may agreed.walked.forms change.said change.tells ready.piece ready.is_piece
+        sectors_same = target_of.place_is (Layout.Old space) nodes listings before agreed.walked.held path t may.target (Rewriting.Leaves t.at) change.said change.tells ready.piece ready.is_piece
 
         leaves : outcomes.LeavesOut path (Layout.Old space) listings d ready.piece.bytes.items
         leaves = removal.leaves (Layout.Old space) nodes listings before agreed.walked.held path t may agreed.walked.forms change.said change.tells ready.piece ready.is_piece
 
         enough : length ready.piece.bytes.items ≤ length (place_of ready.piece) * sector_bytes (Layout.Old space)
-        enough =
-            subst (λ (k : ℕ). k ≤ length (place_of ready.piece) * sector_bytes (Layout.Old space)) (sym leaves.long)
-            (subst (λ (ss : List ℕ). object_size (dir_form (Layout.Old space)) l.entry ≤ length ss * sector_bytes (Layout.Old space)) (sym sectors_same)
-            (written_bytes_law.room space l is_map (removal.dir_placed (Layout.Old space) nodes listings before agreed.walked.held path t may)))
+        enough = fits_old space l ready.piece is_map (target_of.dir_placed (Layout.Old space) nodes listings before agreed.walked.held path t may.target) sectors_same leaves.long
 
         map_there : IsMapAfter space (holes_with_it space d) was image
         map_there =
@@ -339,7 +319,7 @@ module _ (space : OldMapContent) (nodes : Nodes) (owners : List Owner) (is_map :
           record {
             sectors = may.target.listing.object.sectors;
             only = subst (λ (ss : List ℕ). ChangesOnly (sector_bytes (Layout.Old space)) (ss ++ map_place (Layout.Old space)) was image)
-                (removal.place_is (Layout.Old space) nodes view.listings then agreed.walked.held path t may agreed.walked.forms change.said change.tells ready.piece ready.is_piece)
+                (target_of.place_is (Layout.Old space) nodes view.listings then agreed.walked.held path t may.target (Rewriting.Leaves t.at) change.said change.tells ready.piece ready.is_piece)
                 (piece.changes_only p.ready ready.piece ready.one (sector_bytes (Layout.Old space)) (map_place (Layout.Old space)) was image only);
             may = (may_write, places_law.spared kind was view space (Command.Delete path) may.target.listing.object.sectors before may_write);
           }

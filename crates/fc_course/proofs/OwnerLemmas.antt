@@ -65,26 +65,27 @@ module _ (layout : Layout) (nodes : FinMap nat_cmp Node) (listings : List Listin
   is_o : (p : Object) → Contains objects p → (as_owner p).node ≡ node → p ≡ o
   is_o p at e = same_object layout listings sound o.path p o at among (same_path p at e) (itself o.path)
 
+  in_owners : has_sectors o ≡ true → Contains owners (as_owner o)
+  in_owners some = Contains-permutation (map as_owner (filter has_sectors objects)) owners (as_owner o) (IsPermutation-sym owners (map as_owner (filter has_sectors objects)) are)
+      (in_map as_owner (filter has_sectors objects) o (in_filter has_sectors objects o among some))
+
+  -- No other owner has the node, and it has sectors.
+  pub only_owner : (own : Owner) → Contains owners own → own.node ≡ node → (own ≡ as_owner o) × (has_sectors o ≡ true)
+  only_owner own at e =
+      let p = from_map as_owner (filter has_sectors objects) own (Contains-permutation owners (map as_owner (filter has_sectors objects)) own are at) in
+      let q = from_kept has_sectors objects p.0 p.1 in
+      let same = is_o p.0 q.0 (ap (λ (w : Owner). w.node) p.2 ∙ e) in
+      (sym p.2 ∙ ap as_owner same, ap has_sectors (sym same) ∙ q.1)
+
   -- the node's owner is o, if it has sectors
   pub owner_is : find (is_node node) owners ≡ cond (has_sectors o) (Some (as_owner o)) None
   owner_is = by (has_sectors o) refl (find (is_node node) owners) refl
     where
-      in_owners : has_sectors o ≡ true → Contains owners (as_owner o)
-      in_owners some = Contains-permutation (map as_owner (filter has_sectors objects)) owners (as_owner o) (IsPermutation-sym owners (map as_owner (filter has_sectors objects)) are)
-          (in_map as_owner (filter has_sectors objects) o (in_filter has_sectors objects o among some))
-
-      from_owners : (own : Owner) → Contains owners own → own.node ≡ node → (own ≡ as_owner o) × (has_sectors o ≡ true)
-      from_owners own at e =
-          let p = from_map as_owner (filter has_sectors objects) own (Contains-permutation owners (map as_owner (filter has_sectors objects)) own are at) in
-          let q = from_kept has_sectors objects p.0 p.1 in
-          let same = is_o p.0 q.0 (ap (λ (w : Owner). w.node) p.2 ∙ e) in
-          (sym p.2 ∙ ap as_owner same, ap has_sectors (sym same) ∙ q.1)
-
       by : (b : Bool) → has_sectors o ≡ b → (r : Option Owner) → find (is_node node) owners ≡ r → r ≡ cond b (Some (as_owner o)) None
       by true some None none = absurd (none_or_some (is_node node) owners (as_owner o) (in_owners some) (eq-eqb (as_owner o).node node o_is) none)
-      by true some (Some own) found = let f = found_passes (is_node node) owners own found in ap (λ (w : Owner). let r : Option Owner = Some w in r) (from_owners own f.0 (eqb-true own.node node f.1)).0
+      by true some (Some own) found = let f = found_passes (is_node node) owners own found in ap (λ (w : Owner). let r : Option Owner = Some w in r) (only_owner own f.0 (eqb-true own.node node f.1)).0
       by false empty None none = refl
-      by false empty (Some own) found = let f = found_passes (is_node node) owners own found in absurd (clash (has_sectors o) (from_owners own f.0 (eqb-true own.node node f.1)).1 empty)
+      by false empty (Some own) found = let f = found_passes (is_node node) owners own found in absurd (clash (has_sectors o) (only_owner own f.0 (eqb-true own.node node f.1)).1 empty)
 
 -- what stands at a path, however it is spelled
 pub object_as : (layout : Layout) (listings : List Listing) → AreSound layout listings → (path : Path) (x : Object) → Contains (objects_of listings) x → is_same_path path x.path ≡ true → object_at listings path ≡ Some x

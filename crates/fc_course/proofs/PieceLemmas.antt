@@ -3,9 +3,7 @@ use Rattle.std.proofs.Common.{◌≡◌, ◌<◌, ◌≤◌, ◌*◌, ℕ, true,
 use Rattle.std.proofs.lemmas.List.{append-nil}
 use Rattle.std.proofs.lemmas.List.Elements.{All-cons, All-nil}
 use Rattle.fc_image.specs.Layout.{Layout, is_among, is_apart, map_place, sector_bytes}
-use Rattle.fc_image.proofs.HolesLemmas.{apart_at, apart_from}
-use Rattle.fc_newmap.proofs.PlaceLemmas.{in_back, in_front}
-use Rattle.fc_changes.proofs.BasicLemmas.{clash}
+use Rattle.fc_newmap.proofs.PlaceLemmas.{in_back}
 use Rattle.fc_laws.proofs.lemmas.takeover.KindLemmas.{among_first}
 use Rattle.fc_objects.specs.Written.{AreApart}
 use Rattle.fc_outcomes.specs.Puts.{AreContents, ArePutOut, Put}
@@ -20,16 +18,13 @@ use Rattle.fc_writing.specs.Content.{Content, HasContent, IsPart, stored}
 use Rattle.fc_writing.specs.Laws.{ChangesOnly}
 use Rattle.fc_writing.specs.Ready.{CanPut, IsEnough, IsSourceEnough, all_content, carried_by, content_of, copied_place, early_place, from_of, late_place, place_of, source_content, source_from, to_of, written_place}
 use Rattle.fc_course.proofs.PutLemmas.{CopiesNone, are_contents, contents_of, put_of}
-use Rattle.fc_course.proofs.RemovalStageLemmas.{IsOnePiece, WritesNone}
+use Rattle.fc_course.proofs.EmptySpaceLemmas.{IsOnePiece, WritesNone}
 
 -- ---- lists of sectors
 
 pub all_low : (n : ℕ) (xs : List ℕ) → ((s : ℕ) → is_among xs s ≡ true → s < n) → All (λ s. s < n) xs
 all_low n [] low = All-nil (λ s. s < n)
 all_low n (x ∷ xs) low = All-cons (λ s. s < n) x xs (low x (among_first x xs)) (all_low n xs (λ s e. low s (in_back (x ∷ []) xs s e)))
-
-pub apart_front : (xs ys zs : List ℕ) → is_apart xs (ys ++ zs) ≡ true → is_apart xs ys ≡ true
-apart_front xs ys zs apart = apart_from xs ys (λ s i j. clash (is_among (ys ++ zs) s) (in_front ys zs s j) (apart_at xs (ys ++ zs) s apart i))
 
 -- ---- what is written
 

@@ -1,8 +1,7 @@
 -- `delete`, on any map: what its stages need, and the deletion that its change is.
-use Rattle.std.proofs.Common.{◌≡◌, ◌<◌, ℕ, cond, List, [], ◌∷◌, ◌++◌, length, remove, slice_get, refl, sym, ap, subst, ◌∙◌, Option, Some, None}
-use Rattle.std.specs.Prelude.{Contains, IsPermutation, IsSome, is_some}
-use Rattle.std.specs.FinMap.{get, remove as take}
-use Rattle.std.specs.Option.{option_map_or}
+use Rattle.std.proofs.Common.{◌≡◌, ℕ, cond, List, [], ◌∷◌, ◌++◌, remove, refl, sym, ap, subst, ◌∙◌, Option, Some, None}
+use Rattle.std.specs.Prelude.{Contains, IsPermutation}
+use Rattle.std.specs.FinMap.{remove as take}
 use Rattle.std.proofs.lemmas.Option.{slice_get_within}
 use Rattle.fc_names.specs.Names.{Path, is_same_path}
 use Rattle.fc_names.specs.declared.name.NameForm.{NameForm}
@@ -12,21 +11,18 @@ use Rattle.fc_model.specs.Command.{Command}
 use Rattle.fc_model.specs.Tree.{last_name}
 use Rattle.fc_dirs.specs.declared.Entry.{Entry}
 use Rattle.fc_dirs.specs.Directory.{Directory, entries_of}
-use Rattle.fc_drafts.specs.Draft.{CanAddress, directory_in, with_head, with_less}
+use Rattle.fc_drafts.specs.Draft.{directory_in, with_head, with_less}
 use Rattle.fc_drafts.specs.Rewriting.{HasLeft}
-use Rattle.fc_image.specs.Layout.{Layout, dir_form, sectors_at}
-use Rattle.fc_image.specs.Edits.{IsAt}
-use Rattle.fc_image.specs.Objects.{has_sectors, listing_at, object_at, objects_of}
+use Rattle.fc_image.specs.Layout.{Layout, dir_form}
+use Rattle.fc_image.specs.Objects.{has_sectors, objects_of}
 use Rattle.fc_image.specs.Report.{holder_address}
 use Rattle.fc_image.specs.Sound.{AreSound}
-use Rattle.fc_image.specs.Walk.{Listing, Object, object_size}
-use Rattle.fc_tree.specs.declared.node.Node.{Node}
+use Rattle.fc_image.specs.Walk.{Listing, Object}
 use Rattle.fc_tree.specs.Agree.{HasForm}
-use Rattle.fc_tree.specs.Counts.{address_in}
-use Rattle.fc_tree.specs.Nodes.{HasNode, HoldObjects, body_in, body_of}
+use Rattle.fc_tree.specs.Nodes.{HoldObjects, body_in}
 use Rattle.fc_tree.specs.Parts.{AreOwners}
 use Rattle.fc_tree.proofs.SoundLemmas.{children_stored}
-use Rattle.fc_tree.proofs.WalkedLemmas.{child_is_object, child_path, contained, listed_directory, same_some}
+use Rattle.fc_tree.proofs.WalkedLemmas.{child_path}
 use Rattle.fc_changes.proofs.ReadsLemmas.{lies_in, same_name_turned}
 use Rattle.fc_changes.specs.Owed.{GoesAlone}
 use Rattle.fc_laws.specs.nodes.Edits.{Nodes, OwnersEdited, owner_with, owners_with, with_body}
@@ -35,7 +31,6 @@ use Rattle.fc_laws.proofs.lemmas.nodes.ListLemmas.{cut_at, map_remove}
 use Rattle.fc_laws.proofs.lemmas.nodes.OwnerLemmas.{owner_law}
 use Rattle.fc_edits.specs.Deletion.{Deletion, IsDeletion, nodes_without}
 use Rattle.fc_outcomes.specs.Deletion.{LeavesOut}
-use Rattle.fc_refusals.specs.Places.{entries_in}
 use Rattle.fc_refusals.specs.Targets.{IsRemovable, IsTarget}
 use Rattle.fc_refusals.specs.declared.target.Target.{Target}
 use Rattle.fc_change.specs.declared.change.Change.{Change}
@@ -45,16 +40,14 @@ use Rattle.fc_change.specs.declared.change.Turned.TheVariants as turns
 use Rattle.fc_change.specs.After.{AreOwnersAfter, IsRegrownOwner, IsTurnedOwner, gone_in, nodes_after, with_regrown, with_said, with_turned, without_gone}
 use Rattle.fc_change.specs.declared.change.Regrowth.{Regrowth}
 use Rattle.fc_change.specs.Directories.{CanTell, Rewriting, Tells}
-use Rattle.fc_change.specs.Drafts.{IsEntryOf}
 use Rattle.fc_change.specs.Owned.{HasNoOwner}
-use Rattle.fc_change.specs.Prepared.{HasPlace, IsPieceOf}
-use Rattle.fc_tree.specs.Parts.{Parts}
+use Rattle.fc_change.specs.Prepared.{IsPieceOf}
 use Rattle.fc_writing.specs.declared.ready.Piece.{Piece}
-use Rattle.fc_writing.specs.Ready.{place_of}
 use Rattle.fc_course.specs.Run.{IsMapIn}
 use Rattle.fc_course.proofs.NodeLemmas.{can_address, child_entry, content_is, each_at, entry_is, held_at, says_it, sectors_are, size_of_form}
 use Rattle.fc_course.proofs.NodeLemmas as its
-use Rattle.fc_course.proofs.OwnerLemmas.{object_as, owner_is, owners_left}
+use Rattle.fc_course.proofs.OwnerLemmas.{owner_is, owners_left}
+use Rattle.fc_course.proofs.TargetLemmas as target_of
 
 -- ---- what a directory says without an entry
 
@@ -76,11 +69,6 @@ entries_left parent at old new is = ap entries_of is.is ∙ by old
     by (Directory.Small dir) = refl
     by (Directory.Big dir) = refl
 
--- what a directory's body has
-in_body : (dir : Directory) → entries_in (body_in dir) ≡ entries_of dir
-in_body (Directory.Small dir) = refl
-in_body (Directory.Big dir) = refl
-
 -- ---- the target, by any walk whose objects the nodes hold
 
 module _ (layout : Layout) (nodes : Nodes) (listings : List Listing) (sound : AreSound layout listings) (held : HoldObjects nodes listings) (path : Path) (t : Target) (may : IsRemovable nodes listings path t) where
@@ -93,79 +81,12 @@ module _ (layout : Layout) (nodes : Nodes) (listings : List Listing) (sound : Ar
   abbrev pub o : Object
   o = target.object
 
-  pub kid_in : Contains l.children o
-  kid_in = contained l.children t.at o target.at
-
-  pub among : Contains (objects_of listings) o
-  among = child_is_object layout listings sound l o target.listed kid_in
-
-  pub placed : IsAt layout o
-  placed = each_at layout listings sound o among
-
-  pub there : object_at listings path ≡ Some o
-  there = object_as layout listings sound path o among target.path_is
-
-  -- its node
-  abbrev has : HasNode nodes listings o
-  has = held.each o among
-
-  abbrev pub node : Node
-  node = record { holder = has.holder_number; entry = o.entry; body = body_of (listing_at listings o.path) }
-
-  pub node_is : get nodes t.node ≡ Some node
-  node_is = ap (get nodes) (same_some t.node has.number (sym target.node_is ∙ has.at_path)) ∙ has.is
-
-  pub has_node : IsSome (get nodes t.node)
-  has_node = ap is_some node_is
-
-  -- its directory's
-  abbrev pub dir_node : Node
-  dir_node = its.node nodes layout listings sound held l target.listed t.holder target.holder_is
-
-  pub dir_there : get nodes t.holder ≡ Some dir_node
-  dir_there = its.there nodes layout listings sound held l target.listed t.holder target.holder_is
-
-  pub dir_says : dir_node.body ≡ body_in l.content
-  dir_says = its.says nodes layout listings sound held l target.listed t.holder target.holder_is
-
-  pub has_dir : IsSome (get nodes t.holder)
-  has_dir = ap is_some dir_there
-
-  pub dir_placed : IsAt layout l.object
-  dir_placed = its.placed nodes layout listings sound held l target.listed t.holder target.holder_is
-
-  pub dir_place : (h : Parts) → h.layout ≡ layout → h.nodes ≡ nodes → HasPlace h t.holder
-  dir_place h at same = record {
-    node = dir_node;
-    there = ap (λ (ns : Nodes). get ns t.holder) same ∙ dir_there;
-    placed = subst (λ (x : Layout). IsSome (sectors_at x dir_node.entry.address (object_size (dir_form x) dir_node.entry))) (sym at)
-        (ap is_some (its.placed nodes layout listings sound held l target.listed t.holder target.holder_is));
-  }
-
-  -- its entry
-  entry_there : slice_get (entries_of l.content) t.at ≡ Some o.entry
-  entry_there = child_entry layout listings l t.at o sound target.listed target.at
-
-  pub entry : IsEntryOf nodes t o.entry
-  entry =
-      ap (λ (es : List Entry). slice_get es t.at) (ap (λ (x : Option Node). option_map_or (λ (n : Node). entries_in n.body) x []) dir_there ∙ ap entries_in dir_says ∙ in_body l.content) ∙ entry_there
-
   module _ (form : (k : Listing) → Contains listings k → HasForm (dir_form layout) k.object.entry.len k.content) where
     -- what can be told
     pub can_tell : IsMapIn layout → CanTell None nodes t.holder (Rewriting.Leaves t.at)
     can_tell is =
-        let up = its.above nodes layout listings sound held l target.listed t.holder target.holder_is in
-        let top = listed_directory layout listings sound up.0 up.1 in
-        record {
-          node = dir_node;
-          content = l.content;
-          there = dir_there;
-          says = dir_says;
-          amended = tt;
-          addressed = subst (CanAddress l.content) (sym (its.above_address nodes layout listings sound held l target.listed t.holder target.holder_is))
-              (can_address layout l.content l.object.entry.len up.0.object is (form l target.listed) top.1 (each_at layout listings sound up.0.object top.0));
-          can = λ middle amends. subst (λ (dir : Directory). t.at < length (entries_of dir)) (sym amends) (slice_get_within (entries_of l.content) t.at o.entry entry_there);
-        }
+        target_of.can_tell layout nodes listings sound held path t target (Rewriting.Leaves t.at) refl
+        (slice_get_within (entries_of l.content) t.at o.entry (target_of.entry_there layout nodes listings sound held path t target)) form is
 
     -- ---- what was told
 
@@ -173,20 +94,11 @@ module _ (layout : Layout) (nodes : Nodes) (listings : List Listing) (sound : Ar
       abbrev pub content : Directory
       content = directory_in said.draft
 
-      middle_is : tells.middle ≡ l.content
-      middle_is = tells.amended ∙ content_is nodes layout listings sound held l target.listed t.holder target.holder_is tells.node tells.there tells.content tells.says
-
       pub left : HasLeft (holder_address listings l.object.path) t.at l.content content
-      left =
-          subst (λ (p : ℕ). HasLeft p t.at l.content content) (held_at nodes layout listings sound held l target.listed t.holder target.holder_is tells.node tells.there)
-          (subst (λ (dir : Directory). HasLeft (address_in nodes tells.node.holder) t.at dir content) middle_is tells.rewritten)
+      left = target_of.rewritten layout nodes listings sound held path t target (Rewriting.Leaves t.at) said tells refl
 
       -- the deletion, with the bytes of its directory
       module _ (p : Piece) (piece : IsPieceOf layout nodes said p) where
-        pub place_is : place_of p ≡ l.object.sectors
-        place_is =
-            sectors_are nodes layout listings sound held l target.listed t.holder target.holder_is piece.node (ap (get nodes) (sym tells.number) ∙ piece.there) (place_of p) piece.place
-
         abbrev cut : (out rest : List Listing) × GoesAlone out o × IsPermutation listings (out ++ l ∷ rest)
         cut = cut_law.alone layout listings l t.at o sound target.listed target.at may.empty
 
@@ -212,9 +124,9 @@ module _ (layout : Layout) (nodes : Nodes) (listings : List Listing) (sound : Ar
         leaves = record {
           path_is = target.path_is;
           says = left.rewritten (Command.Delete path) l.object.path refl;
-          entries = left.entries o.entry (last_name path) entry_there
+          entries = left.entries o.entry (last_name path) (target_of.entry_there layout nodes listings sound held path t target)
               (same_name_turned (last_name path) o.entry.name
-              (lies_in path l.object.path o.entry.name (ap (is_same_path path) (sym (child_path layout listings sound l o target.listed kid_in)) ∙ target.path_is)).named);
+              (lies_in path l.object.path o.entry.name (ap (is_same_path path) (sym (child_path layout listings sound l o target.listed (target_of.kid_in layout nodes listings sound held path t target))) ∙ target.path_is)).named);
           written = piece.drafted.bytes;
           long = piece.drafted.length_is ∙ left.size
               ∙ size_of_form (dir_form layout) l.object.entry l.content (form l target.listed) (its.directory nodes layout listings sound held l target.listed t.holder target.holder_is);
@@ -230,7 +142,7 @@ module _ (layout : Layout) (nodes : Nodes) (listings : List Listing) (sound : Ar
   pub owners_are : (owners owners' : List Owner) → AreOwners owners nodes layout (objects_of listings) → HasNoOwner t.node owners owners' → OwnersEdited owners owners' (owners_with layout t.holder t.node o) []
   owners_are owners owners' owned goes =
       let own = owner_law nodes layout listings l t.at o t.holder t.node (record { sound = sound; held = held }) (record { listed = target.listed; at = target.at; dir_is = target.holder_is; number_is = target.node_is }) in
-      let found = owner_is layout nodes listings owners o t.node sound held owned target.node_is among ∙ ap (λ (w : Owner). cond (has_sectors o) (Some w) None) own in
+      let found = owner_is layout nodes listings owners o t.node sound held owned target.node_is (target_of.among layout nodes listings sound held path t target) ∙ ap (λ (w : Owner). cond (has_sectors o) (Some w) None) own in
       owners_left (has_sectors o) t.node owners owners' (owner_with layout t.holder t.node o) found goes.gone goes.none
 
 -- The owners that are taken over are those without the one of the object that goes.

@@ -35,7 +35,6 @@ use Rattle.fc_refusals.specs.declared.target.Target.{Target}
 use Rattle.fc_writing.proofs.LeavesLemmas.{leaves_law}
 use Rattle.fc_change.specs.declared.change.Says.{Says}
 use Rattle.fc_change.specs.declared.change.Turned.{Turned}
-use Rattle.fc_change.specs.declared.job.Job.{Job}
 use Rattle.fc_change.specs.declared.job.Job.TheVariants as jobs
 use Rattle.fc_change.specs.declared.job.Wants.{Wants}
 use Rattle.fc_change.specs.After.{AreOwnersAfter, CanTakeOver, CanTurnNode, CanTurnOwner, CanRegrowNode, owners_admitted}
@@ -43,16 +42,16 @@ use Rattle.fc_change.specs.Needs.{AreWants}
 use Rattle.fc_change.specs.OldSpace.{LieBehind, map_given}
 use Rattle.fc_change.specs.Shortage.{shortage}
 use Rattle.fc_course.specs.declared.stages.Prepared.{Prepared}
-use Rattle.fc_course.specs.Jobs.{HasLaws, IsJudged}
 use Rattle.fc_course.specs.Laws.{HasFront, JobLaws}
 use Rattle.fc_course.specs.Promises.{ChangesParts, WritesPlacesOf}
 use Rattle.fc_course.specs.Run.{IsMapOf, IsRun, KeepsBehind}
 use Rattle.fc_course.specs.Stages.{CanPrepareJob, IsPreparedFor}
 use Rattle.fc_course.specs.Written.{CanWriteOn, ChangeLeavesOn, IsChangedOn}
 use Rattle.fc_course.proofs.NewRemovalLemmas as new
+use Rattle.fc_course.proofs.EmptySpaceLemmas.{empty_space}
 use Rattle.fc_course.proofs.OldRemovalLemmas as old
-use Rattle.fc_course.proofs.RemovalLemmas as removal
-use Rattle.fc_course.proofs.RemovalStageLemmas.{IsRemovalChange, MayGo, can_prepare_job, empty_space, may_go, removal_change, removal_wants, view_of}
+use Rattle.fc_course.proofs.TargetLemmas as target_of
+use Rattle.fc_course.proofs.RemovalStageLemmas.{IsRemovalChange, MayGo, can_prepare_job, may_go, removal_change, removal_wants, view_of}
 use Rattle.fc_course.proofs.ShortLemmas.{new_short, old_short}
 
 abbrev pub parts : Layout → Nodes → List Owner → Parts
@@ -61,17 +60,17 @@ parts layout nodes owners = record { layout = layout; nodes = nodes; owners = ow
 -- ---- views
 
 -- parts that agree agree by each view of them
-new_view : (m : Map) (nodes : Nodes) (owners : List Owner) (other : Kind) → IsNewMap m → Agree other (parts (Layout.New m) nodes owners) → (kind : Kind) (was : List ℕ) (view : Opened) → OpensAs was kind view
+pub new_view : (m : Map) (nodes : Nodes) (owners : List Owner) (other : Kind) → IsNewMap m → Agree other (parts (Layout.New m) nodes owners) → (kind : Kind) (was : List ℕ) (view : Opened) → OpensAs was kind view
     → ArePartsOf (parts (Layout.New m) nodes owners) view → (root : Node) × AgreeOn kind m nodes owners root view.listings
 new_view m nodes owners other is a kind was view opens held =
     view_law.new kind other was view m nodes owners a.root a.listings (agreed_law.named other (parts (Layout.New m) nodes owners) m refl is a) opens held
 
-old_view : (space : OldMapContent) (nodes : Nodes) (owners : List Owner) (other : Kind) → IsOldMap space → LieBehind space → Agree other (parts (Layout.Old space) nodes owners) → (kind : Kind) (was : List ℕ) (view : Opened)
+pub old_view : (space : OldMapContent) (nodes : Nodes) (owners : List Owner) (other : Kind) → IsOldMap space → LieBehind space → Agree other (parts (Layout.Old space) nodes owners) → (kind : Kind) (was : List ℕ) (view : Opened)
     → OpensAs was kind view → ArePartsOf (parts (Layout.Old space) nodes owners) view → (root : Node) × OldAgreeOn kind space nodes owners root view.listings
 old_view space nodes owners other is behind a kind was view opens held =
     view_law.old kind other was view space nodes owners a.root a.listings (space_law.named other (parts (Layout.Old space) nodes owners) space refl is behind a) opens held
 
-sound_in : (layout : Layout) (nodes : Nodes) (owners : List Owner) (view : Opened) → AreSound layout view.listings → ArePartsOf (parts layout nodes owners) view → AreSound view.layout view.listings
+pub sound_in : (layout : Layout) (nodes : Nodes) (owners : List Owner) (view : Opened) → AreSound layout view.listings → ArePartsOf (parts layout nodes owners) view → AreSound view.layout view.listings
 sound_in layout nodes owners view sound held = subst (λ (l : Layout). AreSound l view.listings) held.layout sound
 
 -- ---- what a removal is
@@ -211,7 +210,7 @@ short_is (Layout.Old space) nodes owners t path name w v is may are sound held =
     let o = its.target.object in
     let given : map_given space nodes (Some t.node) space ≡ holding space (with_space_of space (Some o) space.holes) =
     old.given_at space nodes is.0 t path v.listings sound' held.nodes its in
-    old_short space nodes owners t name w v path o are (sym held.layout) is.0 (removal.there (Layout.Old space) nodes v.listings sound' held.nodes path t its) given
+    old_short space nodes owners t name w v path o are (sym held.layout) is.0 (target_of.there (Layout.Old space) nodes v.listings sound' held.nodes path t its.target) given
 
 -- ---- all of it
 
@@ -226,8 +225,8 @@ can_take layout layout' nodes owners owners' t path name kind p room a may prep 
     record {
       says = λ s at.
           subst (λ (n : ℕ). IsSome (get nodes n)) (sym ch.tells.number ∙ ap (λ (x : Says). x.node) (only ch.said s (subst (λ (ss : List Says). Contains ss s) ch.says at)))
-          (removal.has_dir layout nodes a.listings sound a.walked.held path t its);
-      object = subst (CanTurnNode nodes room) (sym ch.goes) (removal.has_node layout nodes a.listings sound a.walked.held path t its);
+          (target_of.has_dir layout nodes a.listings sound a.walked.held path t its.target);
+      object = subst (CanTurnNode nodes room) (sym ch.goes) (target_of.has_node layout nodes a.listings sound a.walked.held path t its.target);
       owner = subst (CanTurnOwner layout' owners') (sym ch.goes) tt;
       grown = subst (CanRegrowNode nodes owners') (sym ch.none) tt;
     }
@@ -243,7 +242,7 @@ removal_laws law layout nodes owners t path name bytes kind is suffice a may =
     record {
       can_prepare = can_prepare layout nodes owners t path name kind is a may;
       can_write = λ p n prep room. can_write law layout nodes owners t path name kind p n is a may prep room suffice;
-      can_take = λ p layout' number room prep. can_take layout layout' nodes owners (owners_admitted layout p.change.object number owners) t path name kind p room a may prep;
+      can_take = λ p layout' number room prep given. can_take layout layout' nodes owners (owners_admitted layout p.change.object number owners) t path name kind p room a may prep;
       agrees = λ p now number prep run. agrees law layout now.layout nodes now.nodes owners now.owners t path name kind p number is a may prep run;
       changes = λ c p now number was image j prep run changed long.
           (let its = may_go h kind a c t name bytes j in
@@ -256,16 +255,3 @@ removal_laws law layout nodes owners t path name bytes kind is suffice a may =
           (let its = may_go h kind a c t name bytes j in ap (short v) its.1 ∙ short_is layout nodes owners t its.0 name w v is its.2 are sound held);
       full = λ c v j full sound held. absurd (no_full full);
     }
-
--- The laws of each job that has them.
-pub laws_of : outcomes.DeletionLaw → (layout : Layout) (nodes : Nodes) (owners : List Owner) (job : Job) (name bytes : List ℕ) (kind : Kind) → HasLaws job → IsMapOf layout → PlacesSuffice layout
-    → Agree kind (parts layout nodes owners) → IsJudged (parts layout nodes owners) job name bytes → JobLaws kind (parts layout nodes owners) job name bytes
-laws_of law layout nodes owners (jobs.Removal t) name bytes kind has is suffice a judged =
-    let h = parts layout nodes owners in
-    let mine = may_go h kind a judged.0 t name bytes judged.1 in
-    removal_laws law layout nodes owners t mine.0 name bytes kind is suffice a mine.2
-laws_of law layout nodes owners (jobs.File slot words) name bytes kind has is suffice a judged = absurd has
-laws_of law layout nodes owners (jobs.Directory dir) name bytes kind has is suffice a judged = absurd has
-laws_of law layout nodes owners (jobs.Move r) name bytes kind has is suffice a judged = absurd has
-laws_of law layout nodes owners (jobs.Words t words) name bytes kind has is suffice a judged = absurd has
-laws_of law layout nodes owners (jobs.Marks t marks) name bytes kind has is suffice a judged = absurd has

@@ -1,17 +1,11 @@
 -- `delete`: each stage can follow on the one before, and what is ready in the end.
-use Rattle.std.proofs.Common.{◌≡◌, ◌<◌, ◌^◌, ℕ, List, [], ◌∷◌, ◌++◌, refl, sym, ap, subst, ◌∙◌, arith, Option, Some, None}
-use Rattle.std.specs.Prelude.{Contains, Vec}
-use Rattle.std.specs.declared.alloc.Global.{Global}
-use Rattle.std.specs.Option.{option_map}
-use Rattle.fc_alloc.specs.declared.owner.Owner.{Owner}
-use Rattle.fc_device.specs.declared.disk.Extent.{Extent}
-use Rattle.fc_drafts.specs.declared.room.Room.TheVariants as rooms
+use Rattle.std.proofs.Common.{◌≡◌, ◌<◌, ◌^◌, ℕ, List, [], ◌∷◌, refl, sym, ap, subst, ◌∙◌, arith, Option, Some, None}
+use Rattle.std.specs.Prelude.{Contains}
 use Rattle.fc_names.specs.Names.{Path}
 use Rattle.fc_record.specs.declared.Kind.{Kind}
 use Rattle.fc_oldmap.specs.OldMap.{OldMapContent}
-use Rattle.fc_newmap.specs.Map.{Map}
 use Rattle.fc_model.specs.Command.{Command}
-use Rattle.fc_image.specs.Layout.{Layout, sectors_at}
+use Rattle.fc_image.specs.Layout.{Layout}
 use Rattle.fc_image.specs.Opening.{Opened}
 use Rattle.fc_image.specs.Sound.{AreSound}
 use Rattle.fc_image.specs.Walk.{Listing}
@@ -21,41 +15,28 @@ use Rattle.fc_tree.proofs.MemberLemmas.{no_element}
 use Rattle.fc_laws.specs.nodes.Edits.{Nodes}
 use Rattle.fc_laws.proofs.lemmas.agree.BeforeLemmas.{agreed_law}
 use Rattle.fc_edits.proofs.lemmas.ShapeLemmas.{of_one, only}
-use Rattle.fc_objects.specs.Extents.{sectors_in}
-use Rattle.fc_placing.specs.declared.placing.Placing.{Placing}
-use Rattle.fc_placing.specs.declared.placing.Placing.TheVariants as placings
-use Rattle.fc_plan.specs.declared.plan.Plan.{Plan}
 use Rattle.fc_refusals.specs.Targets.{IsRemovable}
 use Rattle.fc_refusals.specs.declared.target.Target.{Target}
-use Rattle.fc_writing.specs.declared.ready.Piece.{Piece}
-use Rattle.fc_writing.specs.declared.ready.Ready.{Ready}
-use Rattle.fc_writing.specs.declared.ready.Source.{Source}
-use Rattle.fc_writing.specs.declared.ready.Source.TheVariants as sources
-use Rattle.fc_writing.specs.Ready.{source_place}
 use Rattle.fc_change.specs.declared.change.Change.{Change}
 use Rattle.fc_change.specs.declared.change.Regrowth.{Regrowth}
 use Rattle.fc_change.specs.declared.change.Says.{Says}
-use Rattle.fc_change.specs.declared.change.Turned.{Turned}
 use Rattle.fc_change.specs.declared.change.Turned.TheVariants as turns
-use Rattle.fc_change.specs.declared.job.Growth.{Growth}
 use Rattle.fc_change.specs.declared.job.Job.TheVariants as jobs
 use Rattle.fc_change.specs.declared.job.Wants.{Wants}
-use Rattle.fc_change.specs.declared.spaces.GrownPlace.{GrownPlace}
-use Rattle.fc_change.specs.declared.spaces.Place.{Place}
 use Rattle.fc_change.specs.declared.spaces.Spaces.{Spaces}
 use Rattle.fc_change.specs.Directories.{CanTell, CanTellAround, IsGrownThere, Rewriting, TellAll, Tells}
-use Rattle.fc_change.specs.Drafts.{CanDraft, CanTellJob, IsChangeOf, address_in, grown_in, told}
+use Rattle.fc_change.specs.Drafts.{CanDraft, CanTellJob, IsChangeOf, address_in, told}
 use Rattle.fc_change.specs.Jobs.{IsJob}
-use Rattle.fc_change.specs.Needs.{AreWants, room_of}
+use Rattle.fc_change.specs.Needs.{AreWants}
 use Rattle.fc_change.specs.OldSpace.{CanFree, LieBehind}
-use Rattle.fc_change.specs.GrownSpace.{IsGrown}
-use Rattle.fc_change.specs.Places.{ArePlacesFor, ArePlacesOn, CanPlace, IsCopiedFrom, IsOldPlaced, IsPlaceFor, IsPlacingFor, extents_in, plan_in}
-use Rattle.fc_change.specs.Prepared.{ArePiecesOf, CanPrepare, HasPlace, IsGrownPiece, IsNewPiece, IsPieceOf, IsReadyFor, IsSourceOf, PiecesMatch}
+use Rattle.fc_change.specs.Places.{CanPlace}
+use Rattle.fc_change.specs.Prepared.{CanPrepare, HasPlace}
 use Rattle.fc_course.specs.Jobs.{IsJobFor}
 use Rattle.fc_course.specs.Stages.{CanPrepareJob, IsSpaced}
 use Rattle.fc_course.specs.Run.{IsMapIn}
-use Rattle.fc_course.proofs.PutLemmas.{CopiesNone}
+use Rattle.fc_course.proofs.EmptySpaceLemmas.{WantsNoSpace, empty_space, no_growth, none_grown, one_said}
 use Rattle.fc_course.proofs.RemovalLemmas as removal
+use Rattle.fc_course.proofs.TargetLemmas as target_of
 
 -- ---- whose job it is
 
@@ -91,90 +72,10 @@ may_go h kind a c t name bytes j =
 
 -- ---- what it wants
 
-pub no_growth : (g : Option Growth) → room_of g ≡ rooms.Fits → g ≡ None
-no_growth None e = refl
-no_growth (Some g) e = absurd (cc)
-
--- ---- where that lies
-
-none_copied : (layout : Layout) (nodes : Nodes) (copied : Option ℕ) (from : Option (Vec Extent Global)) → copied ≡ None → IsCopiedFrom layout nodes copied (extents_in from) → from ≡ None
-none_copied layout nodes None None e is = refl
-none_copied layout nodes None (Some v) e is = absurd is
-none_copied layout nodes (Some n) from e is = absurd (cc)
-
-no_sectors : (layout : Layout) (address bytes : ℕ) (sectors : List ℕ) → bytes ≡ 0 → sectors_at layout address bytes ≡ Some sectors → sectors ≡ []
-unfolding sectors_at
-no_sectors layout address bytes sectors none is = same sectors (subst (λ (n : ℕ). sectors_at layout address n ≡ Some sectors) none is)
-  where
-    same : (xs : List ℕ) → (let q : Option (List ℕ) = Some [] in q) ≡ Some xs → xs ≡ []
-    same xs e = cc
-
--- An object of no bytes has no sectors.
-abbrev pub HasNoSectors : Option Place → Type 0
-HasNoSectors None = Unit {0}
-HasNoSectors (Some p) = sectors_in p.extents.items ≡ []
-
--- Nothing is placed, nothing is copied, and no directory grows.
-pub record IsEmptySpace (s : Spaces) : Type 0 where
-  pub object : HasNoSectors s.object
-  pub copied : s.copied ≡ None
-  pub grown : s.grown ≡ None
-
--- No space is wanted.
-pub record WantsNoSpace (w : Wants) : Type 0 where
-  pub bytes : w.bytes ≡ 0
-  pub slack : w.shares ≡ None
-  pub copy : w.copied ≡ None
-  pub grows : w.grows ≡ None
-
 pub removal_wants : (h : Parts) (t : Target) (name : List ℕ) (w : Wants) → AreWants h (jobs.Removal t) name w → WantsNoSpace w
 removal_wants h t name w are = record { bytes = are.bytes; slack = are.slack; copy = are.copy; grows = no_growth w.grows are.room }
 
-module _ (h : Parts) (w : Wants) (none : WantsNoSpace w) where
-  -- on a new map nothing is planned
-  pub placed_nowhere : (m : Map) (owners : List Owner) (placing : Placing) → IsPlacingFor m owners w placing → placing ≡ placings.Nowhere
-  placed_nowhere m owners placings.Nowhere is = refl
-  placed_nowhere m owners (placings.Shared share) is = absurd (let some = is.1 in let slack = none.slack in cc)
-  placed_nowhere m owners (placings.New plan) is = absurd (let some = is.1.some in let bytes = none.bytes in omega (arith, some, bytes))
-
-  new_object : (m : Map) (placing : Placing) (place : Option Place) → placing ≡ placings.Nowhere → IsPlaceFor m w placing place → HasNoSectors place
-  new_object m placing None at is = tt
-  new_object m placings.Nowhere (Some p) at is = no_sectors (Layout.New m) p.address w.bytes (sectors_in p.extents.items) none.bytes is.1
-  new_object m (placings.Shared share) (Some p) at is = absurd (cc)
-  new_object m (placings.New plan) (Some p) at is = absurd (cc)
-
-  old_object : (space : OldMapContent) (place : Option Place) → IsOldPlaced space w place → HasNoSectors place
-  old_object space None is = tt
-  old_object space (Some p) is = no_sectors (Layout.Old space) p.address w.bytes (sectors_in p.extents.items) none.bytes is.sectors
-
-  -- no directory is planned on a new map
-  pub none_planned : (m : Map) (object dir : Option Plan) (place : Option GrownPlace) → IsGrown m h object w.grows dir place → (dir ≡ None) × (place ≡ None)
-  none_planned m object dir place is = subst (λ (g : Option Growth). IsGrown m h object g dir place) none.grows is
-
-  empty_on : (layout : Layout) (s : Spaces) → h.layout ≡ layout → ArePlacesFor h w s → IsEmptySpace s
-  empty_on (Layout.New m) s at places =
-      let p = subst (λ (x : Layout). ArePlacesOn x h w s) at places in
-      record {
-        object = new_object m p.placing s.object (placed_nowhere m h.owners p.placing p.is) p.object;
-        copied = none_copied (Layout.New m) h.nodes w.copied s.copied none.copy p.copied;
-        grown = (none_planned m (plan_in p.placing) p.dir s.grown p.grown).1;
-      }
-  empty_on (Layout.Old space) s at places =
-      let p = subst (λ (x : Layout). ArePlacesOn x h w s) at places in record { object = old_object space s.object p.object; copied = p.copied; grown = p.grown }
-
-  pub empty_space : (s : Spaces) → ArePlacesFor h w s → IsEmptySpace s
-  empty_space s places = empty_on h.layout s refl places
-
-none_grown : (s : Spaces) → s.grown ≡ None → grown_in s ≡ None
-none_grown s none = ap (λ (g : Option GrownPlace). option_map (λ (p : GrownPlace). p.directory) g) none
-
 -- ---- what is told
-
--- what one directory is told
-one_said : (nodes : Nodes) (q : ℕ × Rewriting) (says : List Says) → TellAll None nodes (q ∷ []) says → (said : Says) × (says ≡ said ∷ []) × Tells None nodes q.0 q.1 said
-one_said nodes q [] is = absurd is
-one_said nodes q (s ∷ []) is = (s, refl, is.0)
-one_said nodes q (s ∷ r ∷ says) is = absurd is.1
 
 -- The change is that of one directory, which is told to say less, and of an object that goes.
 pub record IsRemovalChange (nodes : Nodes) (t : Target) (c : Change) : Type 0 where
@@ -190,64 +91,6 @@ removal_change h t name s c none is =
     let one = one_said h.nodes (t.holder, Rewriting.Leaves t.at) c.says.items
     (subst (λ (g : Option Regrowth). TellAll g h.nodes (told h.nodes (jobs.Removal t) name g is.entry) c.says.items) no is.tells) in
     record { said = one.0; says = one.1; tells = one.2; none = is.grown ∙ no; goes = is.object }
-
--- ---- what is ready
-
-one_piece : (layout : Layout) (nodes : Nodes) (said : Says) (ps : List Piece) → PiecesMatch layout nodes None (said ∷ []) ps → (p : Piece) × (ps ≡ p ∷ []) × IsPieceOf layout nodes said p
-one_piece layout nodes said [] is = absurd is
-one_piece layout nodes said (p ∷ []) is = (p, refl, is.0)
-one_piece layout nodes said (p ∷ q ∷ ps) is = absurd is.1
-
-no_new : (n : ℕ) (place : Option Place) (ps : List Piece) → IsNewPiece (turns.Goes n) place ps → ps ≡ []
-no_new n None ps is = is
-no_new n (Some p) ps is = is
-
--- Nothing is written for an object: there are no bytes for it, nor sectors.
-pub record WritesNone (s : Source) : Type 0 where
-  pub plain : CopiesNone s
-  pub place : source_place s ≡ []
-
-nothing_written : (s : Source) → s ≡ sources.Nothing → WritesNone s
-nothing_written s is = subst WritesNone (sym is) (record { plain = tt; place = refl })
-
-no_source : (n : ℕ) (place : Option Place) (from : Option (Vec Extent Global)) (s : Source) → HasNoSectors place → from ≡ None → IsSourceOf (turns.Goes n) place from s → WritesNone s
-no_source n None from s none is source = nothing_written s source
-no_source n (Some p) None s none is source = subst WritesNone (sym source) (record { plain = tt; place = none })
-no_source n (Some p) (Some v) s none is source = absurd (cc)
-
--- One directory is written, after the map's first step, and nothing else but the map.
-pub record IsOnePiece (r : Ready) (p : Piece) : Type 0 where
-  pub source : WritesNone r.source
-  pub carried : r.carried.items ≡ []
-  pub early : r.early.items ≡ []
-  pub late : r.late.items ≡ p ∷ []
-
--- what is ready of a removal
-pub record IsRemovalReady (layout : Layout) (nodes : Nodes) (said : Says) (s : Spaces) (r : Ready) : Type 0 where
-  pub piece : Piece
-  pub is_piece : IsPieceOf layout nodes said piece
-  pub one : IsOnePiece r piece
-  pub take : r.take ≡ s.take
-  pub give : r.give ≡ s.give
-
-pub removal_ready : (h : Parts) (t : Target) (c : Change) (s : Spaces) (r : Ready) → IsEmptySpace s → (ch : IsRemovalChange h.nodes t c) → IsReadyFor h c s r → IsRemovalReady h.layout h.nodes ch.said s r
-removal_ready h t c s r empty ch is =
-    let says = subst (λ (ss : List Says). ArePiecesOf h.layout h.nodes s.grown ss r.late.items) ch.says is.late in
-    let one = one_piece h.layout h.nodes ch.said r.late.items (subst (λ (g : Option GrownPlace). ArePiecesOf h.layout h.nodes g (ch.said ∷ []) r.late.items) empty.grown says) in
-    let made : is.made ≡ [] = no_new t.node s.object is.made (subst (λ (x : Turned). IsNewPiece x s.object is.made) ch.goes is.makes) in
-    let grown : is.grown ≡ [] = subst (λ (g : Option GrownPlace). IsGrownPiece g c.says.items is.grown) empty.grown is.grows in
-    record {
-      piece = one.0;
-      is_piece = one.2;
-      one = record {
-        source = no_source t.node s.object s.copied r.source empty.object empty.copied (subst (λ (x : Turned). IsSourceOf x s.object s.copied r.source) ch.goes is.source);
-        carried = is.carried;
-        early = is.early ∙ ap (λ (ps : List Piece). ps ++ is.grown) made ∙ grown;
-        late = one.1;
-      };
-      take = is.take;
-      give = is.give;
-    }
 
 -- ---- the stages
 
@@ -279,7 +122,7 @@ module _ (h : Parts) (kind : Kind) (a : Agree kind h) (t : Target) (path : Path)
   can_tell_job : (address : Option ℕ) → CanTellJob h (jobs.Removal t) name address None
   can_tell_job address = record {
     entry = its.target.object.entry;
-    made = (its.target.object.entry, removal.entry h.layout h.nodes a.listings sound a.walked.held path t its, refl);
+    made = (its.target.object.entry, target_of.entry h.layout h.nodes a.listings sound a.walked.held path t its.target, refl);
     first = of_one (λ (q : ℕ × Rewriting). CanTell None h.nodes q.0 q.1) (t.holder, Rewriting.Leaves t.at) (removal.can_tell h.layout h.nodes a.listings sound a.walked.held path t its a.walked.forms is_map);
     last = λ q at. absurd (no_element q at);
     begins = tt;
@@ -302,7 +145,7 @@ module _ (h : Parts) (kind : Kind) (a : Agree kind h) (t : Target) (path : Path)
       record {
         placed = λ said at.
             subst (λ (n : ℕ). HasPlace h n) (sym ch.tells.number ∙ ap (λ (x : Says). x.node) (only ch.said said (subst (λ (ss : List Says). Contains ss said) ch.says at)))
-            (removal.dir_place h.layout h.nodes a.listings sound a.walked.held path t its h refl refl);
+            (target_of.dir_place h.layout h.nodes a.listings sound a.walked.held path t its.target h refl refl);
         grows = λ g some. absurd (let no = empty.grown in cc);
       }
 

@@ -27,7 +27,7 @@ use Rattle.fc_change.specs.declared.job.Wants.{Wants}
 use Rattle.fc_change.specs.Needs.{AreWants}
 use Rattle.fc_change.specs.OldSpace.{map_given}
 use Rattle.fc_change.specs.Shortage.{shortage}
-use Rattle.fc_course.proofs.RemovalStageLemmas.{no_growth}
+use Rattle.fc_course.proofs.EmptySpaceLemmas.{no_growth}
 
 below_zero : (n : ℕ) → nat_lt n 0 ≡ false
 below_zero n = grind (arith, nat_tests)
@@ -41,7 +41,7 @@ wants_are h t name w are = λ i. record { bytes = are.bytes i; shares = are.slac
 
 -- ---- on a new map
 
-enough : (ids bits : ℕ) → first_of (when (nat_lt ids 0) refusals.IdsFull ∷ when (nat_lt bits 0) refusals.DiscFull ∷ []) ≡ None
+pub enough : (ids bits : ℕ) → first_of (when (nat_lt ids 0) refusals.IdsFull ∷ when (nat_lt bits 0) refusals.DiscFull ∷ []) ≡ None
 enough ids bits = ap₂ (λ (a b : Bool). first_of (when a refusals.IdsFull ∷ when b refusals.DiscFull ∷ [])) (below_zero ids) (below_zero bits)
 
 delete_takes_none : (v : Opened) (m : Map) (path : Path) → v.layout ≡ Layout.New m → short v (Command.Delete path) ≡ None

@@ -1,10 +1,11 @@
 -- The steps of a change of space can be made of a new map.
-use Rattle.std.proofs.Common.{◌≡◌, ℕ, Bool, true, false, List, [], ◌∷◌, filter, refl, sym, ap, ap₂, cond, subst, ◌∙◌, arith, Option, Some, None}
+use Rattle.std.proofs.Common.{◌≡◌, ℕ, Bool, true, false, List, [], refl, sym, ap, subst, ◌∙◌, arith, Option, Some, None}
 use Rattle.std.specs.Prelude.{◌||◌, AllPairs, Contains, IfSome, IsSome}
 use Rattle.std.specs.Option.{option_to_list}
 use Rattle.fc_newmap.specs.Map.{Map, hole_runs, runs_of, zone_numbers}
 use Rattle.fc_newmap.specs.NewMap.{IsNewMap}
 use Rattle.fc_image.specs.effects.Placed.{BeginsBefore}
+use Rattle.fc_changes.proofs.BasicLemmas.{filter_same}
 use Rattle.fc_plan.specs.declared.plan.Part.{Part}
 use Rattle.fc_plan.specs.declared.plan.Plan.{Plan}
 use Rattle.fc_plan.specs.Applied.{CanTakePlan, is_changed as changes}
@@ -25,10 +26,6 @@ use Rattle.fc_course.proofs.StepLemmas.{StaysTaken}
 
 -- ---- the zones that are listed
 
-filter_same : (p q : ℕ → Bool) (xs : List ℕ) → ((x : ℕ) → p x ≡ q x) → filter p xs ≡ filter q xs
-filter_same p q [] same = refl
-filter_same p q (x ∷ xs) same = ap₂ (λ (b : Bool) (ys : List ℕ). cond b (x ∷ ys) ys) (same x) (filter_same p q xs same)
-
 or_nothing : (a b : Bool) → ((a || false) || b) ≡ (a || (false || b))
 or_nothing true b = refl
 or_nothing false b = refl
@@ -39,7 +36,7 @@ same_changes m None gone z = refl
 same_changes m (Some p) gone z = or_nothing (has_part (fronts p.parts.items) z) (has_run_of gone (runs_of m z))
 
 zones_same : (m : Map) (plan : Option Plan) (gone : List ℕ) → zones_of m (option_to_list plan) gone None ≡ zones_changed m plan gone
-zones_same m plan gone = filter_same (is_changed m (option_to_list plan) gone) (changes m plan None gone) (zone_numbers m.geometry) (same_changes m plan gone)
+zones_same m plan gone = filter_same (is_changed m (option_to_list plan) gone) (changes m plan None gone) (zone_numbers m.geometry) (λ z at. same_changes m plan gone z)
 
 -- ---- a step
 

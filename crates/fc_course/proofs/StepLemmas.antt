@@ -13,6 +13,7 @@ use Rattle.fc_newmap.specs.Map.{Map, ZoneRun, all_runs, hole_runs, id_runs, is_h
 use Rattle.fc_newmap.specs.NewMap.{IsNewMap}
 use Rattle.fc_newmap.specs.Edits.{KeepsRuns}
 use Rattle.fc_newmap.specs.RunsLaw.{placed}
+use Rattle.fc_newmap.proofs.ComposeLemmas.{same_none, same_then}
 use Rattle.fc_newmap.proofs.PlaceLemmas.{contains_here, contains_later}
 use Rattle.fc_image.specs.effects.Placed.{holes_left}
 use Rattle.fc_image.specs.effects.Steady.{has_id_that, holes_with, runs_that, zone_holes}
@@ -50,12 +51,6 @@ edited_same m is = record {
   zones = λ z low. record { header = refl; behind = refl };
   links = λ z low. record { free_link = inl refl; fields = each_of (Kept (shape m.geometry z) (bits (sector_of m z)) (bits (sector_of m z)) (runs_of m z)) (hole_starts (runs_of m z)) (λ at there. inl (there, refl)) };
 }
-
-kept_same : (m : Map) → IsNewMap m → KeepsRuns m m
-kept_same m is = record { was = is; map = is; geometry = refl; runs = λ z. refl }
-
-kept_then : (m mid m' : Map) → KeepsRuns m mid → KeepsRuns mid m' → KeepsRuns m m'
-kept_then m mid m' a b = record { was = a.was; map = b.map; geometry = b.geometry ∙ a.geometry; runs = λ z. b.runs z ∙ a.runs z }
 
 -- ---- the same runs
 
@@ -131,7 +126,7 @@ module _ (m mid : Map) (edited : IsMapEdited m mid) where
       (λ id. moved.of_ids id ∙ all_stay (id_runs moved.taken id))
 
   taken_by : (plan : Option Plan) → HasMoved m mid (option_to_list plan) [] [] → IsTakenBy m mid plan
-  taken_by None moved = kept_then m moved.first mid moved.same_runs (subst (λ (x : Map). KeepsRuns x mid) moved.takes (whole [] moved))
+  taken_by None moved = same_then m moved.first mid moved.same_runs (subst (λ (x : Map). KeepsRuns x mid) moved.takes (whole [] moved))
   taken_by (Some p) moved =
       let takes = moved.takes in
       taken_after m moved.first mid p.id (fronts p.parts.items) moved.same_runs
@@ -141,7 +136,7 @@ pub first_step : (m mid : Map) (plan : Option Plan) (step : MapStep) → IsNewMa
 first_step m mid plan (steps.New s) is at done =
     let edited = step_edited m m mid (option_to_list plan) [] s at done in (edited, taken_by m mid edited plan (step_moved m m mid (option_to_list plan) [] s at done))
 first_step m mid plan (steps.Old space) is at done = absurd at
-first_step m mid None steps.Nothing is at done = subst (λ (x : Map). IsMapEdited m x × KeepsRuns m x) (sym done) (edited_same m is, kept_same m is)
+first_step m mid None steps.Nothing is at done = subst (λ (x : Map). IsMapEdited m x × KeepsRuns m x) (sym done) (edited_same m is, same_none m is)
 first_step m mid (Some p) steps.Nothing is at done = absurd (let none = at.plans_are in cc)
 
 -- ---- the second: identifiers go back
@@ -171,6 +166,12 @@ second_step w m m' gone (steps.New s) is at done = (step_edited w m m' [] gone s
 second_step w m m' gone (steps.Old space) is at done = absurd at
 second_step w m m' gone steps.Nothing is at done =
     subst (λ (x : Map). IsMapEdited m x × IsSpaceEdit m x 0 [] gone) (sym done) (edited_same m is, subst (λ (gs : List ℕ). IsSpaceEdit m m 0 [] gs) (sym at.gone_are) (nothing_edit m))
+
+-- Where there is nothing to do, the map stays as it is.
+pub no_step : (w m m' : Map) (step : MapStep) → IsStep w [] [] [] None step → HasStepped m m' step → m' ≡ m
+no_step w m m' (steps.New s) is done = absurd (is.some (record { plans_are = refl; gone_are = refl; root_is = refl }))
+no_step w m m' (steps.Old space) is done = absurd is
+no_step w m m' steps.Nothing is done = done
 
 -- ---- both
 

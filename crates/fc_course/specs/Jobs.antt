@@ -1,5 +1,9 @@
 -- Whose job a job is.
-use Rattle.std.specs.Prelude.{◌≡◌, ℕ, false, List, [], None}
+use Rattle.std.specs.Prelude.{◌≡◌, ◌<◌, ℕ, false, List, [], None}
+use Rattle.fc_names.specs.declared.name.NameForm.{NameForm}
+use Rattle.fc_names.specs.declared.name.NameForm.TheVariants as forms
+use Rattle.fc_dirs.specs.declared.SmallForm.TheVariants.{Bytes1280, Bytes2048}
+use Rattle.fc_dirs.specs.Small.{attrs_limit}
 use Rattle.fc_model.specs.Answer.{first_of, reasons}
 use Rattle.fc_model.specs.Command.{Command}
 use Rattle.fc_image.specs.Layout.{dir_form}
@@ -25,7 +29,15 @@ pub record IsJobFor (c : Command) (h : Parts) (job : Job) (name bytes : List ℕ
 abbrev pub IsJudged : Parts → Job → List ℕ → List ℕ → Type 0
 IsJudged h job name bytes = (c : Command) × IsJobFor c h job name bytes
 
--- The laws of these jobs stand; the others follow.
-abbrev pub HasLaws : Job → Type 0
-HasLaws (jobs.Removal target) = Unit {0}
-HasLaws _ = ⊥
+-- An entry of a directory of this form can hold the attributes.
+abbrev pub FitAttributes : NameForm → ℕ → Type 0
+FitAttributes forms.Seven attrs = attrs < attrs_limit Bytes1280
+FitAttributes forms.Ten attrs = attrs < attrs_limit Bytes2048
+FitAttributes forms.Long attrs = Unit {0}
+
+-- The laws of these jobs stand, if an entry can hold the access bits and the attributes that they give; the others follow.
+abbrev pub HasLaws : Parts → Job → Type 0
+HasLaws h (jobs.Removal target) = Unit {0}
+HasLaws h (jobs.Words target words) = words.access < 8
+HasLaws h (jobs.Marks target attrs) = FitAttributes (dir_form h.layout) attrs
+HasLaws h _ = ⊥

@@ -23,7 +23,7 @@ use Rattle.fc_course.specs.Jobs.{HasLaws, IsJobFor, IsJudged}
 use Rattle.fc_course.specs.Promises.{ChangesParts, WritesPlacesOf}
 use Rattle.fc_course.specs.Run.{IsMapOf, IsRun, KeepsBehind}
 use Rattle.fc_course.specs.Stages.{CanPrepareJob, IsPreparedFor}
-use Rattle.fc_course.specs.Written.{CanWriteOn, ChangeLeavesOn, IsChangedOn}
+use Rattle.fc_course.specs.Written.{CanWriteOn, ChangeLeavesOn, IsChangedOn, IsGivenOn}
 
 -- The image has all sectors of an old map.
 abbrev pub HasFront : Layout → List ℕ → Type 0
@@ -35,7 +35,7 @@ pub record JobLaws (kind : Kind) (h : Parts) (job : Job) (name bytes : List ℕ)
   -- each stage can follow
   pub can_prepare : CanPrepareJob h job name
   pub can_write : (p : Prepared) (n : ℕ) → IsPreparedFor h job name p → disc_sectors h.layout ≤ n → CanWriteOn h.layout n p.ready
-  pub can_take : (p : Prepared) (layout : Layout) (number room : ℕ) → IsPreparedFor h job name p
+  pub can_take : (p : Prepared) (layout : Layout) (number room : ℕ) → IsPreparedFor h job name p → IsGivenOn h.layout p.ready layout
       → CanTakeOver layout h.nodes (owners_admitted h.layout p.change.object number h.owners) room p.change
   -- The parts agree afterwards; if there was memory for no owner more, these are the owners before.
   pub agrees : (p : Prepared) (now : Parts) (number : ℕ) → IsPreparedFor h job name p → IsRun h now p number → Agree kind now × KeepsBehind now.layout
@@ -50,4 +50,4 @@ pub record JobLaws (kind : Kind) (h : Parts) (job : Job) (name bytes : List ℕ)
 -- ---- the jobs that have them
 
 abbrev pub CourseLaw : Type 0
-CourseLaw = (h : Parts) (job : Job) (name bytes : List ℕ) (kind : Kind) → HasLaws job → IsMapOf h.layout → PlacesSuffice h.layout → Agree kind h → IsJudged h job name bytes → JobLaws kind h job name bytes
+CourseLaw = (h : Parts) (job : Job) (name bytes : List ℕ) (kind : Kind) → HasLaws h job → IsMapOf h.layout → PlacesSuffice h.layout → Agree kind h → IsJudged h job name bytes → JobLaws kind h job name bytes

@@ -65,7 +65,7 @@ pub fn change<D: Disk>(
     requires settled { IsFalse (D.pending disk.old) }
     requires stands { Stands D.Disk holdings.old disk.old }
     requires judged { IsJudged (parts_of holdings.old) job.now name.now bytes.now }
-    requires covered { HasLaws job.now }
+    requires covered { HasLaws (parts_of holdings.old) job.now }
     ensures refused { (c : Command) → IsJobFor c (parts_of holdings.old) job.now name.now bytes.now → AnswersShort c (parts_of holdings.old) result }
     ensures changed { OnOk result ((c : Command) → IsJobFor c (parts_of holdings.old) job.now name.now bytes.now
         → HasChanged D.Disk c (parts_of holdings.old) (parts_of holdings.new) disk.old disk.new) }

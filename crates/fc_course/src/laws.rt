@@ -6,4 +6,5 @@ pub fn jobs()
     ensures { CourseLaw }
 {
     fc_outcomes::deletion();
+    fc_outcomes::rewording();
 }

@@ -11,7 +11,7 @@ use Rattle.fc_device.specs.Calls.{SameForm}
 use Rattle.fc_device.specs.Sectors.{IsSectorSize}
 use Rattle.fc_device.specs.declared.disk.Disk.{Ghosts}
 use Rattle.fc_device.specs.contracts.disk.Disk.TheBound.{Met}
-use Rattle.fc_device.proofs.SectorLemmas.{whole_fits}
+use Rattle.fc_device.proofs.SectorLemmas.{row_fits, whole_fits}
 
 pub record Laws {D : Type 0} (d : Ghosts D) : Type 0 where
   pub sector_sizes : (s : D) → IsSectorSize (d.sector_size s)
@@ -42,6 +42,12 @@ module _ {D : Type 0} {d : Ghosts D} (law : Laws d) where
   sector_fits s n lt image told =
       let whole : d.sectors s ≡ length image / d.sector_size s = law.whole_sectors s ∙ ap (λ (k : ℕ). k / d.sector_size s) (sym (law.told_length s image told)) in
       whole_fits n (d.sector_size s) (length image) (law.sector_sizes s) (subst (λ (k : ℕ). n < k) whole lt)
+
+  -- and so does a row
+  pub row_fits_in : (s : D) (n count : ℕ) → n + count ≤ d.sectors s → (image : List ℕ) → d.bytes s ≡ Some image → n * d.sector_size s + count * d.sector_size s ≤ length image
+  row_fits_in s n count le image told =
+      let whole : d.sectors s ≡ length image / d.sector_size s = law.whole_sectors s ∙ ap (λ (k : ℕ). k / d.sector_size s) (sym (law.told_length s image told)) in
+      row_fits n count (d.sector_size s) (length image) (law.sector_sizes s) (subst (λ (k : ℕ). n + count ≤ k) whole le)
 
 module _ {D : Type 0} (d : Ghosts D) where
   pub form_same : (s : D) → SameForm d s s

@@ -160,6 +160,10 @@ where
         self.write_from(n * self.size, from)
     }
 
+    fn write_row(&mut self, row: Extent, from: &[u8]) -> Result<(), Failed> {
+        self.write_from(row.first * self.size, from)
+    }
+
     fn sync(&mut self) -> Result<(), Failed> {
         let synced = self.edge.sync();
         self.pending = synced.is_err();

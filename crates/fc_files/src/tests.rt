@@ -115,6 +115,23 @@ fn put<D: Disk>(disk: &mut D, n: u64, byte: u8) -> Result<bool, Failed>
     Ok(true)
 }
 
+// Writes two sectors in a row, each with bytes of one value, if there are such.
+fn put_two<D: Disk>(disk: &mut D, first: u64, bytes: [u8; 2]) -> Result<bool, Failed>
+    requires attached { IsTrue (D.attached disk.old) }
+    requires size { D.sector_size disk.old ≡ 512 }
+    ensures form { SameForm D.Disk disk.old disk.new }
+{
+    let mut row = [bytes[0]; 1024];
+    row[512..].fill(bytes[1]);
+    let sectors = disk.sectors();
+    if first >= sectors || sectors - first < 2 {
+        return Ok(false);
+    }
+    let extent = Extent { first, sectors: 2 };
+    disk.write_row(extent, &row)?;
+    Ok(true)
+}
+
 // Whether a sector has bytes of one value.
 fn has<D: Disk>(disk: &mut D, n: u64, byte: u8) -> Result<bool, Failed>
     requires attached { IsTrue (D.attached disk.old) }
@@ -172,14 +189,16 @@ fn writes_are_read_back(rt: HostRuntime) -> Result<(), Fail> {
     // The first write opens the file for writing, and reads go on by the same file.
     let right = put(&mut again, 3, 90)? && has(&mut again, 3, 90)?;
     assert!(rt; right);
-    let right = has(&mut again, 8, 73)? && has_two(&mut again, 7, [0, 73])?;
+    let right = put_two(&mut again, 6, [80, 81])? && !put_two(&mut again, 8, [1, 1])?;
+    assert!(rt; right);
+    let right = has(&mut again, 8, 73)? && has_two(&mut again, 7, [81, 73])?;
     assert!(rt; right);
     let right = has_two(&mut again, 3, [90, 0])? && has_two(&mut again, 0, [65, 66])?;
     assert!(rt; right);
     again.sync()?;
     let bytes = fs::read(&rt, MADE)?;
     assert!(rt; bytes.len() == 5000);
-    let firsts = [65u8, 66, 0, 90, 0, 70, 0, 0, 73, 0];
+    let firsts = [65u8, 66, 0, 90, 0, 70, 80, 81, 73, 0];
     let right = bytes
         .chunks(512)
         .zip(&firsts)

@@ -5,10 +5,10 @@ use Rattle.std.proofs.lemmas.Bool.{cases_lt}
 use Rattle.std.proofs.lemmas.Grind.{div_ceil_times}
 use Rattle.std.proofs.lemmas.Nat.{mul-le}
 
-one_more : (k size : ℕ) → (k + 1) * size ≡ k * size + size
+pub one_more : (k size : ℕ) → (k + 1) * size ≡ k * size + size
 one_more k size = grind (arith)
 
-both : (a b size : ℕ) → (a + b) * size ≡ a * size + b * size
+pub both : (a b size : ℕ) → (a + b) * size ≡ a * size + b * size
 both a b size = grind (arith)
 
 -- no more than any number of sectors that has room for them

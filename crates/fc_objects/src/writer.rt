@@ -1,8 +1,7 @@
 // The bytes of an object, written.
-ghost use Rattle.std.specs.Prelude.{◌≡◌, ◌⊎◌, ◌<◌, ◌≤◌, ◌*◌, ℕ, List, All, IsTrue, IsFalse, OnOk, Some, length, option_map, take};
+ghost use Rattle.std.specs.Prelude.{◌≡◌, ◌<◌, ◌≤◌, ◌*◌, ℕ, List, All, IsTrue, IsFalse, OnOk, Some, length, take};
 ghost use Rattle.std.specs.Option.{ForSome};
-ghost use Rattle.fc_device.specs.Calls.{FailsByFault, SameForm, StopsAndExitsLeave, StopsTearOne};
-ghost use Rattle.fc_device.specs.Sectors.{with_sector};
+ghost use Rattle.fc_device.specs.Calls.{FailsByFault, SameForm, StopsAndExitsLeave};
 ghost use Rattle.fc_device.specs.Stops.{StillLeaves};
 ghost use Rattle.fc_objects.specs.Bytes.{first_bytes};
 ghost use Rattle.fc_objects.specs.Extents.{sectors_in};
@@ -22,31 +21,31 @@ fn sector_of(from: &[u8], size: usize) -> [u8; MAX_SECTOR]
     bytes
 }
 
-// Replaces a sector by the first of these bytes; if there are fewer than it has, zeros follow them.
-fn write_front<D: Disk>(
-    disk: &mut D,
-    size: usize,
-    sector: u64,
-    from: &[u8],
-) -> Result<(), DiskFault>
-    requires attached { IsTrue (D.attached disk.old) }
-    requires size { D.sector_size disk.old ≡ size }
-    requires on_disk { sector < D.sectors disk.old }
-    ensures written { OnOk result (D.bytes disk.new ≡ option_map (λ image. with_sector (D.sector_size disk.old) image sector (padded size from.now)) (D.bytes disk.old)) }
-    ensures old_or_new { (D.bytes disk.new ≡ D.bytes disk.old) ⊎ (D.bytes disk.new ≡ option_map (λ image. with_sector (D.sector_size disk.old) image sector (padded size from.now)) (D.bytes disk.old)) }
-    ensures form { SameForm D.Disk disk.old disk.new }
-    ensures stops { StopsTearOne D.Disk disk.old disk.new sector (padded size from.now) }
-    ensures still { StillLeaves D.moment D.left_since disk.old disk.new }
-    ensures read_calls { D.read_calls disk.new ≡ D.read_calls disk.old }
-    ensures cause { FailsByFault D.Disk disk.old disk.new result }
+// How many sectors to write at once: those that so many bytes fill, and one if they fill none.
+fn sectors_at_once(left: usize, size: usize) -> u64
+    requires { 0 < size }
+    ensures some { 0 < result }
+    ensures one { left < size → result ≡ 1 }
+    ensures enough { size ≤ left → result * size ≤ left }
 {
-    let bytes = sector_of(from, size);
-    disk.write(sector, &bytes[..size])?;
-    Ok(())
+    ((left / size) as u64).max(1)
 }
 
-/// Writes bytes into the sectors of an object, one after another, and zeros into what is left of them. Bytes for which the
-/// sectors have no room are left out. The object is given by its extents, all of which lie on the disk, and `size` is the
+// The first of these bytes as whole sectors. If there are fewer, those of the last sector, where zeros follow them.
+fn row_of<'a>(from: &'a [u8], whole: usize, last: &'a [u8; MAX_SECTOR]) -> &'a [u8]
+    requires few { length from.now < whole → whole ≤ 1024 }
+    requires last { length from.now < whole → take whole last.now ≡ padded whole from.now }
+    ensures { result.now ≡ padded whole from.now }
+{
+    if whole <= from.len() {
+        &from[..whole]
+    } else {
+        &last[..whole]
+    }
+}
+
+/// Writes bytes into the sectors of an object, one after another, and zeros into what is left of them. Sectors that lie in a row and
+/// that the bytes fill are written in one call. Bytes for which the sectors have no room are left out. The object is given by its extents, all of which lie on the disk, and `size` is the
 /// bytes of a sector. No other sector changes. Until a sync, a crash may leave each of these sectors old or new, and so
 /// does a failure. It fails only if the disk's write fails.
 pub fn write_object<D: Disk>(
@@ -71,9 +70,11 @@ pub fn write_object<D: Disk>(
 {
     let mut sectors = Sectors::of(at);
     let mut left = from;
-    while let Some(row) = sectors.next_row(1) {
-        write_front(disk, size, row.first, left)?;
-        left = &left[size.min(left.len())..];
+    while let Some(row) = sectors.next_row(sectors_at_once(left.len(), size)) {
+        let whole = row.sectors as usize * size;
+        let last = sector_of(left, size);
+        disk.write_row(row, row_of(left, whole, &last))?;
+        left = &left[whole.min(left.len())..];
     }
     Ok(())
 }

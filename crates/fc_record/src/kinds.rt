@@ -75,8 +75,9 @@ fn kind_in_old_map(map: &[u8]) -> Option<Kind>
     }
 }
 
-// The record in the boot block, if the image has a right one.
-fn boot_record<D: Disk>(disk: &mut D) -> Result<Option<DiscRecord>, DiskFault>
+/// The record in the boot block of an image, if it has a right one. The disk's sectors have 256 bytes. Takes at most two read calls, and
+/// none of sectors that the image doesn't have. It fails only if the disk's read fails.
+pub fn boot_record<D: Disk>(disk: &mut D) -> Result<Option<DiscRecord>, DiskFault>
     requires attached { IsTrue (D.attached disk.old) }
     requires size { D.sector_size disk.old ≡ 256 }
     ensures found { IfOk result (λ found. ForSome (D.bytes disk.old) (λ image. found ≡ (if is_boot image then Some (boot_record image) else None))) }

@@ -5,6 +5,7 @@ mod changes;
 mod crashes;
 mod failing;
 mod identifiers;
+mod lost;
 mod old_maps;
 
 use crate::images::{Part, put, put_at};

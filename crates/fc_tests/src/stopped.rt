@@ -1,7 +1,7 @@
 // What a crash leaves of a disk in memory, on a worked case: the program has no such disk, and the crashes in the runs here rest
 // on it.
 use crate::images::never;
-use fc_device::{Disk, MemoryDisk};
+use fc_device::{Disk, Extent, Failing, MemoryDisk};
 use std::alloc::Global;
 use std::test::Fail;
 
@@ -27,6 +27,47 @@ fn written(alloc: Global) -> Result<MemoryDisk, Fail> {
         disk.write(0, &[4; 256])?;
     }
     Ok(disk)
+}
+
+// Three sectors of 0, of which the first two were written in a row, which fails at the second if `failing` has it.
+fn written_row(alloc: Global, failing: Failing) -> Result<MemoryDisk, Fail> {
+    let name = String::from_str(alloc, "disc")?;
+    let bytes = vec![in alloc; 0; 768]?;
+    let mut disk = MemoryDisk::new(alloc, name, bytes, failing, 6, 0)?;
+    if disk.attach("disc", None)? && disk.sectors() == 3 {
+        let mut row = [1; 512];
+        row[256..].fill(2);
+        let extent = Extent {
+            first: 0,
+            sectors: 2,
+        };
+        let _ = disk.write_row(extent, &row);
+    }
+    Ok(disk)
+}
+
+#[test]
+fn stops_leave_any_sectors_of_a_row(rt: HostRuntime) -> Result<(), Fail> {
+    let alloc = rt.alloc();
+    let disk = written_row(alloc, never(alloc))?;
+    let left = [
+        ([].as_slice(), [0, 0, 0].as_slice()),
+        ([true, false].as_slice(), [1, 0, 0].as_slice()),
+        ([false, true].as_slice(), [0, 2, 0].as_slice()),
+        ([true, true].as_slice(), [1, 2, 0].as_slice()),
+    ];
+    for (kept, values) in left {
+        let image = disk.stopped(alloc, 99, kept)?;
+        assert!(rt; has_sectors(&image, values));
+    }
+    let second = Failing {
+        reads: Vec::new(alloc),
+        writes: vec![in alloc; 2]?,
+        syncs: Vec::new(alloc),
+    };
+    let disk = written_row(alloc, second)?;
+    assert!(rt; has_sectors(disk.bytes(), &[1, 0, 0]));
+    Ok(())
 }
 
 #[test]

@@ -1,5 +1,3 @@
-use Rattle.std.proofs.Common.{List, ap, subst, ℕ}
-use Rattle.std.proofs.lemmas.Result.{on_ok_weaker}
 use Rattle.fc_device.proofs.DiskLaws.{laws, form_same}
 use Rattle.fc_device.proofs.StopLemmas.{keeps_same, keeps_start}
 use Rattle.fc_compact.proofs.RowLemmas.{holes_none, kept_preserves, kept_ready, kept_torn}

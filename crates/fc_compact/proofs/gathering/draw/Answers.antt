@@ -1,13 +1,12 @@
-use Rattle.std.proofs.Common.{◌≡◌, ◌<◌, ◌≤◌, ◌⊎◌, inl, inr, ℕ, ◌+◌, ◌-◌, ◌*◌, ◌/◌, ◌%◌, ◌^◌, ◌++◌, ◌∷◌, List, Some, refl, ap, ap₂, sym, subst, ◌∙◌, arith}
-use Rattle.std.specs.Option.{ForSome}
+use Rattle.std.proofs.Common.{◌≡◌, inl, inr, ℕ, ◌+◌, ◌-◌, ◌*◌, ◌/◌, ◌%◌, ◌++◌, ◌∷◌, refl, ap, ap₂, sym, subst, ◌∙◌, arith}
 use Rattle.fc_record.specs.declared.Geometry.{Geometry}
 use Rattle.fc_zone.specs.declared.Run.{Run}
-use Rattle.fc_newmap.specs.Map.{Map, first_sector, runs_of, sector_count}
+use Rattle.fc_newmap.specs.Map.{first_sector, sector_count}
 use Rattle.fc_newmap.specs.Walk.{IsInZone}
 use Rattle.fc_zone.proofs.HolderLemmas.{run_ext}
 use Rattle.fc_newmap.proofs.RunsLemmas.{place_sector}
 use Rattle.fc_compact.specs.Copying.{IsCopied, TearsRow}
-use Rattle.fc_compact.specs.Sliding.{HasRuns, hole_at, part, row, run_at}
+use Rattle.fc_compact.specs.Sliding.{HasRuns, hole_at, part, run_at}
 use Rattle.fc_compact.proofs.FindLemmas.{first_row, hole_room, hole_whole, len_room, len_whole, pair_fits, run_follows, some_len}
 use Rattle.fc_compact.proofs.SlideLemmas.{disc_low, id_fits, piece_apart, piece_in_zone, piece_on_disc, place_in_zone}
 use Rattle.fc_compact.proofs.gathering.draw.Goals as goal

@@ -1,7 +1,6 @@
-use Rattle.std.proofs.Common.{◌≡◌, ◌<◌, ◌≤◌, ◌+◌, ◌*◌, ◌/◌, ◌^◌, ◌++◌, ◌∷◌, [], List, ℕ, sym, ◌∙◌, refl, arith, append_assoc}
+use Rattle.std.proofs.Common.{◌++◌, ◌∷◌, [], sym, ◌∙◌, arith, append_assoc}
 use Rattle.fc_device.proofs.DiskLaws.{laws}
-use Rattle.fc_zone.specs.declared.Run.{Run}
-use Rattle.fc_newmap.specs.Map.{first_sector, sector_count}
+use Rattle.fc_newmap.specs.Map.{sector_count}
 use Rattle.fc_compact.specs.Sliding.{HasRuns}
 use Rattle.fc_compact.proofs.HoldLemmas.{movable_high, run_short}
 use Rattle.fc_compact.proofs.JoinLemmas.{count_up}

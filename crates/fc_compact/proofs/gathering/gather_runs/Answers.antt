@@ -1,26 +1,23 @@
-use Rattle.std.proofs.Common.{◌≡◌, ◌<◌, ◌≤◌, ◌+◌, ◌-◌, ◌*◌, ◌/◌, ◌∷◌, ◌++◌, [], ℕ, List, Bool, Some, refl, ap, sym, subst, ◌∙◌, arith, append_assoc, true, false}
+use Rattle.std.proofs.Common.{◌≡◌, ◌<◌, ◌≤◌, ◌*◌, ◌/◌, ◌∷◌, ◌++◌, [], ℕ, List, Bool, refl, ap, sym, subst, ◌∙◌, arith, append_assoc, true, false}
 use Rattle.std.specs.Prelude.{◌||◌}
 use Rattle.fc_device.proofs.DiskLaws.{laws, form_same, form_then}
-use Rattle.fc_device.proofs.StopLemmas.{keeps_start}
 use Rattle.fc_record.specs.declared.Geometry.{Geometry}
 use Rattle.fc_zone.specs.declared.Run.{Run}
-use Rattle.fc_newmap.specs.Map.{Map, first_sector, runs_of, sector_count}
+use Rattle.fc_newmap.specs.Map.{first_sector, runs_of, sector_count}
 use Rattle.fc_newmap.proofs.ComposeLemmas.{zone_cut}
-use Rattle.fc_image.specs.Layout.{Layout, disc_sectors, hole_sectors, is_among}
 use Rattle.fc_compact.specs.Copying.{ChangesRow}
 use Rattle.fc_compact.specs.Sliding.{HasRuns}
-use Rattle.fc_compact.proofs.CarryLemmas.{carrying_none}
-use Rattle.fc_compact.proofs.GatherLemmas.{Turned, front_fits, front_on_disc, gathers_none, more_carrying, one_more, start_front, step_ends}
+use Rattle.fc_compact.proofs.GatherLemmas.{FrontIn, front_fits, front_kept, front_more, gathers_none, more_carrying, one_more, start_front, step_ends}
 use Rattle.fc_compact.proofs.HoldLemmas.{run_short, run_is_long, some_min}
 use Rattle.fc_compact.proofs.ReleaseLemmas.{first_of}
-use Rattle.fc_compact.proofs.RowLemmas.{holes_none, kept_torn, told_still, torn_led}
+use Rattle.fc_compact.proofs.RowLemmas.{told_still, torn_led}
 use Rattle.fc_compact.proofs.gathering.gather_runs.Goals as goal
 
 pub returns-in_default-clause-kept : goal.returns-in_default-clause-kept
-returns-in_default-clause-kept g c = keeps_start (laws g.met.D.Disk) (holes_none c.args.map.now) c.args.disk.now c.requires.settled
+returns-in_default-clause-kept g c = λ m spares start form kept. kept
 
 pub returns-in_default-clause-carrying : goal.returns-in_default-clause-carrying
-returns-in_default-clause-carrying g c = λ image told. carrying_none c.args.map.now c.args.owners.now image
+returns-in_default-clause-carrying g c = λ m spares carrying. carrying
 
 pub returns-in_default-clause-gathers : goal.returns-in_default-clause-gathers
 returns-in_default-clause-gathers g c = gathers_none c.args.owners.now c.args.map.now c.args.z c.is_map.ensures
@@ -31,8 +28,8 @@ loop-next-init g c =
     let first = first_of (runs_of m c.args.z) c.in-Some.first (sym c.first_in.ensures.value ∙ c.in-Some.is) in
     record {
       form = form_same g.D.Disk c.args.disk.now;
-      kept = keeps_start (laws g.met.D.Disk) (holes_none m) c.args.disk.now c.requires.settled;
-      carrying = λ image told. carrying_none m c.args.owners.now image;
+      kept = λ n spares start form kept. kept;
+      carrying = λ n spares carrying. carrying;
       gathers = gathers_none c.args.owners.now m c.args.z c.is_map.ensures;
       still = λ e. refl;
       front = [];
@@ -41,8 +38,8 @@ loop-next-init g c =
       passed = c.in-Some.first ∷ [];
       ahead = first.1;
       few = subst (λ (k : ℕ). k ≤ c.in-Some.first.len) (sym c.fresh_of-fresh.ensures) (front_fits c.in-Some.first);
-      in_holes = subst (λ (k : ℕ). (i : ℕ) → i < sector_count m.geometry (c.args.z, record c.in-Some.first { len = k }) → is_among (hole_sectors (Layout.New m)) (first_sector m.geometry (c.args.z, c.in-Some.first) + i) ≡ true)
-          (sym c.fresh_of-fresh.ensures) (start_front m c.is_map.ensures c.args.z c.requires.zone [] first.0 c.in-Some.first first.1);
+      in_holes = λ n spares. subst (λ (k : ℕ). FrontIn n c.args.z c.in-Some.first k) (sym c.fresh_of-fresh.ensures)
+          (start_front n spares.was c.args.z (subst (λ (h : Geometry). c.args.z < h.zones) spares.geometry c.requires.zone) [] first.0 c.in-Some.first (sym spares.runs ∙ first.1));
       faults = omega arith;
     }
 
@@ -83,20 +80,10 @@ pub gather_pair-requires-clause-fresh : goal.gather_pair-requires-clause-fresh
 gather_pair-requires-clause-fresh g c = c.loop-next.invariant.few
 
 pub returns-in_err-front-clause-kept : goal.returns-in_err-front-clause-kept
-returns-in_err-front-clause-kept g c =
+returns-in_err-front-clause-kept g c = λ n spares.
     let was = c.loop-next.invariant in
-    let m = c.args.map.now in
-    let geo = was.gathers.edit.geometry in
-    let fresh : Run = record c.loop-next.run { len = c.loop-next.fresh } in
-    let low = subst (λ (h : Geometry). c.args.z < h.zones) (sym geo) c.requires.zone in
-    let size = was.form.size_stays ∙ c.requires.size in
-    let on_disc = front_on_disc c.loop-next.map was.gathers.edit.map c.args.z low was.front was.rest c.loop-next.run was.cut c.loop-next.fresh was.few in
-    let disc = c.requires.disc in
-    let same : disc_sectors (Layout.New c.loop-next.map) ≡ disc_sectors (Layout.New m) = ap (λ (h : Geometry). h.disc_bits * h.bit_bytes / h.sector) geo in
-    let tears = subst (λ (h : Geometry). Turned g.D.Disk c.loop-next.disk c.gather_pair.new.disk h c.args.z c.loop-next.run c.loop-next.fresh) geo c.gather_pair.ensures.tears in
-    kept_torn m (first_sector m.geometry (c.args.z, c.loop-next.run)) (sector_count m.geometry (c.args.z, fresh)) was.in_holes (laws g.met.D.Disk) was.form size
-    (subst (λ (h : Geometry). first_sector h (c.args.z, c.loop-next.run) + sector_count h (c.args.z, fresh) ≤ g.D.Disk.sectors c.args.disk.now) geo (omega (arith, on_disc, same, disc)))
-    was.kept tears
+    front_kept (laws g.met.D.Disk) n c.args.map.now c.loop-next.map c.args.owners.now c.args.z spares was.gathers.edit.map was.gathers.edit.geometry c.requires.zone was.front was.rest c.loop-next.run was.cut
+    c.loop-next.fresh was.few (was.in_holes n spares) was.form c.requires.size c.requires.disc c.gather_pair.ensures.tears (was.kept n spares)
 
 pub loop-next-smaller : goal.loop-next-smaller
 loop-next-smaller g c =
@@ -124,37 +111,35 @@ loop-next-preserved g c =
     let ok = c.in_ok-front.ensures in
     let m = c.args.map.now in
     let w = c.loop-next.map in
-    let geo = was.gathers.edit.geometry in
+    let owners = c.args.owners.now in
+    let edit = was.gathers.edit in
+    let behind = was.ahead ∙ ap (λ (rs : List Run). was.passed ++ rs) ahead.1 in
     let fresh : Run = record c.loop-next.run { len = c.loop-next.fresh } in
-    let low = subst (λ (h : Geometry). c.args.z < h.zones) (sym geo) c.requires.zone in
-    let size = was.form.size_stays ∙ c.requires.size in
-    let on_disc = front_on_disc w was.gathers.edit.map c.args.z low was.front was.rest c.loop-next.run was.cut c.loop-next.fresh was.few in
-    let disc = c.requires.disc in
-    let same : disc_sectors (Layout.New w) ≡ disc_sectors (Layout.New m) = ap (λ (h : Geometry). h.disc_bits * h.bit_bytes / h.sector) geo in
-    let tears = subst (λ (h : Geometry). Turned g.D.Disk c.loop-next.disk c.gather_pair.new.disk h c.args.z c.loop-next.run c.loop-next.fresh) geo c.gather_pair.ensures.tears in
-    let kept = kept_torn m (first_sector m.geometry (c.args.z, c.loop-next.run)) (sector_count m.geometry (c.args.z, fresh)) was.in_holes (laws g.met.D.Disk) was.form size
-    (subst (λ (h : Geometry). first_sector h (c.args.z, c.loop-next.run) + sector_count h (c.args.z, fresh) ≤ g.D.Disk.sectors c.args.disk.now) geo (omega (arith, on_disc, same, disc)))
-    was.kept tears in
-    let step = one_more c.laws.ensures m w c.gather_pair.new.map c.args.owners.now c.args.z c.requires.zone c.loop-next.any was.gathers was.front ahead.0 c.loop-next.run next here c.loop-next.fresh was.few
-    was.passed (was.ahead ∙ ap (λ (rs : List Run). was.passed ++ rs) ahead.1) was.in_holes c.in_ok-front.front ok.gathered in
+    let step = one_more c.laws.ensures m w c.gather_pair.new.map owners c.args.z c.requires.zone c.loop-next.any was.gathers was.front ahead.0 c.loop-next.run next here c.loop-next.fresh was.few
+    c.in_ok-front.front ok.gathered in
     record {
       form = form_then g.D.Disk was.form c.gather_pair.ensures.form;
-      kept = kept;
-      carrying = λ image told.
+      kept = λ n spares.
+          front_kept (laws g.met.D.Disk) n m w owners c.args.z spares edit.map edit.geometry c.requires.zone was.front was.rest c.loop-next.run was.cut
+          c.loop-next.fresh was.few (was.in_holes n spares) was.form c.requires.size c.requires.disc c.gather_pair.ensures.tears (was.kept n spares);
+      carrying = λ n spares first image told.
           (let before = torn_led c.gather_pair.ensures.tears image told in
-          more_carrying c.laws.ensures m w c.gather_pair.new.map c.args.owners.now c.args.z c.requires.zone c.loop-next.any was.gathers was.front ahead.0 c.loop-next.run next here c.loop-next.fresh was.few
-          was.passed (was.ahead ∙ ap (λ (rs : List Run). was.passed ++ rs) ahead.1) was.in_holes c.in_ok-front.front ok.gathered before.0 image
-          (subst (λ (n : ℕ). ChangesRow n (first_sector w.geometry (c.args.z, c.loop-next.run)) (sector_count w.geometry (c.args.z, fresh)) before.0 image) size before.2)
-          (λ e. ok.copied e image told) (λ e. told_still g.D.Disk before.1 told (ok.still e)) (was.carrying before.0 before.1));
+          more_carrying c.laws.ensures n w c.gather_pair.new.map owners c.args.z spares.was edit.map (edit.geometry ∙ spares.geometry) (subst (λ (h : Geometry). c.args.z < h.zones) spares.geometry c.requires.zone)
+          was.front ahead.0 c.loop-next.run next here c.loop-next.fresh was.few (was.in_holes n spares) c.in_ok-front.front ok.gathered (λ k stuck. was.gathers.fixed k stuck ∙ spares.fixed k stuck) before.0 image
+          (subst (λ (k : ℕ). ChangesRow k (first_sector w.geometry (c.args.z, c.loop-next.run)) (sector_count w.geometry (c.args.z, fresh)) before.0 image)
+          (was.form.size_stays ∙ c.requires.size ∙ ap (λ (h : Geometry). h.sector) spares.geometry) before.2)
+          (λ e. ok.copied e image told) (λ e. told_still g.D.Disk before.1 told (ok.still e)) (was.carrying n spares first before.0 before.1));
       gathers = step.gathers;
       still = λ e. (let both = neither c.loop-next.any c.in_ok-front.front.moved e in ok.still both.1 ∙ was.still both.0);
       front = step.front;
       rest = ahead.0;
       cut = step.cut;
       passed = was.passed ++ next ∷ [];
-      ahead = was.ahead ∙ ap (λ (rs : List Run). was.passed ++ rs) ahead.1 ∙ sym (append_assoc was.passed (next ∷ []) ahead.0);
+      ahead = behind ∙ sym (append_assoc was.passed (next ∷ []) ahead.0);
       few = step.few;
-      in_holes = step.in_holes;
+      in_holes = λ n spares.
+          front_more c.laws.ensures n w c.gather_pair.new.map owners c.args.z spares.was edit.map (edit.geometry ∙ spares.geometry) (subst (λ (h : Geometry). c.args.z < h.zones) spares.geometry c.requires.zone)
+          was.front ahead.0 c.loop-next.run next here c.loop-next.fresh was.few (was.in_holes n spares) c.in_ok-front.front ok.gathered was.passed (sym spares.runs ∙ behind);
       faults = omega (arith, was.faults, c.gather_pair.ensures.cause.later);
     }
   where

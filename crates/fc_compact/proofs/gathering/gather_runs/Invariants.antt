@@ -1,19 +1,19 @@
-use Rattle.std.proofs.Common.{◌≡◌, ◌<◌, ◌≤◌, ◌-◌, ◌+◌, ℕ, List, ◌∷◌, ◌++◌, true, false}
+use Rattle.std.proofs.Common.{◌≡◌, ◌≤◌, ◌-◌, ◌+◌, List, ◌∷◌, ◌++◌, false}
 use Rattle.std.specs.Option.{ForSome}
-use Rattle.fc_device.specs.Calls.{SameForm, StopsAndExitsLeave}
+use Rattle.fc_device.specs.Calls.{SameForm}
 use Rattle.fc_zone.specs.declared.Run.{Run}
-use Rattle.fc_newmap.specs.Map.{first_sector, sector_count}
-use Rattle.fc_image.specs.Layout.{Layout, hole_sectors, is_among}
-use Rattle.fc_compact.specs.Copying.{ChangesHoles}
-use Rattle.fc_compact.specs.Gathering.{Carrying, Gathers}
+use Rattle.fc_newmap.specs.Map.{Map}
+use Rattle.fc_compact.specs.Gathering.{Carrying, Gathers, Spares, StaysInHoles}
 use Rattle.fc_compact.specs.Sliding.{HasRuns}
+use Rattle.fc_compact.proofs.GatherLemmas.{FrontIn}
 use Rattle.fc_compact.proofs.gathering.gather_runs.Given as goal
 
 abbrev pub invariant-loop-next : goal.invariant-loop-next
 invariant-loop-next g l = record {
   form : SameForm g.D.Disk l.fn.disk l.disk;
-  kept : StopsAndExitsLeave g.D.Disk l.fn.disk l.disk (ChangesHoles l.fn.map);
-  carrying : ForSome (g.D.Disk.bytes l.disk) (Carrying l.fn.map l.map l.owners);
+  kept : (m : Map) → Spares m l.fn.map l.owners l.z → StaysInHoles g.D.Disk l.fn.disk l.disk m;
+  carrying : (m : Map) → Spares m l.fn.map l.owners l.z → ForSome (g.D.Disk.bytes l.fn.disk) (Carrying m l.fn.map l.owners)
+      → ForSome (g.D.Disk.bytes l.disk) (Carrying m l.map l.owners);
   gathers : Gathers l.owners l.fn.map l.map l.z l.any;
   still : l.any ≡ false → l.disk ≡ l.fn.disk;
   front : List Run;
@@ -22,8 +22,7 @@ invariant-loop-next g l = record {
   passed : List Run;
   ahead : HasRuns l.fn.map l.z (passed ++ rest);
   few : l.fresh ≤ l.run.len;
-  in_holes : (i : ℕ) → i < sector_count l.fn.map.geometry (l.z, record l.run { len = l.fresh })
-      → is_among (hole_sectors (Layout.New l.fn.map)) (first_sector l.fn.map.geometry (l.z, l.run) + i) ≡ true;
+  in_holes : (m : Map) → Spares m l.fn.map l.owners l.z → FrontIn m l.z l.run l.fresh;
   faults : g.D.Disk.faults l.fn.disk ≤ g.D.Disk.faults l.disk;
 }
 

@@ -37,7 +37,12 @@ pub settle_zone-requires-clause-zone : goal.settle_zone-requires-clause-zone
 settle_zone-requires-clause-zone g c = gone_zone c.args.owners.now c.args.disk.now c.args.map.now c.loop-z.disk c.loop-z.map c.loop-z.invariant.gone c.loop-z.z (omega (arith, c.loop-z-test.true, ap (λ (h : Geometry). h.zones) c.geometry.ensures.value))
 
 pub loop-z-init : goal.loop-z-init
-loop-z-init g c = record { gone = gone_start (laws g.met.D.Disk) c.laws.ensures c.args.owners.now c.args.disk.now c.args.map.now c.is_map.ensures c.requires.ready c.requires.settled; done = λ y low. absurd (omega arith) }
+loop-z-init g c =
+    let ok = c.in_ok-gather_rounds.ensures in
+    let once = gone_then (laws g.met.D.Disk) c.laws.ensures c.args.owners.now c.args.disk.now c.args.map.now c.args.disk.now c.args.map.now
+    (gone_start (laws g.met.D.Disk) c.laws.ensures c.args.owners.now c.args.disk.now c.args.map.now c.is_map.ensures c.requires.ready c.requires.settled)
+    c.gather_rounds.new.disk c.gather_rounds.new.map ok.keeps ok.form ok.ready ok.durable ok.packs c.gather_rounds.ensures.cause.later in
+    record { gone = once; done = λ y low. absurd (omega arith) }
 
 pub loop-z-preserved : goal.loop-z-preserved
 loop-z-preserved g c =

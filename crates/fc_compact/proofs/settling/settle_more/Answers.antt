@@ -1,16 +1,46 @@
 use Rattle.std.proofs.lemmas.Result.{IfOk-weaker}
-use Rattle.std.proofs.Common.{◌∙◌, subst, Bool, true}
-use Rattle.fc_device.proofs.DiskLaws.{laws, form_then}
-use Rattle.fc_newmap.specs.Map.{Map}
-use Rattle.fc_compact.specs.Gathering.{HasGathered}
-use Rattle.fc_compact.specs.Settling.{Passes}
+use Rattle.std.proofs.Common.{◌≡◌, ◌<◌, ◌≤◌, ◌⊎◌, inl, inr, ℕ, ◌+◌, ◌∙◌, subst, sym, arith}
+use Rattle.std.proofs.lemmas.Bool.{cases_lt}
+use Rattle.fc_device.proofs.DiskLaws.{laws}
+use Rattle.fc_record.specs.declared.Geometry.{Geometry}
+use Rattle.fc_newmap.specs.Map.{Map, runs_of}
+use Rattle.fc_compact.specs.Settling.{Passes, zone_weight}
 use Rattle.fc_compact.proofs.GoneLemmas.{gone_disc, gone_keeps, gone_on_disk, gone_size, gone_start, gone_then, gone_zone}
 use Rattle.fc_compact.proofs.settling.settle_more.Goals as goal
 
+pub gather-requires-clause-end : goal.gather-requires-clause-end
+gather-requires-clause-end g c = omega (arith, c.end_of-end.ensures, c.requires.zone)
+
+pub gather-requires-clause-some : goal.gather-requires-clause-some
+gather-requires-clause-some g c = omega (arith, c.end_of-end.ensures)
+
+pub end_of-end-requires : goal.end_of-end-requires
+end_of-end-requires g c = subst (λ (h : Geometry). c.args.z < h.zones) (sym c.geometry.ensures.value) c.requires.zone
+
 pub returns-then-gathered-clause-passes : goal.returns-then-gathered-clause-passes
 returns-then-gathered-clause-passes g c =
-    let ok = subst (HasGathered c.args.owners.now c.args.map.now c.gather.new.map c.args.z) c.if-gathered.true c.in_ok-gathered.ensures.gathered in
-    record { packs = ok.packs; others = ok.others; falls = ok.falls; same = λ e. absurd (cc); done = λ e. absurd (cc) }
+    let ok = c.in_ok-gathered.ensures.gathered in
+    let z = c.args.z in
+    let m = c.args.map.now in
+    let n = c.gather.new.map in
+    let f = ok.falls c.if-gathered.true in
+    let low = f.low in
+    let high = f.high in
+    let e : c.end_of-end.result ≡ z + 1 = c.end_of-end.ensures in
+    let here : f.zone ≡ z = omega (arith, low, high, e) in
+    record {
+      packs = ok.packs;
+      others = λ y other. ok.others y (apart y z c.end_of-end.result e other);
+      falls = subst (λ (x : ℕ). zone_weight (runs_of n x) + 1 ≤ zone_weight (runs_of m x)) here f.falls;
+      same = λ e. absurd (cc);
+      done = λ e. absurd (cc);
+    }
+  where
+    apart : (y z end : ℕ) → end ≡ z + 1 → (y ≡ z → ⊥) → (y < z) ⊎ (end ≤ y)
+    apart y z end e other = elim (cases_lt y z) [
+      | inl less ↦ inl less
+      | inr more ↦ inr (omega (arith, more, other, e))
+    ]
 
 pub settle_pass-requires-clause-attached : goal.settle_pass-requires-clause-attached
 settle_pass-requires-clause-attached g c =

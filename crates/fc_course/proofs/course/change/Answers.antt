@@ -12,7 +12,7 @@ use Rattle.fc_course.specs.declared.error.CommandError.{CommandError}
 use Rattle.fc_course.specs.declared.holdings.Holdings.{Holdings}
 use Rattle.fc_course.specs.Answers.{AnswersShort}
 use Rattle.fc_course.specs.Holdings.{IsSameKind, parts_of}
-use Rattle.fc_course.specs.Written.{CanWriteOn, ChangeLeavesOn, IsChangedOn}
+use Rattle.fc_course.specs.Written.{CanWriteOn, ChangeLeavesOn, IsChangedOn, IsGivenOn}
 use Rattle.fc_course.proofs.AdmitLemmas.{can_take_over, laws_for, layout_stays, run_is}
 use Rattle.fc_course.proofs.ChangeLemmas.{accepts, faults, has_changed, nothing_written, refuses, same_form, stands_now, written}
 use Rattle.fc_course.proofs.KeepLemmas.{kept_done}
@@ -64,7 +64,8 @@ take_over-requires g c =
     let d = g.D.Disk in let was = c.args.holdings.now in let p = c.in_ok-change.field-0 in let mid = c.make_ready.new.holdings in
     let jl = laws_for d was c.args.disk.now c.jobs.ensures c.requires.stands c.is_map.ensures c.places_suffice.ensures c.args.job.now c.args.name.now c.args.bytes.now c.requires.covered c.requires.judged in
     can_take_over was mid p.change c.in_ok-change.ensures.admitted (layout_of c.write_change.new.places) mid.tree.room
-    (jl.can_take p (layout_of c.write_change.new.places) (next_number was.tree) mid.tree.room c.in_ok-change.ensures.ready)
+    (jl.can_take p (layout_of c.write_change.new.places) (next_number was.tree) mid.tree.room c.in_ok-change.ensures.ready
+    (subst (λ (l : Layout). IsGivenOn l p.ready (layout_of c.write_change.new.places)) (layout_stays was mid p.change c.in_ok-change.ensures.admitted) c.in-Ok.ensures.given))
 
 pub returns-in-Ok-clause-refused : goal.returns-in-Ok-clause-refused
 returns-in-Ok-clause-refused g c = λ cmd j.
