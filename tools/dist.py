@@ -18,7 +18,8 @@ from typing import Dict, Iterator, Tuple
 from tools.files import TOP, read
 
 PLAIN = ("README.md", "LICENSE", "CHANGES.md", "VERSION")
-FIRST_LINE = b"#!/usr/bin/env python3\n"
+END_OF_SHELL = b"'''\n"  # where the lines of the script fcdisc end that are the shell's
+SCRIPT = os.path.join(TOP, "scripts", "fcdisc")
 OLDEST = (1980, 1, 1, 0, 0, 0)  # zip has no earlier time
 
 
@@ -29,7 +30,7 @@ def version() -> str:
 def parts_of_fcdisc() -> Iterator[Tuple[str, bytes]]:
     """What Python finds in the one file: the script as its beginning, and the parts."""
     scripts = os.path.join(TOP, "scripts")
-    yield "__main__.py", read(os.path.join(scripts, "fcdisc"))
+    yield "__main__.py", read(SCRIPT)
     yield "VERSION", read(os.path.join(TOP, "VERSION"))
     for place, folders, names in os.walk(os.path.join(scripts, "fcdisc_lib")):
         folders[:] = sorted(one for one in folders if one != "__pycache__")
@@ -41,7 +42,7 @@ def parts_of_fcdisc() -> Iterator[Tuple[str, bytes]]:
 def one_file() -> bytes:
     """fcdisc as one file."""
     packed = io.BytesIO()
-    packed.write(FIRST_LINE)
+    packed.write(read(SCRIPT).partition(END_OF_SHELL)[0])
     with zipfile.ZipFile(packed, "a", zipfile.ZIP_DEFLATED) as archive:
         for name, data in parts_of_fcdisc():
             archive.writestr(zipfile.ZipInfo(name, OLDEST), data, zipfile.ZIP_DEFLATED)

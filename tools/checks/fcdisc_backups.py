@@ -130,29 +130,17 @@ def killed(c: Changes) -> None:
 
 
 def early(c: Changes) -> None:
-    """An interrupt while the program starts: it ends by the signal and says nothing."""
+    """An interrupt at any moment while the program starts, and Python in it: it ends by the signal and says nothing."""
     c.start()
-    for delay in (0.03, 0.06, 0.1, 0.15):
+    for at in range(40):
         run = subprocess.Popen([c.checks.fcdisc, "list", "a.adf"], cwd=c.work, env=c.checks.environment(c.fake("#!/bin/sh\nsleep 5\n")),
                                stdout=subprocess.PIPE, stderr=subprocess.PIPE)
-        begun = time.monotonic()
-        while time.monotonic() - begun < delay or not at_script(run.pid):
-            time.sleep(0.002)
+        time.sleep(at * 0.004)
         run.send_signal(signal.SIGINT)
         out, errors = run.communicate(timeout=60)
-        c.checks.expect("interrupted after %.2f s" % delay, result=((b"", b"", -signal.SIGINT), (out, errors, run.returncode)))
+        c.checks.expect("interrupted after %d ms" % (at * 4), result=((b"", b"", -signal.SIGINT), (out, errors, run.returncode)))
     c.start(files={"sitecustomize.py": b"import os; os.kill(os.getpid(), 2)"})  # site would run this
     c.checks.expect("Python's start is without site", result=(c.run("list", "a.adf"), c.run("list", "a.adf", within='PYTHONPATH=$PWD exec "$@"')))
-
-
-def at_script(pid: int) -> bool:
-    """Whether Python itself has started: it then doesn't catch an interrupt by its own handler any more."""
-    with open("/proc/%d/status" % pid) as file:
-        masks = dict(line.split(":", 1) for line in file.read().splitlines())
-    caught = int(masks["SigCgt"], 16)
-    with open("/proc/%d/cmdline" % pid, "rb") as file:
-        python = b"python" in file.read().split(b"\0")[0]
-    return python and os.path.exists("/proc/%d/fd" % pid) and (caught == 0 or bool(caught >> 14 & 1))
 
 
 def read_only_folder(c: Changes) -> None:
