@@ -53,7 +53,7 @@ class Addition:
         if self.present.entries[start] is None:
             yield Step(command("cdir", start), start, NOT_ADDED)
         for item in self.items:
-            if item.path[:-1] in self.left_out:
+            if self.left_out and item.path[:-1] in self.left_out:
                 self.left_out.add(item.path)
                 continue
             yield from self.directory_steps(item) if item.is_directory else self.file_steps(item)

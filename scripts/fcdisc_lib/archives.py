@@ -17,16 +17,11 @@ from .messages import Progress, Trouble, shown
 from .program import Entry, Path, batches
 from .tree import Tree
 
-ENDING = ".zip"
 FIELD = struct.Struct("<HH4sIIII")  # tag, length, signature, load, exec, attributes, 0
 TAG, SIGNATURE = 0x4341, b"ARC0"
 EARLIEST, LATEST = datetime(1980, 1, 1), datetime(2107, 12, 31, 23, 59, 58)
 BAD_ARCHIVE = (zipfile.BadZipFile, zlib.error, EOFError, NotImplementedError, RuntimeError, struct.error)
 Parts = Tuple[str, ...]
-
-
-def is_archive(path: str) -> bool:
-    return path.lower().endswith(ENDING)
 
 
 # ---- out

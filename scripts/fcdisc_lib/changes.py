@@ -2,21 +2,20 @@
 """The subcommands that change a disc. Each answers the status with which the program ends."""
 from __future__ import annotations
 
+import gc
 import os
 from argparse import Namespace
 from typing import Dict, List, Optional, Tuple
 
 from . import names
 from .adding import Addition, Present, file_steps
-from .archives import archive_items, is_archive
 from .description import describe
 from .editing import NOT_MADE, NOT_PUT, OTHER_NAME, Edit, Step, longest_content, set_line, why
 from .filetypes import Types, read_types
 from .fitting import Limits
 from .hostfiles import TEXT, HostFile, read_host_file
-from .hostitems import NOT_ADDED, Failures, Item, Wishes, items_of
-from .listing import counted
-from .messages import FAILED, WRONG_WORDS, Progress, Trouble, reason, say, shown, tell
+from .hostitems import NOT_ADDED, Failures, Item, Wishes, is_archive, items_of
+from .messages import FAILED, WRONG_WORDS, Progress, Trouble, counted, reason, say, shown, tell
 from .names import spelled_path
 from .program import Entry, Path, Refused, Run, command, find_program
 from .selection import path_of
@@ -146,6 +145,7 @@ def named_for(given: bytes, wanted_type: Optional[int], types: Optional[Types]) 
 
 
 def add(words: Namespace) -> int:
+    gc.disable()  # what is made of a folder stays to the end, and to look through it again and again takes time
     program, start, fail = find_program(), path_of(words.path), Failures(words.verbose)
     types = read_types(words.types) if words.types else None
     with Edit(program, words) as edit:
@@ -172,6 +172,7 @@ def add(words: Namespace) -> int:
 def source_items(place: str, start: Path, fail: Failures, wishes: Wishes) -> List[Item]:
     """What is in a folder, or in a zip archive."""
     if is_archive(place) and not os.path.isdir(place):
+        from .archives import archive_items  # here, since zipfile takes long to load
         return archive_items(place, start, fail, wishes)
     return items_of(place, start, fail, wishes)
 

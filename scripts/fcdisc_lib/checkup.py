@@ -12,8 +12,8 @@ from .collection import Files, Found, over_files, status_of
 from .description import Description, describe
 from .faults import IT_IS, Fault
 from .images import open_image
-from .listing import Row, counted, day, disc_row, heading
-from .messages import Progress, clear_progress, say, shown, tell
+from .listing import Row, day, disc_row, heading
+from .messages import Progress, clear_progress, counted, say, shown, tell
 from .otherfiles import TEXT
 from .program import BadImage, Entry, Run, command, find_program
 from .tree import MAX_DEPTH, Tree, read_below

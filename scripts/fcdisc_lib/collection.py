@@ -10,8 +10,7 @@ from typing import Callable, Iterator, List, NamedTuple, Optional, Tuple, TypeVa
 from .backups import backed_up
 from .complaints import FIRST
 from .leftovers import is_temporary
-from .listing import counted
-from .messages import FAILED, Progress, Trouble, collecting, reason, shown, tell
+from .messages import FAILED, Progress, Trouble, collecting, counted, reason, shown, tell
 from .program import BadImage, Refused
 
 Answer = TypeVar("Answer")

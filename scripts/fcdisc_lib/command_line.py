@@ -23,15 +23,14 @@ if TYPE_CHECKING:
 DESCRIPTION = "Daily jobs with images of Acorn discs (RISC OS, ADFS), by the program fcore."
 
 
-def parser() -> argparse.ArgumentParser:
+def parser(job: str = "") -> argparse.ArgumentParser:
+    """What the words may be; of a job that is known only what it and its neighbours take, since all take longer to say than most jobs."""
     made = argparse.ArgumentParser(prog="fcdisc", description=DESCRIPTION, epilog=EPILOG, allow_abbrev=False)
     made.add_argument("--version", action="version", version="fcdisc %s, for fcore %s" % (version(), version()))
     added = made.add_subparsers(metavar="JOB", required=True, dest="job")
-    add_reading(added)
-    add_making(added)
-    add_changing(added)
-    add_collections(added)
-    add_rescuing(added, add_job, add_order)
+    groups = [add for add, jobs in GROUPS.items() if job in jobs.split()] or list(GROUPS)
+    for add in groups:
+        add(added)
     return made
 
 
@@ -114,8 +113,6 @@ def add_changing(added: Jobs) -> None:
     job.add_argument("--replace", action="store_true", help="files take the place of those that are on the disc")
     job.add_argument("folder", metavar="FOLDER", help="a folder, or a zip archive")
     job.add_argument("path", metavar="PATH", nargs="?", default="$", help="of the directory for them; it is made if need be")
-    add_moving(added)
-    add_whole(added)
 
 
 def add_moving(added: Jobs) -> None:
@@ -180,6 +177,14 @@ def add_change(added: Jobs, name: str, run: Job, text: str,
     return job
 
 
+# What adds jobs, and the names of these
+GROUPS = {
+    add_reading: "list ls get extract check", add_making: "new adl strip", add_changing: "put add",
+    add_moving: "mkdir rm mv cp access", add_whole: "compact reclaim undo convert", add_collections: "catalogue find diff types",
+    add_rescuing: "rescue mend",
+}
+
+
 class Stopped(BaseException):
     """A signal that ends the program, once what it was at is cleared away."""
 
@@ -214,7 +219,7 @@ def main(arguments: List[str]) -> int:
     """Does the job that the words ask for, and answers the status."""
     if not hold_streams():
         return FAILED
-    words = parser().parse_args(arguments)
+    words = parser(*arguments[:1]).parse_args(arguments)
     try:
         catch_signals()
         status: int = words.run(words)

@@ -15,8 +15,7 @@ from .fresh import fresh_disc
 from .hostfiles import NEW_FILE, TOO_LONG
 from .images import pieces_from
 from .jobs import refusal, write_new
-from .listing import counted
-from .messages import FAILED, Progress, Trouble, say, shown
+from .messages import FAILED, Progress, Trouble, counted, say, shown
 from .names import spelled_path
 from .output import TAKEN
 from .program import Entry, Path, Refused, Run, batches, command, find_program, scripts

@@ -8,17 +8,15 @@ from typing import Iterator, List, Tuple
 from . import names
 from .adding import SETTABLE, loses_access
 from .changes import Listing, found_in, meant_paths, read_listings, tell_lost_access
-from .editing import Edit, Step, longest_content, save_line, set_line, why
+from .editing import NO_COPY, Edit, Step, longest_content, save_line, set_line, why
 from .faults import refusal_explained
 from .hostfiles import NEW_FILE, TOO_LONG
-from .listing import counted
-from .messages import FAILED, Progress, say, shown
+from .messages import FAILED, Progress, counted, say, shown
 from .names import spelled_path
 from .program import Entry, Path, Refused, Run, batches, command, find_program
 from .selection import path_of
 from .tree import MAX_DEPTH, Tree, named, read_below
 
-NOT_COPIED = "not copied"
 Pair = Tuple[Entry, Path]  # an object, and the path of its copy
 
 
@@ -63,7 +61,7 @@ def copies_of(edit: Edit, entry: Entry, target: Path, there: Listing, beside: Li
 def copy_steps(edit: Edit, pairs: List[Pair]) -> Iterator[Step]:
     for entry, place in pairs:
         if entry.is_directory:
-            yield Step(command("cdir", place), place, NOT_COPIED)
+            yield Step(command("cdir", place), place, NO_COPY)
     for entry, place in pairs:
         if not entry.is_directory and entry.length > longest_content(place):
             raise edit.trouble("%s: %s" % (spelled_path(entry.path), TOO_LONG % (entry.length, longest_content(place))))
@@ -72,7 +70,7 @@ def copy_steps(edit: Edit, pairs: List[Pair]) -> Iterator[Step]:
         with edit.image.run(edit.program, script) as run:
             for entry in batch:
                 content = b"".join(run.load(entry.length))
-                yield Step(save_line(places[entry.path], entry.load, entry.execution, content), places[entry.path], NOT_COPIED)
+                yield Step(save_line(places[entry.path], entry.load, entry.execution, content), places[entry.path], NO_COPY)
     for entry, place in pairs:
         usual = (0, 0, 0) if entry.is_directory else (entry.load, entry.execution, NEW_FILE)
         if (entry.load, entry.execution, entry.attributes & SETTABLE) != usual:

@@ -9,17 +9,17 @@ from typing import Dict, Iterator, List, NamedTuple, Tuple
 
 from . import names
 from .adding import SETTABLE
-from .archives import archive_items, is_archive
+from .archives import archive_items
 from .catalogue import disc_in
 from .collection import Found
 from .hostfiles import NEW_DIRECTORY, NEW_FILE
-from .hostitems import Failures, Item, Wishes, items_of
-from .listing import counted
-from .messages import FAILED, reason, say, shown
+from .hostitems import Failures, Item, Wishes, is_archive, items_of
+from .messages import FAILED, counted, reason, say, shown
 from .program import Path, find_program
 from .unread import digests
 
 LONGEST = 1 << 30  # bytes of a file of the host that is read
+AS_THEY_ARE = Wishes(name_help="")
 
 
 class Side(NamedTuple):
@@ -34,7 +34,7 @@ class Side(NamedTuple):
 
 
 def diff(words: Namespace) -> int:
-    fail = Failures(words.verbose)
+    fail = Failures(words.verbose, "not compared")
     program = find_program()
     first, second = (side_of(program, place, words.order, fail) for place in (words.first, words.second))
     fail.sum_up()
@@ -77,9 +77,9 @@ def differences(one: Side, other: Side) -> Iterator[str]:
 def side_of(program: str, place: str, order: str, fail: Failures) -> Dict[Path, Side]:
     """The objects of an image, a folder or a zip archive, by their folded paths. Of access only what fcore can set counts."""
     if os.path.isdir(place):
-        return host_side(items_of(place, (), fail, Wishes()), fail)
+        return host_side(items_of(place, (), fail, AS_THEY_ARE), fail)
     if is_archive(place):
-        return host_side(archive_items(place, (), fail, Wishes()), fail)
+        return host_side(archive_items(place, (), fail, AS_THEY_ARE), fail)
     tree = disc_in(program, Found(place, True), order)
     assert tree
     with tree.image.file:
@@ -104,7 +104,7 @@ def host_side(items: List[Item], fail: Failures) -> Dict[Path, Side]:
         try:
             file = item.source.read(LONGEST)
         except (OSError, ValueError) as error:
-            fail(shown(item.place), "not compared: %s" % (reason(error) if isinstance(error, OSError) else error))
+            fail.refuse(item.place, reason(error) if isinstance(error, OSError) else str(error))
             continue
         load, execution = file.words(item.named)
         attributes = file.kept.attributes if file.kept else NEW_FILE

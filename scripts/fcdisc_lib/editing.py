@@ -9,6 +9,7 @@ import errno
 import os
 import stat
 from argparse import Namespace
+from binascii import hexlify
 from contextlib import ExitStack, nullcontext, suppress
 from typing import BinaryIO, Callable, Dict, Iterable, Iterator, List, NamedTuple, Optional, Set, TypeVar
 
@@ -20,15 +21,16 @@ from .fitting import SHORT_NAME
 from .hostitems import FIT_HELP, NOT_ADDED
 from .images import (AS_IT_IS, L_SIZE, SIDES, Image, copy, has_doubtful_order, nameless_file, open_image,
                      pieces_from, read_at, size_of, to_interleaved)
-from .listing import counted
 from .locks import is_same, locked_file, unbroken
-from .messages import FAILED, Trouble, reason, shown
+from .messages import FAILED, Trouble, counted, reason, shown
 from .output import Folder, NewFile, split_path
 from .program import SCRIPT_LIMIT, BadImage, Path, Refused, Run, scripts
 
 Result = TypeVar("Result")
-NOT_COPIED, NOT_MADE, NOT_PUT = "not copied", "not made", "not put there"
+NOT_COPIED, NOT_MADE, NOT_PUT, NO_COPY = "not copied", "not made", "not put there", "no copy made"
 OTHER_NAME = "; give a name for it in PATH, such as $.MyText"
+# What helps where a disc doesn't take a name
+NAME_HELP = {NOT_ADDED: FIT_HELP, NOT_COPIED: FIT_HELP, NOT_PUT: OTHER_NAME}
 
 
 class Step(NamedTuple):
@@ -50,7 +52,7 @@ class Failure(NamedTuple):
 
 
 def save_line(path: Path, load: int, execution: int, content: bytes) -> bytes:
-    return b"save %s %08x %08x %s\n" % (names.path_bytes(path), load, execution, content.hex().encode("ascii") or b"-")
+    return b"save %s %08x %08x %s\n" % (names.path_bytes(path), load, execution, hexlify(content) or b"-")
 
 
 SHORTEST_SAVE = len(save_line((), 0, 0, b"")) - 1  # of a file of no bytes in the root, without its name and content
@@ -181,8 +183,7 @@ class Edit:
     def read_replies(self, run: Run, batch: List[Step]) -> None:
         for step in batch:
             try:
-                for _ in run.lines():
-                    pass
+                run.done()
                 self.changes += 1
             except Refused as refused:
                 self.failures.append(Failure(step, refused.name))
@@ -268,7 +269,7 @@ def reason_of(step: Step, refusal: str, failures: List[Failure]) -> str:
         return "something in it is left"
     text = why(step.path, refusal)
     if refusal == "BadName":
-        text += FIT_HELP if step.failure in (NOT_ADDED, NOT_COPIED) else OTHER_NAME if step.failure == NOT_PUT else ""
+        text += NAME_HELP.get(step.failure, "")
     return text
 
 

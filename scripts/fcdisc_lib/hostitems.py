@@ -4,7 +4,7 @@ from __future__ import annotations
 
 import os
 from contextlib import suppress
-from typing import Callable, Dict, Iterable, Iterator, List, NamedTuple, Optional, Tuple
+from typing import Callable, Dict, Iterator, List, NamedTuple, Optional, Tuple
 
 from . import inf, names
 from .complaints import Complaints
@@ -16,7 +16,12 @@ from .messages import Trouble, reason, shown
 from .program import Path
 
 NOT_ADDED = "not added"
+ARCHIVE = ".zip"
 FIT_HELP = " (--fit gives it another name)"
+
+
+def is_archive(path: str) -> bool:
+    return path.lower().endswith(ARCHIVE)
 
 
 class Source:
@@ -50,11 +55,12 @@ class Item(NamedTuple):
 
 
 class Wishes(NamedTuple):
-    """How names are to be made: to fit a disc, or as they are; and types by which endings."""
+    """How names are to be made: to fit a disc, or as they are; types by which endings; and what helps if a name can't be had."""
 
     limits: Optional[Limits] = None
     types: Optional[Types] = None
     say: Callable[[str], None] = print
+    name_help: str = FIT_HELP
 
 
 class Failures(Complaints):
@@ -63,8 +69,12 @@ class Failures(Complaints):
     files = 0
     inner = 0  # files in what was refused
 
+    def __init__(self, verbose: bool = False, failure: str = NOT_ADDED):
+        super().__init__(verbose)
+        self.failure = failure
+
     def refuse(self, place: bytes, text: str) -> None:
-        self(shown(place), "%s: %s" % (NOT_ADDED, text))
+        self(shown(place), "%s: %s" % (self.failure, text))
 
 
 class Namer:
@@ -86,10 +96,10 @@ class Namer:
             try:
                 named = names.disc_name(host, is_directory)
             except ValueError as error:
-                raise ValueError(str(error) + FIT_HELP) from None
+                raise ValueError(str(error) + self.wishes.name_help) from None
             other = self.taken.setdefault(names.folded(named.name), host)
             if other != host:
-                raise ValueError("on a disc it has the same name as %s%s" % (shown(other), FIT_HELP))
+                raise ValueError("on a disc it has the same name as %s%s" % (shown(other), self.wishes.name_help))
         if self.wishes.types and not is_directory and named.file_type is None and named.words is None:
             return named._replace(file_type=self.wishes.types.of_name(host))
         return named
@@ -99,12 +109,12 @@ class Namer:
         text = names.SPELLED_BYTE.sub(lambda found: chr(int(found[1], 16)), base.replace(".", "/"))
         return told._replace(name=fitting.name(text, host))
 
-    def reserve(self, hosts: Iterable[Tuple[bytes, bool]]) -> None:
-        """Names that need no fitting go to those that have them. Each host's name comes with whether it is a directory's."""
-        for host, is_directory in hosts:
-            if self.fitting:
+    def reserve(self, entries: List[os.DirEntry[bytes]]) -> None:
+        """Names that need no fitting go to those that have them."""
+        if self.fitting:
+            for entry in entries:
                 with suppress(ValueError):
-                    self.fitting.reserve(names.disc_name(host, is_directory).name, host)
+                    self.fitting.reserve(names.disc_name(entry.name, entry.is_dir(follow_symlinks=False)).name, entry.name)
 
 
 def items_of(folder: str, start: Path, fail: Failures, wishes: Wishes) -> List[Item]:
@@ -126,9 +136,9 @@ def scan(folder: bytes, start: Path, fail: Failures, wishes: Wishes) -> Iterator
             fail.refuse(outer, reason(error))
             continue
         infs, namer = infs_among(entries), Namer(wishes)
-        namer.reserve((entry.name, entry.is_dir(follow_symlinks=False)) for entry in entries)
+        namer.reserve(entries)
         for entry in entries:
-            if is_temporary(entry.name) or entry.name[:-len(inf.ENDING)] in infs and entry.name.endswith(inf.ENDING):
+            if is_temporary(entry.name) or infs and entry.name.endswith(inf.ENDING) and entry.name[:-len(inf.ENDING)] in infs:
                 continue
             item = item_of(entry, path, namer, infs.get(entry.name), fail)
             if item:
@@ -153,11 +163,12 @@ def tell_fitted(item: Item, host: bytes, wishes: Wishes) -> None:
 
 def infs_among(entries: List[os.DirEntry[bytes]]) -> Dict[bytes, inf.Inf]:
     """What the .inf files among these tell, by the names of what stands beside them."""
-    there = {entry.name for entry in entries}
     found: Dict[bytes, inf.Inf] = {}
-    for entry in entries:
+    candidates = [entry for entry in entries if entry.name.lower().endswith(inf.ENDING)]
+    there = {entry.name for entry in entries} if candidates else set()
+    for entry in candidates:
         base = entry.name[:-len(inf.ENDING)]
-        if entry.name.lower().endswith(inf.ENDING) and base in there and entry.is_file(follow_symlinks=False):
+        if base in there and entry.is_file(follow_symlinks=False):
             try:
                 told = inf.read_inf(read_host_file(entry.path, inf.LONGEST, os.O_NOFOLLOW).content)
             except (OSError, ValueError):

@@ -5,7 +5,6 @@ from __future__ import annotations
 import errno
 import os
 import stat
-import tempfile
 from typing import BinaryIO, Callable, Dict, Iterator, List, Optional, Tuple, TypeVar
 
 from .messages import Trouble, reason, shown, tell
@@ -15,7 +14,7 @@ TRACK = 4096  # bytes of a track of an L disc: 16 sectors of 256 bytes
 TRACKS = 80  # on each of two sides
 L_SIZE = 2 * TRACKS * TRACK
 HEADER = 512
-PIECE = 1 << 20
+PIECE = 1 << 18  # small enough to stay in a processor's cache between reading and looking through
 ZEROS = bytes(PIECE)
 HEAD = 4096  # what tells the kind of a disc lies before this
 ORDERS = ("auto", "disc", "adl")
@@ -161,7 +160,8 @@ def nameless_file(size: int, folder: Optional[str] = None) -> BinaryIO:
     """
     if size <= MEMORY_LIMIT and hasattr(os, "memfd_create"):
         return open(os.memfd_create("fcdisc"), "w+b", buffering=0)
-    return tempfile.TemporaryFile(buffering=0, dir=folder)  # type: ignore[return-value]
+    from tempfile import TemporaryFile  # here, since it takes long to load, and few jobs need it
+    return TemporaryFile(buffering=0, dir=folder)  # type: ignore[return-value]
 
 
 def begins_disc(program: str, image: Image) -> bool:
@@ -225,8 +225,9 @@ def open_image(program: str, path: str, order: str, script: bytes, read: Callabl
         tell_reading(tried[told], order)
         raise faults[told]
     except OSError as error:
+        from tempfile import gettempdir
         text = "%s: while a copy of it was made in %s: %s"
-        raise Trouble(text % (shown(name), shown(tempfile.gettempdir()), reason(error))) from None
+        raise Trouble(text % (shown(name), shown(gettempdir()), reason(error))) from None
     finally:
         for one in (file, *(image.file for image in tried)):
             if one is not kept:

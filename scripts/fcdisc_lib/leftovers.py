@@ -8,14 +8,13 @@ from __future__ import annotations
 import fcntl
 import itertools
 import os
-import secrets
 import stat
 from contextlib import suppress
 from typing import Set, Tuple
 
 BEGINNING, ENDING = b".fcdisc-", b".tmp"
 # Nobody else can know the names of this run's temporary files
-OWN_WORD = secrets.token_hex(8).encode("ascii")
+OWN_WORD = os.urandom(8).hex().encode("ascii")
 NUMBERS = itertools.count(1)
 unfinished: Set[Tuple[int, bytes]] = set()  # the files that have a temporary name: a folder's descriptor, and the name
 looked_through: Set[Tuple[int, int]] = set()  # the folders in which leftovers were looked for

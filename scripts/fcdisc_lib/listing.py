@@ -7,7 +7,7 @@ from typing import Dict, Iterator, Mapping, Optional, Sequence, Union
 
 from . import names
 from .description import Description
-from .messages import shown
+from .messages import counted, shown
 from .program import Entry
 from .tree import Tree
 
@@ -110,10 +110,3 @@ def rows(tree: Tree, head: str = "") -> Iterator[str]:
 
 def totals(files: int, directories: int, size: int) -> str:
     return "%s, %s, %s" % (counted(files, "file"), counted(directories, "directory"), counted(size, "byte"))
-
-
-def counted(number: int, what: str) -> str:
-    """`1 file`, `2 files`, `2 directories`."""
-    if number == 1:
-        return "1 " + what
-    return "%d %s" % (number, what[:-1] + "ies" if what.endswith("y") else what + "s")

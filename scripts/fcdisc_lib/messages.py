@@ -41,6 +41,13 @@ def reason(error: OSError) -> str:
     return error.strerror or str(error)
 
 
+def counted(number: int, what: str) -> str:
+    """`1 file`, `2 files`, `2 directories`."""
+    if number == 1:
+        return "1 " + what
+    return "%d %s" % (number, what[:-1] + "ies" if what.endswith("y") else what + "s")
+
+
 class Progress:
     """A line on standard error that is written anew, where this is a terminal and the job takes its time."""
 

@@ -10,9 +10,12 @@ from __future__ import annotations
 
 import os
 import re
+from contextlib import suppress
+from functools import lru_cache
 from typing import List, NamedTuple, Optional, Sequence, Tuple
 
 LONGEST = 255
+NO_NAME = "a name in a path has 1 to %d bytes" % LONGEST
 NOT_PLAIN = b'$&%@\\^:.#*"|'  # fcore spells these as %XX
 # `.` would become `/`, and `%` begins what is spelled; the others are refused by some hosts, and names are alike on all of them
 NOT_ON_HOSTS = b'.%\\:*?"<>|\x7f' + bytes(range(0x80, 0xA0))
@@ -32,15 +35,16 @@ SPELLED = [spelled_byte(byte) for byte in range(256)]
 
 
 def spelled(name: bytes) -> str:
-    return "".join([SPELLED[byte] for byte in name])
+    return name.decode("ascii") if name.isalnum() else "".join([SPELLED[byte] for byte in name])
 
 
 def spelled_path(names: Sequence[bytes]) -> str:
     return ".".join(["$", *map(spelled, names)])
 
 
-def path_bytes(names: Sequence[bytes]) -> bytes:
-    """The path as a script has it."""
+@lru_cache(maxsize=16)
+def path_bytes(names: Tuple[bytes, ...]) -> bytes:
+    """The path as a script has it. Several lines are often about one object."""
     return spelled_path(names).encode("ascii")
 
 
@@ -74,13 +78,13 @@ def host_text(text: str) -> str:
 
 def plain_bytes(part: str) -> bytes:
     """The bytes of a part of a name, which may be written as `%XX`."""
-    return latin_bytes(SPELLED_BYTE.sub(lambda found: chr(int(found[1], 16)), part))
+    return latin_bytes(SPELLED_BYTE.sub(lambda found: chr(int(found[1], 16)), part) if "%" in part else part)
 
 
 def read_name(part: str) -> bytes:
     name = plain_bytes(part)
     if not 1 <= len(name) <= LONGEST:
-        raise ValueError("a name in a path has 1 to %d bytes" % LONGEST)
+        raise ValueError(NO_NAME)
     if min(name) < 32:
         raise ValueError("a name has no control characters")
     return name
@@ -88,8 +92,10 @@ def read_name(part: str) -> bytes:
 
 def latin_bytes(text: str) -> bytes:
     """The bytes of a text in Latin 1. A byte of the host that is no UTF-8 stands for itself."""
+    with suppress(UnicodeEncodeError):
+        return text.encode("latin-1")
     codes = [ord(one) - 0xDC00 if 0xDC80 <= ord(one) <= 0xDCFF else ord(one) for one in text]
-    if max(codes, default=0) > 255:
+    if max(codes) > 255:
         raise ValueError("a disc's names have no letters but those of Latin 1")
     return bytes(codes)
 
@@ -154,18 +160,21 @@ class DiscName(NamedTuple):
     words: Optional[Tuple[int, int]] = None
 
 
+NAMELESS = DiscName(b"")
+
+
 def disc_name(host: bytes, is_directory: bool) -> DiscName:
     """The other way of `host_name`. Raises ValueError where no disc can have such a name."""
     text, told = split_suffix(host, is_directory)
-    return told._replace(name=read_name(text.replace(".", "/")))
+    return DiscName(read_name(text.replace(".", "/")), told.file_type, told.words)
 
 
 def split_suffix(host: bytes, is_directory: bool) -> Tuple[str, DiscName]:
     """What stands before the type or the words, and these, without a name."""
-    found = None if is_directory else SUFFIX.search(host)
+    found = None if is_directory or b"," not in host else SUFFIX.search(host)
     text = (host[:found.start()] if found else host).decode("utf-8", "surrogateescape")
     if not found:
-        return text, DiscName(b"")
+        return text, NAMELESS
     if found[1]:
         return text, DiscName(b"", file_type=int(found[1], 16))
     return text, DiscName(b"", words=(int(found[2], 16), int(found[3], 16)))

@@ -3,7 +3,6 @@
 from __future__ import annotations
 
 import os
-import shutil
 import subprocess
 import sys
 from binascii import Error as NoHex
@@ -17,6 +16,7 @@ SCRIPT_LIMIT = 1 << 24  # bytes; fcore takes no longer script
 BUFFER = 1 << 20
 DIRECTORY = 8  # of an object's attributes
 READ_ONLY = "--read-only"
+DONE = b"ok\n"  # the last line of a reply
 Path = Tuple[bytes, ...]
 Subject = TypeVar("Subject")
 
@@ -71,10 +71,9 @@ def find_program() -> str:
             raise Trouble("$FCORE is %s, and that can't be run" % shown(told))
         return os.path.abspath(told)
     here = os.path.dirname(os.path.realpath(sys.argv[0]))
-    beside = os.path.join(here, "fcore")
-    built = os.path.join(here, "..", "crates", "fcore", "out", "fcore")
-    for place in (beside, shutil.which("fcore"), built):
-        if place and os.path.isfile(place) and os.access(place, os.X_OK):
+    folders = [here, *os.get_exec_path(), os.path.join(here, "..", "crates", "fcore", "out")]
+    for place in (os.path.join(folder, "fcore") for folder in folders):
+        if os.path.isfile(place) and os.access(place, os.X_OK):
             return os.path.abspath(place)
     raise Trouble("there is no program fcore beside this one or on the PATH: install it, or name it by $FCORE")
 
@@ -161,6 +160,8 @@ class Run:
     def line(self) -> bytes:
         """The next line without its end. A reply that is an error line raises Refused."""
         line = self.replies.readline(BUFFER)
+        if line == DONE:
+            return line[:-1]
         words = line.split()
         if len(words) == 3 and words[0] == b"error":
             raise Refused(words[2].decode("ascii"))
@@ -172,9 +173,14 @@ class Run:
         """The lines of a reply, without its last, `ok`."""
         while True:
             line = self.line()
-            if line == b"ok":
+            if line == DONE[:-1]:
                 return
             yield line
+
+    def done(self) -> None:
+        """The reply to a line that only does something."""
+        if self.line() != DONE[:-1]:
+            raise self.changed()
 
     def free(self) -> Tuple[int, int]:
         """The reply to `free`: the free bytes, and those of the largest piece."""
@@ -205,7 +211,7 @@ class Run:
             left -= len(piece)
             yield piece
         ending = self.replies.read(4)
-        if ending != b"\nok\n":
+        if ending != b"\n" + DONE:
             raise self.cause(ending)
 
 

@@ -9,16 +9,15 @@ from argparse import Namespace
 from typing import Iterator, List, NamedTuple, Optional
 
 from . import names
-from .archives import is_archive, write_archive
 from .collection import Files, Found, over_files, status_of
 from .extraction import Extraction, Form, words_of
 from .faults import refusal_explained
 from .filetypes import read_types
 from .hostfiles import is_told, keep
+from .hostitems import is_archive
 from .images import nameless_file, pieces_from
 from .jobs import refusal, write_new
-from .listing import counted
-from .messages import FAILED, WRONG_WORDS, Progress, Trouble, reason, say, shown, tell
+from .messages import FAILED, WRONG_WORDS, Progress, Trouble, counted, reason, say, shown, tell
 from .output import Folder, NewFile, new_folder, place_text, split_path
 from .program import BadImage, Entry, Refused, batches, command, find_program
 from .selection import chosen_objects, meant_tree, path_of
@@ -166,6 +165,7 @@ def extract_one(program: str, words: Namespace, image: str, folder: str, form: F
 def extract_to_archive(program: str, words: Namespace) -> int:
     if os.path.lexists(words.folder):
         raise Trouble("%s: there is something of this name already" % shown(words.folder))
+    from .archives import write_archive  # here, since zipfile takes long to load
     tree = wanted_tree(program, words, words.image)
     with tree.image.file, nameless_file(sum(entry.length for entry in tree.files())) as file:
         count = write_archive(program, tree, file)

@@ -8,8 +8,8 @@ from typing import List, Pattern, Set
 from . import names
 from .catalogue import disc_in
 from .collection import Files, Found, over_files, status_of, tell_refused
-from .listing import access, counted, kind, minute
-from .messages import say, shown
+from .listing import access, kind, minute
+from .messages import counted, say, shown
 from .program import Entry, Path, batches, find_program
 from .tree import Tree
 from .unread import digests

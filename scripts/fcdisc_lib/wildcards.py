@@ -20,6 +20,8 @@ def is_wild(text: str) -> bool:
 
 def matcher(part: str) -> Pattern[str]:
     """What matches the names that are meant, in the case that `folded` gives and the letters of Latin 1."""
+    if not part:
+        raise ValueError(names.NO_NAME)
     pieces = [MEANINGS.get(piece) or re.escape(comparable(names.plain_bytes(piece))) for piece in WILD.split(part) if piece]
     return re.compile("".join(pieces), re.DOTALL)
 

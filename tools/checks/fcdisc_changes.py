@@ -385,12 +385,16 @@ def removing_levels(c: Changes) -> None:
         ["directories read: %d of 6" % at for at in (1, 2)], re.findall("directories[^\r]*", got[1])))
 
 
+def little_room(files: str) -> str:
+    """A disk that holds these files, one of which is an image, and no copy of it."""
+    return ('mkdir ../room; unshare -m sh -c \'mount -t tmpfs -o size=1200k none ../room && cp %s ../room && '
+            'cd ../room && head -c 300000 /dev/zero > pad; "$@"; status=$?; echo $(find . | sort); exit $status\' sh "$@"; '
+            'status=$?; rmdir ../room; exit $status') % files
+
+
 def no_room(c: Changes) -> None:
-    """A disk that holds the image and no copy of it."""
     c.start(files={"note": b"Hello"})
-    within = ('mkdir ../room; unshare -m sh -c \'mount -t tmpfs -o size=1200k none ../room && cp a.adf note ../room && '
-              'cd ../room && head -c 300000 /dev/zero > pad; "$@"; status=$?; echo $(find . | sort); exit $status\' sh "$@"; '
-              'status=$?; rmdir ../room; exit $status')
+    within = little_room("a.adf note")
     c.refused("no room for a copy", ["put", "a.adf", "note", "$.N"],
               "a.adf: its changed copy can't be written beside it (No space left on device): 0.7 MB more are needed; nothing was changed",
               out=". ./a.adf ./note ./pad\n", within=within)

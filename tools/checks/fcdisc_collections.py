@@ -68,6 +68,9 @@ def collection(checks: Checks) -> bytes:
     return work
 
 
+FULL = "fcdisc: standard output: No space left on device\n"
+NO_NAME = "a name in a path has 1 to 255 bytes"
+NOT_LATIN = "a disc's names have no letters but those of Latin 1"
 WHOLE_USER = "c/f.adf: " + fcdisc_cases.USER_FOUND
 TWIN = "c/b/%s: not accepted: " + fcdisc_cases.TWIN_MEANING + "\n"
 PASSED_OVER = ("fcdisc: c/link: a link to a folder: passed over\nfcdisc: c/away: a link that leads nowhere: passed over\n"
@@ -259,6 +262,14 @@ def finding(checks: Checks) -> None:
     out, err, status = checks.run(["find", "c", "error"])
     checks.expect("find in a collection", line=("c/b/named.adf: $.D.error: 00000000-00000000, 0 bytes, WR/", out.splitlines()[0]), status=(1, status),
                   told=(REFUSED, err.splitlines()[-1]))
+    for pattern, error in (("", NO_NAME), ("..", NO_NAME), ("$.\uff21*", NOT_LATIN)):
+        checks.expect("find " + ascii(pattern), result=(("", "fcdisc: %s: %s\n" % (pattern, error), 2), checks.run(["find", "c", pattern])))
+    checks.expect("find to a full disk", result=(("", FULL, 1), checks.run(["find", "c/f.adf", "*"], within='exec "$@" > /dev/full')))
+    fill(checks.fresh(b"work"), {b"-x\n\x1b[31m.adf": read(checks.place(b"images/hostile.adf"))})
+    out, err, status = checks.run(["find", ".", "*"])
+    lines = out.splitlines()
+    checks.expect("find of hostile names", status=(0, status), told=("", err), plain=([], [line for line in lines[:-1] if not re.fullmatch(
+        r"\./-x\\x0a\\x1b\[31m\.adf: \$\.[!-~]+: [ -~]+", line)]), last=("%d objects in 1 image" % (len(lines) - 1), lines[-1]))
 
 
 def differing(checks: Checks) -> None:
@@ -280,7 +291,41 @@ def differing(checks: Checks) -> None:
             "2 objects differ; 1 only in a.adf; 1 only in b.adf\n")
     checks.expect("diff", result=((text, "", 1), checks.run(["diff", "a.adf", "b.adf"])))
     checks.expect("diff of a folder", result=((text.replace("a.adf", "o"), "", 1), checks.run(["diff", "o", "b.adf"])))
+    checks.expect("diff to a full disk", result=(("", FULL, 1), checks.run(["diff", "a.adf", "b.adf"], within='exec "$@" > /dev/full')))
     checks.expect("diff with a damaged disc", status=(1, checks.run(["diff", "a.adf", fcdisc_cases.image("d-twin.adf")])[2]))
+
+
+HOSTILE_HOST = {  # names of the host, and what diff says of each
+    b"ctl\1,fff": (1, "o/ctl\\x01,fff: not compared: a name has no control characters"), b"-opt,fff": (0, "only in o: $.-opt"),
+    b"nl\nx,fff": (1, "o/nl\\x0ax,fff: not compared: a name has no control characters"), b"%2E%2E,fff": (0, "only in o: $.%2E%2E"),
+    "e\u0301,fff".encode(): (1, "o/e\u0301,fff: not compared: " + NOT_LATIN), b"..x,fff": (0, "only in o: $.//x"),
+    "\uff21b,fff".encode(): (1, "o/\uff21b,fff: not compared: " + NOT_LATIN), b"bad\xff\xfe,fff": (0, "only in o: $.bad%FF%FE"),
+    b"y" * 240 + b",fff": (0, "only in o: $." + "y" * 240), b"a%2E,fff": (1, "o/a%2E,fff: not compared: on a disc it has the same name as A%2E,fff"),
+    b"A%2E,fff": (0, "only in o: $.A%2E")}
+
+
+def differing_names(checks: Checks) -> None:
+    """Names that a disc or a host can have only to do harm."""
+    work = checks.fresh(b"work")
+    fill(work, {b"-x\n\x1b[31m.adf": read(checks.place(b"images/named.adf"))})
+    checks.run(["extract", "--", "-x\n\x1b[31m.adf", "o"])
+    checks.expect("diff of an image named as an option", result=(("", "", 0), checks.run(["diff", "--", "-x\n\x1b[31m.adf", "o"])))
+    fill(work, {b"o/" + name: b"x" for name in HOSTILE_HOST})
+    fill(work, {b"o/link": "-> none"})
+    os.mkfifo(os.path.join(work, b"o/pipe"))
+    out, err, status = checks.run(["diff", "-v", "--", "-x\n\x1b[31m.adf", "o"])
+    told = [text for is_told, text in HOSTILE_HOST.values() if is_told]
+    checks.expect("diff of hostile names of a host", status=(1, status), told=(sorted(
+        "fcdisc: " + text for text in [*told, "o/link: not compared: it is a link", "o/pipe: not compared: not a file"]), sorted(err.splitlines())),
+                  out=(sorted([*(text for is_told, text in HOSTILE_HOST.values() if not is_told), "0 objects differ; %d only in o" % (
+                      len(HOSTILE_HOST) - len(told))]), sorted(out.splitlines())))
+    fill(checks.fresh(b"work"), {b"h\n\x1b[31m.adf": read(checks.place(b"images/hostile.adf"))})
+    checks.run(["extract", "h\n\x1b[31m.adf", "h.zip"])
+    checks.expect("diff of a hostile disc and its archive", result=(("", "", 0), checks.run(["diff", "h\n\x1b[31m.adf", "h.zip"])))
+    fill(checks.place(b"work"), {b"f.adf": read(checks.place(b"images/fresh-F.adf"))})
+    out, err, status = checks.run(["diff", "h\n\x1b[31m.adf", "f.adf"])
+    checks.expect("diff of a hostile disc", status=(1, status), told=("", err), plain=([], [line for line in out.splitlines()[:-1] if not re.fullmatch(
+        r"only in h\\x0a\\x1b\[31m\.adf: \$\.[!-~]+( \(directory\))?", line)]), some=(True, out.count("\n") > 5))
 
 
 # ---- extract --each
@@ -317,10 +362,31 @@ def each_interrupted(checks: Checks) -> None:
         checks.expect("%s interrupted" % words[0], status=(-signal.SIGINT, run.returncode), left=([b".fcdisc-1-1.tmp"], left))
 
 
+def ended(checks: Checks) -> None:
+    """Signals and kills of jobs that only read: they end by the signal, say nothing, and leave all as it was."""
+    slow = "#!/bin/sh\ntouch ../fake/begun.$$; sleep 1; exec '%s' \"$@\"\n" % checks.fcore
+    work = collection(checks)
+    checks.run(["extract", "c/f.adf", "o"])
+    before = snapshot(work)
+    for words in (["find", "c", "*"], ["find", "--holds", "boots", "c/f.adf", "*"], ["diff", "c/f.adf", "c/b/named.adf"], ["diff", "o", "c/f.adf"]):
+        for number in (signal.SIGINT, signal.SIGTERM, signal.SIGKILL):
+            fake = checks.fresh(b"fake")
+            fill(fake, {b"fcore": slow.encode()})
+            os.chmod(checks.place(b"fake/fcore"), 0o755)
+            run = subprocess.Popen([checks.fcdisc, *words], cwd=work, env={**checks.environment("../fake/fcore"), "TMPDIR": os.fsdecode(fake)},
+                                   stdout=subprocess.PIPE, stderr=subprocess.PIPE)
+            wait_for(lambda: any(name.startswith(b"begun") for name in os.listdir(fake)))
+            run.send_signal(number)
+            told = run.communicate(timeout=60)
+            checks.expect("%s ended by %d" % (" ".join(words), number), status=(-number, run.returncode), told=((b"", b""), told), left=(
+                before, snapshot(work)), temporary=([], [name for name in os.listdir(fake) if name != b"fcore" and not name.startswith(b"begun")]))
+
+
 def progress(checks: Checks) -> None:
     collection(checks)
     out, err, _ = checks.run(["check", "c/f.adf", "c/b/named.adf"], within=on_host("terminal"))
     checks.expect("progress of check", steps=(["files checked: 1 of 2", "files checked: 2 of 2"], re.findall("files checked[^\r]*\\d", err)))
 
 
-PARTS = (check_collection, other_files, behind_an_offset, equal_tracks, catalogue, finding, differing, each, each_interrupted, progress)
+PARTS = (check_collection, other_files, behind_an_offset, equal_tracks, catalogue, finding, differing, differing_names, each, each_interrupted, ended,
+         progress)

@@ -9,7 +9,7 @@ import signal
 import subprocess
 
 from tools.checks import fcdisc_cases
-from tools.checks.fcdisc_changes import NAMED, SLOW, Changes, tree_of
+from tools.checks.fcdisc_changes import NAMED, SLOW, Changes, little_room, tree_of
 from tools.checks.work_folders import snapshot, wait_for
 from tools.files import TOP, read
 
@@ -104,7 +104,46 @@ def copies(c: Changes) -> None:
                                ("of a directory", ["D", "E"], "$.D: a directory: use cp -r"), ("of nothing", ["z", "E"], "$.z: there is no such object on the disc")):
         c.refused("cp " + name, ["cp", "a.adf", *words], "a.adf: " + error)
     c.refused("cp into itself", ["cp", "-r", "a.adf", "D", "D.E"], "a.adf: $.D.E: a directory can't be copied into itself")
-    c.refused("cp to nowhere", ["cp", "a.adf", "Ab", "x.y"], "a.adf: $.x.y: not copied: there is no directory for it on the disc")
+    c.refused("cp to nowhere", ["cp", "a.adf", "Ab", "x.y"], "a.adf: $.x.y: no copy made: there is no directory for it on the disc")
+
+
+LONG = "x" * 256
+NO_NAME = "a name in a path has 1 to 255 bytes"
+NOT_LATIN = "a disc's names have no letters but those of Latin 1"
+NO_PATHS = (("a control character", "$.a\1b", "$.a\\x01b: a name has no control characters"), ("a spelled one", "$.a%1Bb", "$.a%1Bb: a name has no control characters"),
+            ("..", "..", "..: " + NO_NAME), ("no name", "$.D..x", "$.D..x: " + NO_NAME), ("a very long name", LONG, LONG + ": " + NO_NAME),
+            ("a look-alike of A", "$.\uff21b", "$.\uff21b: " + NOT_LATIN), ("look-alikes of dots", "\u2024\u2024", "\u2024\u2024: " + NOT_LATIN),
+            ("an accent of its own", "$.e\u0301", "$.e\u0301: " + NOT_LATIN))
+
+
+def copies_named(c: Changes) -> None:
+    """Hostile names in cp: what can't be a name is refused; what can be one is one on the disc, whatever it looks like."""
+    c.start()
+    for name, path, error in NO_PATHS:
+        c.refused("cp to " + name, ["cp", "a.adf", "Ab", path], error, 2)
+    c.refused("cp of ..", ["cp", "a.adf", "..", "D"], "..: " + NO_NAME, 2)
+    c.refused("cp to a long name", ["cp", "a.adf", "Ab", "$.ElevenBytes"],
+              "a.adf: $.ElevenBytes: no copy made: its name has 11 letters, and this disc takes no more than 10")
+    c.refused("cp to a name with a space", ["cp", "a.adf", "Ab", "$.c d"],
+              "a.adf: $.c%20d: no copy made: no name that is written to a disc may have %20 in it")
+    c.refused("cp to what looks like an option", ["cp", "a.adf", "Ab", "--in-place"], "usage: fcdisc cp...", 2)
+    tree = dict(NAMED)
+    for path, spelled in (("-r", "$.-r"), ("$.x/y", "$.x/y"), ("../..", ""), ("/etc", "$./etc"), ("caf\u00e9", "$.caf%E9"), ("$.a\u00a0b", "$.a%A0b"),
+                          ("$.~", "$.~"), ("$.a\udc9bb", "$.a%9Bb")):
+        if spelled:
+            tree[spelled] = (3, b"\2")
+            c.good("cp to " + ascii(path), ["cp", "a.adf", "--", "Ab", path], tree)
+        else:
+            c.refused("cp to " + path, ["cp", "a.adf", "--", "Ab", path], path + ": " + NO_NAME, 2)
+    c.good("cp of what looks like an option", ["cp", "a.adf", "--", "-r", "D"], {**tree, "$.D.-r": (3, b"\2")})
+    c.checks.expect("names on the host", left=(["a.adf", "a.adf~"], c.names()))
+
+
+def no_room_for_copies(c: Changes) -> None:
+    c.start()
+    c.refused("no room for cp", ["cp", "a.adf", "Ab", "N"],
+              "a.adf: its changed copy can't be written beside it (No space left on device): 0.7 MB more are needed; nothing was changed",
+              out=". ./a.adf ./pad\n", within=little_room("a.adf"))
 
 
 def words(c: Changes) -> None:
@@ -171,5 +210,5 @@ def interrupted_jobs(c: Changes) -> None:
                             left=(["a.adf", "begun", "note", "note2", "o"], c.names()))
 
 
-PARTS = (wildcards, several, directories, copies, words, completion, reclaiming, interrupted_jobs)
-MOUNTED = ()
+PARTS = (wildcards, several, directories, copies, copies_named, words, completion, reclaiming, interrupted_jobs)
+MOUNTED = (no_room_for_copies,)  # these need to mount something

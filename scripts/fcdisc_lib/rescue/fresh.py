@@ -12,8 +12,7 @@ from ..editing import NOT_COPIED, tell_failures
 from ..fresh import fresh_disc
 from ..images import pieces_from
 from ..jobs import write_new
-from ..listing import counted
-from ..messages import FAILED, WRONG_WORDS, Progress, Trouble, say, shown
+from ..messages import FAILED, WRONG_WORDS, Progress, Trouble, counted, say, shown
 from ..output import TAKEN
 from ..program import find_program
 from .discs import FORMATS

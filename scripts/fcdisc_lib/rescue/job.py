@@ -9,8 +9,7 @@ from typing import Optional
 from ..collection import Files
 from ..images import open_file, open_image, read_at
 from ..jobs import not_accepted
-from ..listing import counted
-from ..messages import FAILED, WRONG_WORDS, Trouble, say, shown, tell
+from ..messages import FAILED, WRONG_WORDS, Trouble, counted, say, shown, tell
 from ..output import Folder
 from ..program import BadImage, find_program
 from .fresh import put_onto_fresh

@@ -5,8 +5,9 @@ from __future__ import annotations
 import json
 from typing import Dict, Iterator, List
 
+from ..listing import Row
+from ..messages import counted
 from ..names import spelled_path, type_of
-from ..listing import Row, counted
 from .reading import Reading
 from .unchecked import OTHER_PARENT
 from .walk import Found

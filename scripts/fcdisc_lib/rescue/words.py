@@ -2,18 +2,16 @@
 """The words of the jobs for damaged discs."""
 from __future__ import annotations
 
-from argparse import ArgumentParser, Namespace
-from typing import TYPE_CHECKING, Callable
+from argparse import Namespace
+from typing import TYPE_CHECKING
 
-from .discs import FORMATS
+from ..common_words import FORMATS, add_job, add_order
 
 if TYPE_CHECKING:
     from ..common_words import Jobs
 
-AddJob = Callable[["Jobs", str, Callable[[Namespace], int], str], ArgumentParser]
 
-
-def add_rescuing(added: Jobs, add_job: AddJob, add_order: Callable[[ArgumentParser], None]) -> None:
+def add_rescuing(added: Jobs) -> None:
     job = add_job(added, "rescue", run_rescue, "Take out what can be read of a damaged disc. The image is only read. Files that "
                   "nothing speaks against come into FOLDER/sound, others into FOLDER/doubtful; FOLDER/report.txt says why.")
     add_order(job)
