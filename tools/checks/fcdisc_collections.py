@@ -366,6 +366,7 @@ def ended(checks: Checks) -> None:
     """Signals and kills of jobs that only read: they end by the signal, say nothing, and leave all as it was."""
     slow = "#!/bin/sh\ntouch ../fake/begun.$$; sleep 1; exec '%s' \"$@\"\n" % checks.fcore
     work = collection(checks)
+    os.remove(os.path.join(work, b"c/pipe"))  # whoever looks into it would wait
     checks.run(["extract", "c/f.adf", "o"])
     before = snapshot(work)
     for words in (["find", "c", "*"], ["find", "--holds", "boots", "c/f.adf", "*"], ["diff", "c/f.adf", "c/b/named.adf"], ["diff", "o", "c/f.adf"]):
