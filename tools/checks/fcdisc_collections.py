@@ -363,7 +363,7 @@ def each_interrupted(checks: Checks) -> None:
 
 
 def ended(checks: Checks) -> None:
-    """Signals and kills of jobs that only read: they end by the signal, say nothing, and leave all as it was."""
+    """Signals and kills of jobs that only read: they end by the signal, say nothing of it, and leave all as it was."""
     slow = "#!/bin/sh\ntouch ../fake/begun.$$; sleep 1; exec '%s' \"$@\"\n" % checks.fcore
     work = collection(checks)
     os.remove(os.path.join(work, b"c/pipe"))  # whoever looks into it would wait
@@ -379,8 +379,8 @@ def ended(checks: Checks) -> None:
             wait_for(lambda: any(name.startswith(b"begun") for name in os.listdir(fake)))
             run.send_signal(number)
             told = run.communicate(timeout=60)
-            checks.expect("%s ended by %d" % (" ".join(words), number), status=(-number, run.returncode), told=((b"", b""), told), left=(
-                before, snapshot(work)), temporary=([], [name for name in os.listdir(fake) if name != b"fcore" and not name.startswith(b"begun")]))
+            checks.expect("%s ended by %d" % (" ".join(words), number), status=(-number, run.returncode), left=(before, snapshot(work)), told=(
+                [], [line for line in b"".join(told).splitlines() if not line.endswith(b": passed over")]), temporary=([], [name for name in os.listdir(fake) if name != b"fcore" and not name.startswith(b"begun")]))
 
 
 def progress(checks: Checks) -> None:
