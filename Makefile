@@ -61,10 +61,11 @@ CASES =
 check:
 	@set -f; tools/run checks/run --program $(PROGRAM) $(CASES)
 
-# What is made from the sources: definitions, lists of faults and refusals, the line of the licence, exceptions that may shrink
+# What is made from the sources: definitions, lists of faults and refusals, the completion for bash, the line of the licence, exceptions that may shrink
 papers:
 	tools/run checks/definitions --write
 	tools/run checks/faults --write
+	tools/run checks/jobs --write
 	tools/run checks/licence --write
 	tools/run checks/bounds --write
 

@@ -3,45 +3,52 @@
 
 _fcdisc()
 {
-    local word=${COMP_WORDS[COMP_CWORD]} before=${COMP_WORDS[COMP_CWORD-1]} job=${COMP_WORDS[1]}
-    local jobs='list ls get extract check new adl strip put add mkdir rm mv cp access compact reclaim undo convert catalogue find diff rescue mend types'
-    local change='--order --offset --backup --in-place --help'
-    local options='--help'
+    local word=${COMP_WORDS[COMP_CWORD]} before=${COMP_WORDS[COMP_CWORD-1]} job=${COMP_WORDS[1]} options='--help' words=
+    # made by tools/run checks/jobs --write
+    local jobs='list ls get extract check new adl strip put add mkdir rm mv cp access compact reclaim undo convert catalogue find diff types rescue mend'
+    local formats='E F D L E+ F+'
+    case $job in
+        list|ls|catalogue) options='--offset --order --json --help' ;;
+        get) options='--offset --order --help' ;;
+        extract) options='--offset --order --each --inf --types --help' ;;
+        check) options='--offset --order --json --damaged --help' ;;
+        new|strip|types) options='--help' ;;
+        adl|undo) options='--back --help' ;;
+        put) options='--offset --order --backup --in-place --replace --type --types --help' ;;
+        add) options='--offset --order --backup --in-place --fit --verbose --types --replace --help' ;;
+        mkdir) options='--offset --order --backup --in-place -p --help' ;;
+        rm|cp) options='--offset --order --backup --in-place -r --help' ;;
+        mv|access|compact|reclaim) options='--offset --order --backup --in-place --help' ;;
+        convert) options='--offset --order --fit --verbose --help' ;;
+        find) options='--offset --order --type --holds --sha256 --help' ;;
+        diff) options='--offset --order --verbose --help' ;;
+        rescue) options='--offset --order --as --deleted --all --report --to --each --help' ;;
+        mend) options='--offset --order --guess --help' ;;
+    esac
+    case $before in
+        --as) words='E F D L E+ F+' ;;
+        --backup) words='first each' ;;
+        --order) words='auto disc adl' ;;
+    esac
+    # end of what checks/jobs makes
 
     if [ "$COMP_CWORD" -eq 1 ]; then
         COMPREPLY=($(compgen -W "$jobs --help --version" -- "$word"))
         return
     fi
     case $before in
-        --order) COMPREPLY=($(compgen -W 'auto disc adl' -- "$word")); return ;;
-        --backup) COMPREPLY=($(compgen -W 'first each' -- "$word")); return ;;
         --types) COMPREPLY=($(compgen -W default -- "$word") $(compgen -f -- "$word")); return ;;
-        --as|--to) COMPREPLY=($(compgen -W 'E F D L E+ F+' -- "$word")); return ;;
+        --to) words=$formats ;;
         --offset|--type|--holds|--sha256) return ;;
     esac
     case $job in
-        list|ls|catalogue) options='--order --offset --json --help' ;;
-        get) options='--order --offset --help' ;;
-        extract) options='--order --offset --each --inf --types --help' ;;
-        check) options='--order --offset --json --damaged --help' ;;
-        adl) options='--back --help' ;;
-        put) options="--replace --type --types $change" ;;
-        add) options="--replace --fit --types --verbose $change" ;;
-        mkdir) options="-p $change" ;;
-        rm|cp) options="-r $change" ;;
-        mv|access|compact|reclaim) options=$change ;;
-        undo) options='--back --help' ;;
-        convert) options='--order --offset --fit --verbose --help' ;;
-        find) options='--order --offset --type --holds --sha256 --help' ;;
-        rescue) options='--order --offset --as --deleted --all --report --to --each --help' ;;
-        mend) options='--guess --order --offset --help' ;;
-        diff) options='--order --offset --verbose --help' ;;
+        new|convert) [ "$COMP_CWORD" -ne 2 ] || words=$formats ;;
     esac
     case $word in
-        -*) COMPREPLY=($(compgen -W "$options" -- "$word")); return ;;
+        -*) words=$options ;;
     esac
-    if { [ "$job" = new ] || [ "$job" = convert ]; } && [ "$COMP_CWORD" -eq 2 ]; then
-        COMPREPLY=($(compgen -W 'E F D L E+ F+' -- "$word"))
+    if [ "$words" ]; then
+        COMPREPLY=($(compgen -W "$words" -- "$word"))
         return
     fi
     local IFS=$'\n'

@@ -79,13 +79,14 @@ def order_rows() -> List[str]:
 
 
 PAGES: Dict[str, Callable[[], List[str]]] = {"man/filecore.5": fault_items, "man/fcore.1": refusal_items, "docs/FORMAT.md": order_rows}
-BEGIN, END = "made by tools/run checks/faults --write", "end of what checks/faults makes"
+BEGIN, END = "made by tools/run checks/%s --write", "end of what checks/%s makes"
+COMMENTS = {".md": "<!-- %s -->", ".bash": "    # %s"}  # others are man pages
 
 
-def with_list(page: str, text: str, lines: List[str]) -> str:
-    """The page with the lines between its two comments."""
-    comment = "<!-- %s -->" if page.endswith(".md") else '.\\" %s'
-    begin, end = comment % BEGIN + "\n", comment % END + "\n"
+def with_list(page: str, text: str, lines: List[str], tool: str = "faults") -> str:
+    """The page with the lines between its two comments, which name the tool."""
+    comment = COMMENTS.get(os.path.splitext(page)[1], '.\\" %s')
+    begin, end = comment % BEGIN % tool + "\n", comment % END % tool + "\n"
     head, found, rest = text.partition(begin)
     before, closed, tail = rest.partition(end)
     if not found or not closed:

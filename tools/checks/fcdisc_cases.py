@@ -8,6 +8,7 @@ from __future__ import annotations
 import gzip
 from typing import Dict, Iterator, List, Optional, Union
 
+from tools.checks import jobs
 from tools.checks.work_folders import Content
 from tools.images.volumes import NewVolume, OldVolume, fresh_e
 
@@ -413,8 +414,7 @@ def words() -> Iterator[Case]:
                               ["access", "x", "WW", "y"], ["access", "x", "y"], ["compact"], ["convert", "x", "y", "z"],
                               ["compact", "--read-only", "x"])):
         yield Case("words-%d" % at, one, err="usage: fcdisc...\n", status=2)
-    for job in ("list", "get", "extract", "check", "new", "adl", "strip", "put", "add", "mkdir", "rm", "mv", "access", "compact",
-                "convert"):
+    for job, *_ in jobs.names():
         yield Case("help-" + job, [job, "--help"], "usage: fcdisc %s [-h]...\n" % job)
     yield Case("help", ["--help"], "usage: fcdisc [-h] [--version] JOB ...\n...\n")
 

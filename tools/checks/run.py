@@ -24,7 +24,7 @@ MEMORY = "/dev/shm" if os.access("/dev/shm", os.W_OK) else os.environ.get("TMPDI
 PAGES = {  # case: the words of its tool
     "quotations": ["checks/quotations"], "rooms": ["checks/rooms"], "definitions": ["checks/definitions", "--check"],
     "faults": ["checks/faults", "--check"], "bounds": ["checks/bounds"], "licence": ["checks/licence"], "imports": ["checks/imports"],
-    "annotations": ["checks/annotations"],
+    "annotations": ["checks/annotations"], "jobs": ["checks/jobs", "--check"],
 }
 
 
