@@ -60,13 +60,13 @@ def check(words: Namespace) -> int:
         failed |= state not in (WHOLE, NO_DISC) or state == NO_DISC and file.is_named
         if finding is None:
             continue
-        for one in finding.advice():
-            advice[one] = advice.get(one, 0) + 1
         if words.json:
-            rows.append(as_row(file.path, finding))
+            rows += [as_row(file.path, finding)] if not words.damaged or state != WHOLE else []
         elif is_told(words, file, finding):
             say("%s: %s" % (shown(file.path), in_words(finding)))
             sys.stdout.flush()  # the next image may take its time
+            for one in finding.advice():
+                advice[one] = advice.get(one, 0) + 1
     clear_progress()
     if words.json:
         json.dump(rows, sys.stdout, indent=1)

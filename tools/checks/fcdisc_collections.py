@@ -105,6 +105,12 @@ def check_collection(checks: Checks) -> None:
     out, err, status = checks.run(["check", "--damaged", "c"])
     found = found_in(out.splitlines())
     checks.expect("check --damaged", found=({name: text for name, text in FOUND.items() if text.startswith("not")}, found))
+    images = [fcdisc_cases.image("e-files.adf"), "c/b/twin.adf"]  # the first has bytes that nothing owns
+    out, _, _ = checks.run(["check", "--damaged", *images])
+    checks.expect("check --damaged says what to do about these alone", told=(["c/b/twin.adf", "What to do about Directory Twin (1 image)", "2 files"], [
+        line.split(":")[0] for line in out.splitlines()]))
+    out, _, _ = checks.run(["check", "--damaged", "--json", *images])
+    checks.expect("check --damaged --json", images=(["c/b/twin.adf"], [row["image"] for row in json.loads(out)]))
     out, err, status = checks.run(["check", "--json", "c/f.adf", "c/b/twin.adf"])
     rows = json.loads(out)
     checks.expect("check --json", status=(1, status), whole=(

@@ -6,8 +6,10 @@ No image may be changed by the cases of the table: sums show it. These suites ar
 import hashlib
 import os
 import shutil
+import signal
 import subprocess
 import tempfile
+import time
 from typing import Dict, Iterator, List, Optional
 
 from tools.checks.selection import Suite, shortened
@@ -132,21 +134,49 @@ def installed_differences(program: str, folder: str) -> Iterator[str]:
     if failed:
         yield failed
         return
-    table.write_image(os.path.join(folder, "hello.adf"), table.hello().image())
-    environment = {name: text for name, text in os.environ.items() if name != "FCORE"}
-    words = [root + "/there/bin/fcdisc", "get", "hello.adf", "$.Hello", "-"]
-    ran = subprocess.run(words, cwd=folder, env=environment, capture_output=True, check=False)
-    if ran.stdout != b"Hello":
-        yield "fcdisc get gives %r, and says %r" % (ran.stdout, ran.stderr)
+    yield from started_differences(root + "/there/bin/fcdisc", folder)
     for page in ("fcdisc.1", "fcore.1"):
         if not os.path.exists(root + "/there/share/man/man1/" + page):
             yield "there is no page " + page
 
 
+def packed_differences(program: str, folder: str) -> Iterator[str]:
+    ran = subprocess.run([os.path.join(TOP, "tools", "run"), "dist", program, folder], capture_output=True, text=True, check=False)
+    if ran.returncode:
+        yield ran.stdout + ran.stderr
+        return
+    (archive,) = (name for name in os.listdir(folder) if name.endswith(".tar.gz"))
+    subprocess.run(["tar", "-xzf", archive], cwd=folder, check=True)
+    (place,) = (name for name in os.listdir(folder) if os.path.isdir(os.path.join(folder, name)))
+    ran = subprocess.run(["sha256sum", "--quiet", "-c", "SHA256SUMS"], cwd=os.path.join(folder, place), capture_output=True, text=True, check=False)
+    if ran.returncode:
+        yield ran.stdout
+    yield from started_differences(os.path.join(folder, place, "bin", "fcdisc"), folder)
+
+
+def started_differences(fcdisc: str, folder: str) -> Iterator[str]:
+    """A job of fcdisc, and interrupts while it starts: it ends by them, if it wasn't at its end, and says nothing."""
+    table.write_image(os.path.join(folder, "hello.adf"), table.hello().image())
+    environment = {name: text for name, text in os.environ.items() if name != "FCORE"}
+    words = [fcdisc, "get", "hello.adf", "$.Hello", "-"]
+    ran = subprocess.run(words, cwd=folder, env=environment, capture_output=True, check=False)
+    if ran.stdout != b"Hello":
+        yield "fcdisc get gives %r, and says %r" % (ran.stdout, ran.stderr)
+    signal.signal(signal.SIGINT, signal.default_int_handler)  # a shell without job control has it ignored in the background
+    for at in range(20):
+        with subprocess.Popen(words, cwd=folder, env=environment, stdout=subprocess.PIPE, stderr=subprocess.PIPE) as run:
+            time.sleep(at * 0.006)
+            run.send_signal(signal.SIGINT)
+            out, errors = run.communicate(timeout=SECONDS)
+        if errors or run.returncode not in (0, -signal.SIGINT):
+            yield "interrupted after %d ms it ends by %d, and says %r" % (at * 6, run.returncode, errors)
+
+
 def installed(suite: Suite, program: str) -> None:
-    if suite.wants("install"):
-        with tempfile.TemporaryDirectory() as folder:
-            suite.note("install", list(installed_differences(program, folder)))
+    for name, part in (("install", installed_differences), ("dist", packed_differences)):
+        if suite.wants(name):
+            with tempfile.TemporaryDirectory() as folder:
+                suite.note(name, list(part(program, folder)))
 
 
 # ---- pages and the embedded image, without a program
