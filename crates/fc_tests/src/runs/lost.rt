@@ -85,7 +85,7 @@ fn is_always_empty(alloc: Global, disk: &MemoryDisk) -> Result<bool, Fail> {
         for kept in [[].as_slice(), &[true]] {
             let left = disk.stopped(alloc, calls, kept)?;
             let (_, text, _) = outcome(alloc, &["disc"], left, b"cat $\n")?;
-            if text.as_slice() != b"ok\n" {
+            if text.as_slice() != b"ok\n".as_slice() {
                 return Ok(false);
             }
         }
