@@ -19,6 +19,7 @@ const FRESH: usize = 1_638_400;
 
 // A disc: a fresh volume of a format, or so many bytes 0 if there is none, with parts put over it. The copies of its map, of so
 // many bytes, lie one after the other; an image has the first alone among its parts. There is none on a disc with an old map.
+#[derive(Drop)]
 struct Disc {
     format: &'static str,
     length: usize,
