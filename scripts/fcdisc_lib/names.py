@@ -10,7 +10,6 @@ from __future__ import annotations
 
 import os
 import re
-from contextlib import suppress
 from functools import lru_cache
 from typing import List, NamedTuple, Optional, Sequence, Tuple
 
@@ -92,8 +91,10 @@ def read_name(part: str) -> bytes:
 
 def latin_bytes(text: str) -> bytes:
     """The bytes of a text in Latin 1. A byte of the host that is no UTF-8 stands for itself."""
-    with suppress(UnicodeEncodeError):
+    try:
         return text.encode("latin-1")
+    except UnicodeEncodeError:
+        pass  # it has surrogates, or other letters
     codes = [ord(one) - 0xDC00 if 0xDC80 <= ord(one) <= 0xDCFF else ord(one) for one in text]
     if max(codes) > 255:
         raise ValueError("a disc's names have no letters but those of Latin 1")

@@ -148,8 +148,15 @@ def read_only_folder(c: Changes) -> None:
     c.start(files=NOTE)
     within = ("mkdir ../room; unshare -m sh -c 'mount --bind . ../room && cd ../room && mount -o remount,bind,ro . && cd \"$PWD\" && "
               "exec \"$@\"' sh \"$@\"; status=$?; rmdir ../room; exit $status")
-    c.refused("a host that is only read", ["mkdir", "a.adf", "E"], "a.adf: it is write-protected on this host", within=within)
-    c.refused("new on a host that is only read", ["new", "E", "n.adf"], "n.adf: Read-only file system", within=within)
+    make(c, "E")
+    for words, error in ((["mkdir", "a.adf", "F"], "a.adf: it is write-protected on this host"), (["cp", "a.adf", "Ab", "N"], "a.adf: it is write-"
+                         "protected on this host"), (["undo", "a.adf"], "a.adf: Read-only file system: nothing was changed"), *(
+                             (words, words[-1] + ": Read-only file system") for words in (["new", "E", "n.adf"], ["extract", "a.adf", "o"],
+                             ["extract", "--inf", "a.adf", "o"], ["extract", "a.adf", "o.zip"], ["convert", "F", "a.adf", "n.adf"],
+                             ["get", "a.adf", "Ab", "n"]))):
+        c.refused("%s on a host that is only read" % " ".join(words), words, error, within=within)
+    c.checks.expect("extract --each on a host that is only read", result=(
+        ("0 files of 0 discs written to o\n", "fcdisc: o/a.adf: Read-only file system\n", 1), c.run("extract", "--each", "a.adf", "o", within=within)))
 
 
 def fresh_names(c: Changes) -> None:
