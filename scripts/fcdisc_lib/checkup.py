@@ -2,7 +2,6 @@
 """The job `check`: what each image is, whether it is whole, what is wrong, and what to do."""
 from __future__ import annotations
 
-import json
 import sys
 from argparse import Namespace
 from typing import Dict, Iterator, List, NamedTuple, Optional, Sequence, Tuple
@@ -69,6 +68,7 @@ def check(words: Namespace) -> int:
                 advice[one] = advice.get(one, 0) + 1
     clear_progress()
     if words.json:
+        import json  # here, since few ask for it, and it takes long to load
         json.dump(rows, sys.stdout, indent=1)
         say("")
     else:

@@ -4,14 +4,16 @@ from __future__ import annotations
 
 import os
 import resource
-from concurrent.futures import Future, ThreadPoolExecutor
-from typing import Callable, Iterator, List, NamedTuple, Optional, Tuple, TypeVar
+from typing import TYPE_CHECKING, Callable, Iterator, List, NamedTuple, Optional, Tuple, TypeVar
 
 from .backups import backed_up
 from .complaints import FIRST
 from .leftovers import is_temporary
 from .messages import FAILED, Progress, Trouble, collecting, counted, reason, shown, tell
 from .program import BadImage, Refused
+
+if TYPE_CHECKING:
+    from concurrent.futures import Future
 
 Answer = TypeVar("Answer")
 DESCRIPTORS = 10  # that a job needs at once; the program itself has some more
@@ -78,16 +80,31 @@ def over_files(files: Files, job: Callable[[Found], Answer], what: str) -> Itera
     """What the job answers for each file, in the order of the files; None where it ended by Trouble. Its messages come before."""
     found = list(files)
     progress = Progress(what, len(found))
+    for file, (answer, lines) in outcomes(found, job, files.refused):
+        for line in lines:
+            tell(line)
+        progress.step()
+        yield file, answer
+
+
+def outcomes(found: List[Found], job: Callable[[Found], Answer], refused: List[str]) -> Iterator[Tuple[Found, Tuple[Optional[Answer], List[str]]]]:
+    """What comes of each file, and the messages; several jobs at once, if there are several."""
+    if len(found) < 2:
+        yield from ((one, told_together(job, one, refused)) for one in found)
+        return
+    from concurrent.futures import ThreadPoolExecutor  # here, since it takes long to load
     count = workers()
     with ThreadPoolExecutor(count) as pool:
         waiting: List[Tuple[Found, Future[Tuple[Optional[Answer], List[str]]]]] = []
         try:
             for one in found:
-                waiting.append((one, pool.submit(told_together, job, one, files.refused)))
+                waiting.append((one, pool.submit(told_together, job, one, refused)))
                 if len(waiting) > AHEAD * count:
-                    yield finished(*waiting.pop(0), progress)
+                    file, future = waiting.pop(0)
+                    yield file, future.result()
             while waiting:
-                yield finished(*waiting.pop(0), progress)
+                file, future = waiting.pop(0)
+                yield file, future.result()
         finally:
             for _, future in waiting:
                 future.cancel()
@@ -104,14 +121,6 @@ def told_together(job: Callable[[Found], Answer], file: Found, refused: List[str
             return None, [*lines, str(trouble)]
         except (BadImage, Refused):  # after it was opened
             return None, [*lines, "%s: it changed while it was read" % shown(file.path)]
-
-
-def finished(file: Found, future: Future[Tuple[Optional[Answer], List[str]]], progress: Progress) -> Tuple[Found, Optional[Answer]]:
-    answer, lines = future.result()
-    for line in lines:
-        tell(line)
-    progress.step()
-    return file, answer
 
 
 def tell_refused(files: Files) -> None:

@@ -3,7 +3,6 @@
 from __future__ import annotations
 
 import os
-import tempfile
 from contextlib import contextmanager
 from typing import BinaryIO, Iterator
 
@@ -18,6 +17,7 @@ def fresh_disc(program: str, name: str, form: str) -> Iterator[BinaryIO]:
 
     fcore makes it as a file, since it makes no image that is there already.
     """
+    import tempfile  # here, since it takes long to load, and other jobs are beside those that need it
     try:
         with tempfile.TemporaryDirectory(prefix="fcdisc-") as folder:
             place = os.path.join(folder, "new")

@@ -2,7 +2,6 @@
 """The subcommands. Each answers the status with which the program ends."""
 from __future__ import annotations
 
-import json
 import os
 import sys
 from argparse import Namespace
@@ -39,6 +38,7 @@ def list_disc(words: Namespace) -> int:
     program = find_program()
     tree, disc = read_listing(program, words)
     if words.json:
+        import json  # here, since few ask for it, and it takes long to load
         json.dump(tree_row(tree, disc), sys.stdout, indent=1)
         say("")
     else:
