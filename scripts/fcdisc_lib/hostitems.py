@@ -4,7 +4,7 @@ from __future__ import annotations
 
 import os
 from contextlib import suppress
-from typing import Callable, Dict, Iterator, List, NamedTuple, Optional, Tuple
+from typing import Callable, Dict, Iterator, List, NamedTuple, Optional, Set, Tuple
 
 from . import inf, names
 from .complaints import Complaints
@@ -135,10 +135,10 @@ def scan(folder: bytes, start: Path, fail: Failures, wishes: Wishes) -> Iterator
         except OSError as error:
             fail.refuse(outer, reason(error))
             continue
-        infs, namer = infs_among(entries), Namer(wishes)
+        (infs, used), namer = infs_among(entries), Namer(wishes)
         namer.reserve(entries)
         for entry in entries:
-            if is_temporary(entry.name) or infs and entry.name.endswith(inf.ENDING) and entry.name[:-len(inf.ENDING)] in infs:
+            if is_temporary(entry.name) or entry.name in used:
                 continue
             item = item_of(entry, path, namer, infs.get(entry.name), fail)
             if item:
@@ -161,21 +161,23 @@ def tell_fitted(item: Item, host: bytes, wishes: Wishes) -> None:
         wishes.say("%s -> %s" % (shown(item.place), names.spelled_path(item.path)))
 
 
-def infs_among(entries: List[os.DirEntry[bytes]]) -> Dict[bytes, inf.Inf]:
-    """What the .inf files among these tell, by the names of what stands beside them."""
+def infs_among(entries: List[os.DirEntry[bytes]]) -> Tuple[Dict[bytes, inf.Inf], Set[bytes]]:
+    """What the .inf files among these tell, by the names of what stands beside them; and their own names. Their ending is of any case."""
     found: Dict[bytes, inf.Inf] = {}
+    used: Set[bytes] = set()
     candidates = [entry for entry in entries if entry.name.lower().endswith(inf.ENDING)]
     there = {entry.name for entry in entries} if candidates else set()
     for entry in candidates:
         base = entry.name[:-len(inf.ENDING)]
-        if base in there and entry.is_file(follow_symlinks=False):
+        if base in there and base not in found and entry.is_file(follow_symlinks=False):
             try:
                 told = inf.read_inf(read_host_file(entry.path, inf.LONGEST, os.O_NOFOLLOW).content)
             except (OSError, ValueError):
                 continue
             if told:
                 found[base] = told
-    return found
+                used.add(entry.name)
+    return found, used
 
 
 def item_of(entry: os.DirEntry[bytes], path: Path, namer: Namer, told: Optional[inf.Inf], fail: Failures) -> Optional[Item]:

@@ -106,14 +106,16 @@ def latin_names(c: Changes) -> None:
 def infs(c: Changes) -> None:
     files = {"o/Prog": b"p", "o/Prog.inf": b"$.PROG FFFF1900 FFFF8023 0000B000 0B\n", "o/two": b"t", "o/two.inf": b"TWO 1900 8023 Locked\r\n",
              "o/six": b"6", "o/six.inf": b"$.SIX FF1900 FF8023 000001 CRC=1234\n", "o/alone.inf": b"no pair", "o/odd": b"o", "o/odd.inf": b"not hex here",
-             "o/quoted": b"q", "o/quoted.inf": b'"$.A%%20B" 00000000 00000000 00000001 19\n'.replace(b"%%", b"%"), "o/let": b"l", "o/let.inf": b"LET 0 0 1 WR/r"}
+             "o/quoted": b"q", "o/quoted.inf": b'"$.A%%20B" 00000000 00000000 00000001 19\n'.replace(b"%%", b"%"), "o/let": b"l", "o/let.inf": b"LET 0 0 1 WR/r",
+             "o/UP": b"u", "o/UP.INF": b"UP 1900 8023 1\n"}
     c.start("hello.adf", files=files)
     out, err, status = c.run("add", "a.adf", "o")
     tree = tree_of(read(c.at("a.adf")))
     wanted = {b"PROG": (7, 0xFFFF1900, 0xFFFF8023, b"p"), b"TWO": (7, 0x1900, 0x8023, b"t"), b"SIX": (3, 0xFFFF1900, 0xFFFF8023, b"6"),
-              b"LET": (3, 0, 0, b"l")}
+              b"LET": (3, 0, 0, b"l"), b"UP": (3, 0x1900, 0x8023, b"u")}
     c.checks.expect(".inf files", nodes=(wanted, {path[0]: (node[0] & 7, *node[1:]) for path, node in tree.items() if path[0] in wanted}),
-                    others=(True, {(b"alone/inf",), (b"odd",), (b"odd/inf",)} <= set(tree)), out=("7 of 8 files added to a.adf\n", out), status=(1, status),
+                    others=({(b"alone/inf",), (b"odd",), (b"odd/inf",), (b"Hello",)}, {path for path in tree if path[0] not in wanted}),
+                    out=("8 of 9 files added to a.adf\n", out), status=(1, status),
                     told=(True, "$.A%20B: not added: no name that is written to a disc may have %20 in it" in err))
     c.start("f-user.adf")
     c.run("access", "a.adf", "L", "Docs")
