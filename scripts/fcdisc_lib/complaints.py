@@ -24,7 +24,7 @@ class Complaints:
         self.count += 1
         kind = PARTICULARS.sub("N", text)
         self.counts[kind] = self.counts.get(kind, 0) + 1
-        self.texts[kind] = text
+        self.texts[kind] = text if self.texts.get(kind, text) == text else PARTICULARS.sub("..", text)
         if self.verbose or self.counts[kind] <= FIRST:
             tell("%s: %s" % (subject, text))
 

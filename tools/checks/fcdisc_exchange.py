@@ -238,6 +238,11 @@ def many_refusals(c: Changes) -> None:
         "0 of 40 files added to a.adf\n", out), status=(1, status))
     out, err, status = c.run("add", "-v", "a.adf", "o")
     c.checks.expect("many refusals, all named", lines=(40, len(err.splitlines())))
+    c.start(files={"o/%s%d" % (letters, at): b"" for at in range(4) for letters in ("a b", "a&b")})
+    out, err, status = c.run("add", "a.adf", "o")
+    c.checks.expect("refusals that differ in letters", last=(
+        "fcdisc: and 3 more: not added: no name that is written to a disc may have .. in it (--fit gives it another name) (-v names them)",
+        err.splitlines()[-1]))
     c.start(files={"o/%d" % at: bytes([at]) * 300000 for at in range(9)})
     out, err, status = c.run("add", "a.adf", "o")
     c.checks.expect("what a folder needs", first=("fcdisc: a.adf: the files need 2.7 MB, and the disc has 0.8 MB free", err.splitlines()[0]), status=(1, status))
