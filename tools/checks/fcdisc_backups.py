@@ -139,6 +139,9 @@ def early(c: Changes) -> None:
         run.send_signal(signal.SIGINT)
         out, errors = run.communicate(timeout=60)
         c.checks.expect("interrupted after %d ms" % (at * 4), result=((b"", b"", -signal.SIGINT), (out, errors, run.returncode)))
+    c.start(files={"bin/env": b"#!/bin/sh\nexit 125\n"})
+    os.chmod(c.at("bin/env"), 0o755)
+    c.checks.expect("an env that can't block signals", result=(c.run("list", "a.adf"), c.run("list", "a.adf", within='PATH=$PWD/bin:$PATH exec "$@"')))
     c.start(files={"sitecustomize.py": b"import os; os.kill(os.getpid(), 2)"})  # site would run this
     c.checks.expect("Python's start is without site", result=(c.run("list", "a.adf"), c.run("list", "a.adf", within='PYTHONPATH=$PWD exec "$@"')))
 
