@@ -2,7 +2,7 @@
 use Rattle.std.proofs.Common.{◌≡◌, ◌<◌, ◌≤◌, inl, inr, ◌+◌, ◌*◌, ◌%◌, ◌^◌, ◌==◌, ℕ, zero, suc, Bool, true, false, cond, List, [], ◌∷◌, length, refl, sym, ap, subst, ◌∙◌, arith, Some, None, Option}
 use Rattle.std.specs.Prelude.{◌&&◌, is_none, nat_le, nat_lt, Result, Ok, Err}
 use Rattle.std.specs.Int.{div_ceil}
-use Rattle.std.proofs.lemmas.Bool.{leb-true, lt-ltb, le-ltb}
+use Rattle.std.proofs.lemmas.Bool.{leb-true, lt-ltb, le-ltb, ne_eqb}
 use Rattle.std.proofs.lemmas.Bool.Decides.{nat_tests}
 use Rattle.std.proofs.lemmas.List.Sums.{sum_by-cons}
 use Rattle.fc_names.specs.declared.refusal.Refusal.{Refusal}
@@ -21,6 +21,7 @@ use Rattle.fc_objects.specs.Extents.{sectors_in}
 use Rattle.fc_tree.proofs.WalkedLemmas.{same_some}
 use Rattle.fc_oldlaws.specs.agree.Spaces.{SpaceLaw}
 use Rattle.fc_oldchanges.specs.Owed.{holding}
+use Rattle.fc_changes.proofs.BasicLemmas.{and_false}
 use Rattle.fc_oldchanges.proofs.GrowthLemmas.{none_needed}
 use Rattle.fc_oldchanges.proofs.MadeLemmas.{need_some}
 use Rattle.fc_oldchanges.proofs.SpaceLemmas.{none_over}
@@ -154,6 +155,7 @@ placed_without space w (Some p) empty is = record {
   address = inr (empty, is.0);
   short = let zero = is.0 in omega (arith, zero);
   sectors = ap (λ (n : ℕ). sectors_at (Layout.Old space) p.address n) empty ∙ nowhere space p.address ∙ ap (λ (xs : List ℕ). let o : Option (List ℕ) = Some xs in o) (sym is.1);
+  wanted = ap (λ (b : Bool). w.bytes == 0 && b) is.2 ∙ and_false (w.bytes == 0);
 }
 
 -- no bytes take nothing
@@ -185,7 +187,12 @@ is_taken space w p now is behind spaces some answer place now_is =
     let few = is.few in
     let same = some_taken space w.bytes is some in
     record {
-      place = record { address = inl (some, at); short = fitted.short; sectors = place };
+      place = record {
+        address = inl (some, at);
+        short = fitted.short;
+        sectors = place;
+        wanted = ap (λ (b : Bool). b && is_none w.shares) (ne_eqb w.bytes 0 (λ none. omega (arith, none, some)));
+      };
       map = (now_is ∙ same, subst (λ (m : OldMapContent). length m.holes ≤ hole_limit) same (omega (arith, long, few)));
       behind = λ other e. subst LieBehind (sym now_is ∙ same_some now other e) (left_behind space w.bytes is behind);
     }

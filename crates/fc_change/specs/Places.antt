@@ -1,5 +1,5 @@
 -- Places for what a job wants.
-use Rattle.std.specs.Prelude.{◌≡◌, ◌<◌, ◌^◌, ◌⊎◌, ℕ, ◌*◌, Bool, true, false, List, [], ◌++◌, Option, Some, None, Vec, IsSome, is_none, ◌&&◌}
+use Rattle.std.specs.Prelude.{◌≡◌, ◌<◌, ◌^◌, ◌⊎◌, ℕ, ◌*◌, ◌==◌, Bool, true, false, List, [], ◌++◌, Option, Some, None, Vec, IsFalse, IsSome, is_none, ◌&&◌}
 use Rattle.std.specs.declared.alloc.Global.{Global}
 use Rattle.std.specs.Option.{option_map}
 use Rattle.std.specs.FinMap.{get}
@@ -12,7 +12,6 @@ use Rattle.fc_image.specs.Layout.{Layout, dir_form, sectors_at}
 use Rattle.fc_image.specs.Walk.{object_size}
 use Rattle.fc_image.specs.effects.Short.{old_need}
 use Rattle.fc_objects.specs.Extents.{sectors_in}
-use Rattle.fc_placing.specs.Extents.{IsOwnPlace}
 use Rattle.fc_placing.specs.Leaving.{LeavesIds, LeavesUsed}
 use Rattle.fc_placing.specs.Places.{IsOwnPlan, address_in, shared_id, slack_left}
 use Rattle.fc_slack.specs.declared.share.Share.{Share}
@@ -31,7 +30,7 @@ use Rattle.fc_change.specs.declared.spaces.Place.{Place}
 use Rattle.fc_change.specs.declared.spaces.Spaces.{Spaces}
 use Rattle.fc_change.specs.OldSpace.{CanFree, IsMapNow, LieBehind, map_given, map_taken}
 use Rattle.fc_change.specs.declared.placing.old.Taken.{Taken}
-use Rattle.fc_change.specs.GrownSpace.{IsGrown, freed, gone_at_once, kept_parts, plans_of, root_of}
+use Rattle.fc_change.specs.GrownSpace.{IsGrown, freed, gone_at_once, kept_parts, place_of_plan, plans_of, root_of}
 use Rattle.fc_change.specs.Prepared.{HasPlace}
 use Rattle.fc_change.specs.Shortage.{is_grown_alone}
 use Rattle.fc_change.specs.Steps.{IsStep}
@@ -72,16 +71,20 @@ address_for m w (placings.New plan) = own_address (is_directory w) m w.bytes pla
 
 -- These are the sectors of so many bytes: those of its address, or those that a plan is to take.
 abbrev pub AreSectors : Map → ℕ → Placing → ℕ → List ℕ → Type 0
-AreSectors m bytes (placings.New plan) address sectors = IsOwnPlace m bytes plan sectors
+AreSectors m bytes (placings.New plan) address sectors = sectors ≡ place_of_plan m.geometry plan bytes
 AreSectors m bytes _ address sectors = sectors_at (Layout.New m) address bytes ≡ Some sectors
 
 abbrev pub HasSectorsAt : Map → Placing → ℕ → ℕ → Type 0
 HasSectorsAt m (placings.New plan) address bytes = IsOwnPlan m bytes plan
 HasSectorsAt m _ address bytes = IsSome (sectors_at (Layout.New m) address bytes)
 
+-- There are bytes, or a file is saved: nothing else has a place.
+abbrev pub WantsPlace : Wants → Type 0
+WantsPlace w = IsFalse (w.bytes == 0 && is_none w.shares)
+
 -- where it lies; nothing lies nowhere but a file without bytes
 abbrev pub IsPlaceFor : Map → Wants → Placing → Option Place → Type 0
-IsPlaceFor m w placing (Some p) = (p.address ≡ address_for m w placing) × AreSectors m w.bytes placing p.address (sectors_in p.extents.items)
+IsPlaceFor m w placing (Some p) = (p.address ≡ address_for m w placing) × AreSectors m w.bytes placing p.address (sectors_in p.extents.items) × WantsPlace w
 IsPlaceFor m w placing None = (w.bytes ≡ 0) × (w.shares ≡ None)
 
 -- ---- what is copied, and what goes back
@@ -128,19 +131,20 @@ IsOldStep was now (steps.New s) = ⊥
 IsOldStep was now steps.Nothing = IsMapNow was now None
 
 -- some bytes at the front of the first hole that is long enough for them, and none at address 0
-pub record IsOldAt (space : OldMapContent) (bytes : ℕ) (p : Place) : Type 0 where
-  pub address : ((0 < bytes) × (first_fit_place (old_need space bytes) space.holes ≡ Some p.address)) ⊎ ((bytes ≡ 0) × (p.address ≡ 0))
+pub record IsOldAt (space : OldMapContent) (w : Wants) (p : Place) : Type 0 where
+  pub address : ((0 < w.bytes) × (first_fit_place (old_need space w.bytes) space.holes ≡ Some p.address)) ⊎ ((w.bytes ≡ 0) × (p.address ≡ 0))
   pub short : p.address < 2 ^ 24
-  pub sectors : sectors_at (Layout.Old space) p.address bytes ≡ Some (sectors_in p.extents.items)
+  pub sectors : sectors_at (Layout.Old space) p.address w.bytes ≡ Some (sectors_in p.extents.items)
+  pub wanted : WantsPlace w
 
 -- a file, or a directory; without bytes a file has a place too
 abbrev pub IsOldPlaced : OldMapContent → Wants → Option Place → Type 0
-IsOldPlaced space w (Some p) = IsOldAt space w.bytes p
+IsOldPlaced space w (Some p) = IsOldAt space w p
 IsOldPlaced space w None = (w.bytes ≡ 0) × (w.shares ≡ None)
 
 -- A file without bytes has a place, too.
 abbrev pub IsPlaceWithout : Wants → Option Place → Type 0
-IsPlaceWithout w (Some p) = (p.address ≡ 0) × (sectors_in p.extents.items ≡ [])
+IsPlaceWithout w (Some p) = (p.address ≡ 0) × (sectors_in p.extents.items ≡ []) × IsFalse (is_none w.shares)
 IsPlaceWithout w None = w.shares ≡ None
 
 -- The object's place, and the map without its space.

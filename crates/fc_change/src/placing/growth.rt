@@ -203,8 +203,13 @@ pub fn plan_both(
 
 // ---- where it lies
 
-// The sectors of so many bytes in new space, in their order, once the plan's parts are all the runs of its identifier.
-fn extents_in(alloc: Global, map: &NewMap, plan: &Plan, bytes: u32) -> Result<Vec<Extent>, NoMemory>
+/// The sectors of so many bytes in new space, in their order, once the plan's parts are all the runs of its identifier.
+pub fn extents_in(
+    alloc: Global,
+    map: &NewMap,
+    plan: &Plan,
+    bytes: u32,
+) -> Result<Vec<Extent>, NoMemory>
     requires { All (λ part. IsInZone map.now.geometry (front_at part)) plan.now.parts.items }
     ensures { IfOk result (λ place. sectors_in place.items ≡ place_of_plan map.now.geometry plan.now bytes) }
 {

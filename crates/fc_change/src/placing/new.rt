@@ -15,14 +15,16 @@ ghost use Rattle.fc_change.specs.Shortage.{AnswersSpace, bytes_left, short_new, 
 use crate::held::Held;
 use crate::job::Wants;
 use crate::pieces::{place_at, place_of_node};
-use crate::placing::growth::{Growing, Plans, alone_in, check, judge, place_grown, plan_both};
+use crate::placing::growth::{
+    Growing, Plans, alone_in, check, extents_in, judge, place_grown, plan_both,
+};
 use crate::placing::leavings::gone_at_last;
 use crate::placing::steps::{give_step, root_of, take_step};
 use crate::spaces::{Place, SpaceError, Spaces};
 use fc_alloc::Owners;
 use fc_device::{Extent, NoMemory};
 use fc_newmap::NewMap;
-use fc_placing::{Placing, Share, address_of, directory_address, extents_of};
+use fc_placing::{Placing, Share, address_of, directory_address};
 use fc_plan::Plan;
 use fc_slack::slack;
 use std::alloc::Global;
@@ -93,15 +95,16 @@ fn extents_for(
     map: &NewMap,
     placing: &Placing,
     address: u32,
-    bytes: u64,
+    bytes: u32,
 ) -> Result<Vec<Extent>, NoMemory>
     requires map { layout_of held.now.places.now ≡ Layout.New map.now }
     requires some { HasSectorsAt map.now placing.now address bytes }
     ensures { IfOk result (λ extents. AreSectors map.now bytes placing.now address (sectors_in extents.items)) }
 {
+    map.is_map();
     match placing {
-        Placing::New(plan) => extents_of(alloc, map, plan, bytes),
-        _ => place_at(alloc, held.places, address, bytes),
+        Placing::New(plan) => extents_in(alloc, map, plan, bytes),
+        _ => place_at(alloc, held.places, address, u64::from(bytes)),
     }
 }
 
@@ -145,7 +148,7 @@ fn object_place(
         return Ok(None);
     }
     let address = address_for(map, wants, placing);
-    let extents = extents_for(alloc, held, map, placing, address, u64::from(wants.bytes))?;
+    let extents = extents_for(alloc, held, map, placing, address, wants.bytes)?;
     Ok(Some(Place { address, extents }))
 }
 
