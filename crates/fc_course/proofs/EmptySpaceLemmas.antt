@@ -54,7 +54,7 @@ pub record WantsNoSpace (w : Wants) : Type 0 where
 
 -- ---- where that lies
 
-none_copied : (layout : Layout) (nodes : Nodes) (copied : Option ℕ) (from : Option (Vec Extent Global)) → copied ≡ None → IsCopiedFrom layout nodes copied (extents_in from) → from ≡ None
+pub none_copied : (layout : Layout) (nodes : Nodes) (copied : Option ℕ) (from : Option (Vec Extent Global)) → copied ≡ None → IsCopiedFrom layout nodes copied (extents_in from) → from ≡ None
 none_copied layout nodes None None e is = refl
 none_copied layout nodes None (Some v) e is = absurd is
 none_copied layout nodes (Some n) from e is = absurd (cc)
@@ -133,7 +133,7 @@ one_said nodes q (s ∷ r ∷ says) is = absurd is.1
 
 -- ---- what is ready
 
-one_piece : (layout : Layout) (nodes : Nodes) (said : Says) (ps : List Piece) → PiecesMatch layout nodes None (said ∷ []) ps → (p : Piece) × (ps ≡ p ∷ []) × IsPieceOf layout nodes said p
+pub one_piece : (layout : Layout) (nodes : Nodes) (said : Says) (ps : List Piece) → PiecesMatch layout nodes None (said ∷ []) ps → (p : Piece) × (ps ≡ p ∷ []) × IsPieceOf layout nodes said p
 one_piece layout nodes said [] is = absurd is
 one_piece layout nodes said (p ∷ []) is = (p, refl, is.0)
 one_piece layout nodes said (p ∷ q ∷ ps) is = absurd is.1

@@ -1,34 +1,82 @@
 -- The laws of each job that has them.
-use Rattle.std.proofs.Common.{ℕ, List}
+use Rattle.std.proofs.Common.{◌<◌, ◌^◌, ℕ, List, ◌≡◌, Bool, true, false, refl}
 use Rattle.fc_alloc.specs.declared.owner.Owner.{Owner}
 use Rattle.fc_record.specs.declared.Kind.{Kind}
 use Rattle.fc_image.specs.Layout.{Layout}
 use Rattle.fc_laws.specs.nodes.Edits.{Nodes}
+use Rattle.fc_model.specs.Command.{Command}
+use Rattle.fc_outcomes.specs.Addition.{AdditionLaw}
 use Rattle.fc_outcomes.specs.Deletion.{DeletionLaw}
 use Rattle.fc_outcomes.specs.Rewording.{RewordingLaw}
+use Rattle.fc_refusals.specs.declared.target.Slot.TheVariants as slots
+use Rattle.fc_refusals.specs.declared.target.Target.{Target}
 use Rattle.fc_space.specs.Space.{PlacesSuffice}
 use Rattle.fc_tree.specs.Agree.{Agree}
+use Rattle.fc_change.specs.declared.job.FileWords.{FileWords}
 use Rattle.fc_change.specs.declared.job.Job.{Job}
 use Rattle.fc_change.specs.declared.job.Job.TheVariants as jobs
-use Rattle.fc_course.specs.Jobs.{HasLaws, IsJudged}
+use Rattle.fc_course.specs.Jobs.{HasLaws, IsJobFor, IsJudged, NoneGrows}
 use Rattle.fc_course.specs.Laws.{JobLaws}
 use Rattle.fc_course.specs.Run.{IsMapOf}
+use Rattle.fc_course.proofs.ArrivalLemmas.{Arrival, IsShort, job_of}
+use Rattle.fc_course.proofs.ArrivalTakenLemmas.{GrowsNone}
+use Rattle.fc_course.proofs.NewArrivalRunLemmas as new
+use Rattle.fc_course.proofs.OldArrivalRunLemmas as old
+use Rattle.fc_course.proofs.NewOverRunLemmas as new_over
+use Rattle.fc_course.proofs.OldOverRunLemmas as old_over
 use Rattle.fc_course.proofs.RemovalRunLemmas.{parts, removal_laws}
 use Rattle.fc_course.proofs.RemovalStageLemmas.{may_go}
 use Rattle.fc_course.proofs.RewordingLemmas.{Wording}
 use Rattle.fc_course.proofs.RewordingRunLemmas.{rewording_laws}
 use Rattle.fc_course.proofs.RewordingStageLemmas.{targets}
+use Rattle.fc_names.specs.Names.{Path}
+use Rattle.fc_outcomes.specs.Copying.{CopyingLaw}
+use Rattle.fc_outcomes.specs.Moving.{MovingLaw}
+use Rattle.fc_refusals.specs.declared.target.Renaming.{Renaming}
+use Rattle.fc_change.specs.Needs.{is_copied, len_at}
+use Rattle.fc_course.proofs.CopyingRunLemmas.{copy_laws}
+use Rattle.fc_course.proofs.MoveRunLemmas.{move_laws}
+use Rattle.fc_course.proofs.MoveStageLemmas.{IsRenamer, renamer}
 
-pub laws_of : DeletionLaw → RewordingLaw → (layout : Layout) (nodes : Nodes) (owners : List Owner) (job : Job) (name bytes : List ℕ) (kind : Kind) → HasLaws (parts layout nodes owners) job → IsMapOf layout
+-- of what comes
+arrival_of : AdditionLaw → (layout : Layout) (nodes : Nodes) (owners : List Owner) (dir : ℕ) (x : Arrival) (name bytes : List ℕ) (kind : Kind) → IsShort x → GrowsNone (parts layout nodes owners) dir x name → IsMapOf layout
+    → PlacesSuffice layout → Agree kind (parts layout nodes owners) → (c : Command) → IsJobFor c (parts layout nodes owners) (job_of dir x) name bytes → JobLaws kind (parts layout nodes owners) (job_of dir x) name bytes
+arrival_of law (Layout.New m) nodes owners dir x name bytes kind few none is suffice a c j = new.arrival_laws law m nodes owners is kind a dir x few name bytes c j none
+arrival_of law (Layout.Old space) nodes owners dir x name bytes kind few none is suffice a c j = old.arrival_laws law space nodes owners is.0 is.1 suffice kind a dir x few name bytes c j none
+
+-- of a file that is saved over
+over_of : AdditionLaw → (layout : Layout) (nodes : Nodes) (owners : List Owner) (t : Target) (words : FileWords) (name bytes : List ℕ) (kind : Kind) → words.len < 2 ^ 32 → IsMapOf layout → PlacesSuffice layout
+    → Agree kind (parts layout nodes owners) → (c : Command) → IsJobFor c (parts layout nodes owners) (jobs.File (slots.Over t) words) name bytes → JobLaws kind (parts layout nodes owners) (jobs.File (slots.Over t) words) name bytes
+over_of law (Layout.New m) nodes owners t words name bytes kind few is suffice a c j = new_over.over_laws law m nodes owners is kind a t words few name bytes c j
+over_of law (Layout.Old space) nodes owners t words name bytes kind few is suffice a c j = old_over.over_laws law space nodes owners is.0 is.1 suffice kind a t words few name bytes c j
+
+-- of `rename`, whether it copies its file or not
+move_of : MovingLaw → CopyingLaw → (layout : Layout) (nodes : Nodes) (owners : List Owner) (r : Renaming) (from to : Path) (name bytes : List ℕ) (kind : Kind) → IsMapOf layout → PlacesSuffice layout
+    → Agree kind (parts layout nodes owners) → IsRenamer (parts layout nodes owners) from to r name → len_at nodes r.target.node < 2 ^ 32 → NoneGrows (parts layout nodes owners) (jobs.Move r) name
+    → JobLaws kind (parts layout nodes owners) (jobs.Move r) name bytes
+move_of moves copies (Layout.Old space) nodes owners r from to name bytes kind is suffice a it few grows = move_laws moves (Layout.Old space) nodes owners r from to name bytes kind is suffice a it grows refl
+move_of moves copies (Layout.New m) nodes owners r from to name bytes kind is suffice a it few grows = by (is_copied (parts (Layout.New m) nodes owners) r) refl
+  where
+    by : (b : Bool) → is_copied (parts (Layout.New m) nodes owners) r ≡ b → JobLaws kind (parts (Layout.New m) nodes owners) (jobs.Move r) name bytes
+    by true e = copy_laws copies m nodes owners r from to name bytes kind is suffice a it few grows e
+    by false e = move_laws moves (Layout.New m) nodes owners r from to name bytes kind is suffice a it grows e
+
+pub laws_of : DeletionLaw → RewordingLaw → AdditionLaw → MovingLaw → CopyingLaw → (layout : Layout) (nodes : Nodes) (owners : List Owner) (job : Job) (name bytes : List ℕ) (kind : Kind) → HasLaws (parts layout nodes owners) job name → IsMapOf layout
     → PlacesSuffice layout → Agree kind (parts layout nodes owners) → IsJudged (parts layout nodes owners) job name bytes → JobLaws kind (parts layout nodes owners) job name bytes
-laws_of deletes rewords layout nodes owners (jobs.Removal t) name bytes kind has is suffice a judged =
+laws_of deletes rewords adds moves copies layout nodes owners (jobs.Removal t) name bytes kind has is suffice a judged =
     let mine = may_go (parts layout nodes owners) kind a judged.0 t name bytes judged.1 in removal_laws deletes layout nodes owners t mine.0 name bytes kind is suffice a mine.2
-laws_of deletes rewords layout nodes owners (jobs.Words t words) name bytes kind has is suffice a judged =
+laws_of deletes rewords adds moves copies layout nodes owners (jobs.Words t words) name bytes kind has is suffice a judged =
     let mine = targets (parts layout nodes owners) kind a judged.0 t (Wording.Set words) name bytes judged.1 in
     rewording_laws rewords layout nodes owners t (Wording.Set words) mine.0 name bytes kind is suffice a mine.2 has
-laws_of deletes rewords layout nodes owners (jobs.Marks t marks) name bytes kind has is suffice a judged =
+laws_of deletes rewords adds moves copies layout nodes owners (jobs.Marks t marks) name bytes kind has is suffice a judged =
     let mine = targets (parts layout nodes owners) kind a judged.0 t (Wording.Mark marks) name bytes judged.1 in
     rewording_laws rewords layout nodes owners t (Wording.Mark marks) mine.0 name bytes kind is suffice a mine.2 has
-laws_of deletes rewords layout nodes owners (jobs.File slot words) name bytes kind has is suffice a judged = absurd has
-laws_of deletes rewords layout nodes owners (jobs.Directory dir) name bytes kind has is suffice a judged = absurd has
-laws_of deletes rewords layout nodes owners (jobs.Move r) name bytes kind has is suffice a judged = absurd has
+laws_of deletes rewords adds moves copies layout nodes owners (jobs.Directory dir) name bytes kind has is suffice a judged =
+    arrival_of adds layout nodes owners dir Arrival.Makes name bytes kind tt has is suffice a judged.0 judged.1
+laws_of deletes rewords adds moves copies layout nodes owners (jobs.File (slots.New dir) words) name bytes kind has is suffice a judged =
+    arrival_of adds layout nodes owners dir (Arrival.Saves words) name bytes kind has.0 has.1 is suffice a judged.0 judged.1
+laws_of deletes rewords adds moves copies layout nodes owners (jobs.File (slots.Over target) words) name bytes kind has is suffice a judged =
+    over_of adds layout nodes owners target words name bytes kind has is suffice a judged.0 judged.1
+laws_of deletes rewords adds moves copies layout nodes owners (jobs.Move r) name bytes kind has is suffice a judged =
+    let mine = renamer (parts layout nodes owners) kind a judged.0 r name bytes judged.1 in
+    move_of moves copies layout nodes owners r mine.0 mine.1 name bytes kind is suffice a mine.3 has.0 has.1

@@ -19,34 +19,39 @@ use Rattle.fc_course.specs.Stages.{RefusesJob}
 
 -- ---- a refusal, or no memory
 
-unless_refused : (h : Parts) (job : Job) (name : List ℕ) (error : CommandError) (P : Type 0) → RefusesJob h job name error → P → UnlessFault {T = Unit {0}} (Err error) P
-unless_refused h job name (Refused r) P is p = p
-unless_refused h job name NoMemory P is p = p
-unless_refused h job name DiskFault P is p = absurd is
+unless_fault : (error : CommandError) (P : Type 0) → (error ≡ DiskFault → ⊥) → P → UnlessFault {T = Unit {0}} (Err error) P
+unless_fault (Refused r) P not_fault p = p
+unless_fault NoMemory P not_fault p = p
+unless_fault DiskFault P not_fault p = absurd (not_fault refl)
 
-no_fault : (h : Parts) (job : Job) (name : List ℕ) (error : CommandError) → RefusesJob h job name error → (let r : Result (Unit {0}) CommandError = Err error in r) ≡ Err DiskFault → ⊥
-no_fault h job name (Refused r) is e = cc
-no_fault h job name NoMemory is e = cc
-no_fault h job name DiskFault is e = absurd is
+same_error : (e f : CommandError) → (let r : Result (Unit {0}) CommandError = Err e in r) ≡ Err f → e ≡ f
+same_error e f is = cc
 
 same_kind : (layout : Layout) → IsSameKind layout layout
 same_kind (Layout.New m) = tt
 same_kind (Layout.Old space) = tt
 
+pub kept_same : {D : Type 0} (d : Ghosts D) (disk : D) (was : Holdings) (error : CommandError) → Stands d was disk → IsFalse (d.pending disk) → (error ≡ DiskFault → ⊥) → ChangeKeeps d disk disk was was (Err error)
+kept_same d disk was error stands quiet not_fault = record {
+  unchanged = λ other. (refl, refl);
+  stands = unless_fault error _ not_fault stands;
+  settled = unless_fault error _ not_fault quiet;
+  map = same_kind (layout_of was.places);
+  dirs = unless_fault error _ not_fault refl;
+  form = form_same d disk;
+  faults = omega arith;
+  cause = λ e. absurd (not_fault (same_error error DiskFault e));
+}
+
+no_fault : (h : Parts) (job : Job) (name : List ℕ) (error : CommandError) → RefusesJob h job name error → error ≡ DiskFault → ⊥
+no_fault h job name (Refused r) is e = cc
+no_fault h job name NoMemory is e = cc
+no_fault h job name DiskFault is e = absurd is
+
 pub kept_refused : {D : Type 0} (d : Ghosts D) (disk : D) (was now : Holdings) (job : Job) (name : List ℕ) (error : CommandError) → Stands d was disk → IsFalse (d.pending disk) → now ≡ was
     → RefusesJob (parts_of was) job name error → ChangeKeeps d disk disk was now (Err error)
 kept_refused d disk was now job name error stands quiet same is =
-    subst (λ (h : Holdings). ChangeKeeps d disk disk was h (Err error)) (sym same)
-    (record {
-      unchanged = λ no. (refl, refl);
-      stands = unless_refused (parts_of was) job name error _ is stands;
-      settled = unless_refused (parts_of was) job name error _ is quiet;
-      map = same_kind (layout_of was.places);
-      dirs = unless_refused (parts_of was) job name error _ is refl;
-      form = form_same d disk;
-      faults = omega arith;
-      cause = λ e. absurd (no_fault (parts_of was) job name error is e);
-    })
+    subst (λ (h : Holdings). ChangeKeeps d disk disk was h (Err error)) (sym same) (kept_same d disk was error stands quiet (no_fault (parts_of was) job name error is))
 
 -- ---- done, or a fault of the disk
 

@@ -126,6 +126,10 @@ short_idlen g is = subst (λ (h : Geometry). h.version ≡ 0 → h.idlen ≤ 15)
         let right = ap (λ (b : Bool). nat_le (r.log2_sector + 3) r.idlen && nat_le r.idlen (cond b 15 19)) (sym (eq-eqb r.version 0 zero_version)) ∙ valid_idlen r valid in
         leb-true r.idlen 15 (and_parts (nat_le (r.log2_sector + 3) r.idlen) (nat_le r.idlen 15) right).1
 
+-- identifiers are few where directories are small
+pub short_id : (m : Map) → IsNewMap m → m.geometry.version ≡ 0 → (id : ℕ) → id < 2 ^ m.geometry.idlen → id < 2 ^ 15
+short_id m is old id low = let few : 2 ^ m.geometry.idlen ≤ 2 ^ 15 = pow-le-pow_right {n = 2} (omega arith) (short_idlen m.geometry is.of_record old) in omega (arith, low, few)
+
 -- an address at which bytes lie fits the three bytes of a small directory
 pub low_address : (m : Map) (address bytes : ℕ) (xs : List ℕ) → IsNewMap m → m.geometry.version ≡ 0 → (bytes == 0) ≡ false → sectors_at (Layout.New m) address bytes ≡ Some xs → address < 2 ^ 24
 unfolding sectors_at

@@ -118,7 +118,7 @@ of_disc space was to steps.Nothing is same = tt
 of_disc space was to (steps.New s) is same = absurd is
 of_disc space was to (steps.Old m) is same = (ap (λ (x : OldMapContent). x.disc_units) (is.0 ∙ same), ap (λ (x : OldMapContent). x.sector_units) (is.0 ∙ same))
 
-few_holes : (was now : OldMapContent) (step : MapStep) → length was.holes ≤ hole_limit → IsOldStep was now step → length now.holes ≤ hole_limit
+pub few_holes : (was now : OldMapContent) (step : MapStep) → length was.holes ≤ hole_limit → IsOldStep was now step → length now.holes ≤ hole_limit
 few_holes was now steps.Nothing few is = subst (λ (m : OldMapContent). length m.holes ≤ hole_limit) (sym is) few
 few_holes was now (steps.New s) few is = absurd is
 few_holes was now (steps.Old m) few is = is.1

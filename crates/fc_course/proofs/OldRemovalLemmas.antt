@@ -68,7 +68,7 @@ some_times : (n u : ℕ) → (u ≡ 1) ⊎ (u ≡ 4) → nat_lt 0 n ≡ nat_lt 0
 some_times n u (inl one) = let l : nat_lt 0 n ≡ nat_lt 0 (n * 1) = grind (arith, nat_tests) in subst (λ (k : ℕ). nat_lt 0 n ≡ nat_lt 0 (n * k)) (sym one) l
 some_times n u (inr four) = let l : nat_lt 0 n ≡ nat_lt 0 (n * 4) = grind (arith, nat_tests) in subst (λ (k : ℕ). nat_lt 0 n ≡ nat_lt 0 (n * k)) (sym four) l
 
-not_zero : (n : ℕ) → (n == 0) ≡ not (nat_lt 0 n)
+pub not_zero : (n : ℕ) → (n == 0) ≡ not (nat_lt 0 n)
 not_zero n = elim (cases_lt 0 n) [
   | inl some ↦ ne_eqb n 0 (λ e. omega (arith, some, e)) ∙ sym (ap not (lt-ltb 0 n some))
   | inr none ↦ (let z : n ≡ 0 = omega (arith, none) in subst (λ (k : ℕ). (k == 0) ≡ not (nat_lt 0 k)) (sym z) refl)

@@ -59,7 +59,7 @@ module _ (layout : Layout) (nodes : FinMap nat_cmp Node) (listings : List Listin
   o_is = ap (λ (r : Option ℕ). unwrap_or r 0) numbered
 
   -- the object of that number is o
-  same_path : (p : Object) → Contains objects p → (as_owner p).node ≡ node → is_same_path o.path p.path ≡ true
+  pub same_path : (p : Object) → Contains objects p → (as_owner p).node ≡ node → is_same_path o.path p.path ≡ true
   same_path p at e = same_by_folds o.path p.path (one_path nodes node _ o.path p.path refl numbered (number_is p at ∙ ap (λ (k : ℕ). let r : Option ℕ = Some k in r) e))
 
   is_o : (p : Object) → Contains objects p → (as_owner p).node ≡ node → p ≡ o

@@ -242,7 +242,7 @@ removal_laws law layout nodes owners t path name bytes kind is suffice a may =
     record {
       can_prepare = can_prepare layout nodes owners t path name kind is a may;
       can_write = λ p n prep room. can_write law layout nodes owners t path name kind p n is a may prep room suffice;
-      can_take = λ p layout' number room prep given. can_take layout layout' nodes owners (owners_admitted layout p.change.object number owners) t path name kind p room a may prep;
+      can_take = λ p layout' number room prep given some. can_take layout layout' nodes owners (owners_admitted layout p.change.object number owners) t path name kind p room a may prep;
       agrees = λ p now number prep run. agrees law layout now.layout nodes now.nodes owners now.owners t path name kind p number is a may prep run;
       changes = λ c p now number was image j prep run changed long.
           (let its = may_go h kind a c t name bytes j in

@@ -152,19 +152,19 @@ form_stays form len parent at e old new is has = subst (HasForm form len) (sym i
     by forms.Ten (Directory.Big dir) h = absurd h
     by forms.Long (Directory.Big dir) h = h
 
-entries_now : (parent at : ℕ) (e : Entry) (old new : Directory) → HasReplaced parent at e old new → entries_of new ≡ slice_set (entries_of old) at e
+pub entries_now : (parent at : ℕ) (e : Entry) (old new : Directory) → HasReplaced parent at e old new → entries_of new ≡ slice_set (entries_of old) at e
 entries_now parent at e old new is = ap entries_of is.is ∙ by old
   where
     by : (dir : Directory) → entries_of (with_head parent (with_changed at e dir)) ≡ slice_set (entries_of dir) at e
     by (Directory.Small dir) = refl
     by (Directory.Big dir) = refl
 
-map_set : (os : List Object) (i : ℕ) (o : Object) → map (λ (p : Object). p.entry) (slice_set os i o) ≡ slice_set (map (λ (p : Object). p.entry) os) i o.entry
+pub map_set : (os : List Object) (i : ℕ) (o : Object) → map (λ (p : Object). p.entry) (slice_set os i o) ≡ slice_set (map (λ (p : Object). p.entry) os) i o.entry
 map_set [] i o = refl
 map_set (p ∷ os) zero o = refl
 map_set (p ∷ os) (suc i) o = ap (λ (es : List Entry). p.entry ∷ es) (map_set os i o)
 
-sayable : (dir : Directory) → IsDirectory dir → IsSayable dir
+pub sayable : (dir : Directory) → IsDirectory dir → IsSayable dir
 sayable (Directory.Small dir) is = is
 sayable (Directory.Big dir) is = is
 

@@ -235,7 +235,7 @@ rewording_laws law layout nodes owners t x path name bytes kind is suffice a on 
     record {
       can_prepare = can_prepare layout nodes owners t x path name kind is a on fit;
       can_write = λ p n prep room. can_write law layout nodes owners t x path name kind p n is a target prep room suffice;
-      can_take = λ p layout' number room prep given.
+      can_take = λ p layout' number room prep given some.
           subst (λ (l : Layout). CanTakeOver l nodes (owners_admitted layout p.change.object number owners) room p.change) (sym (stays p layout' prep given))
           (can_take layout nodes owners t x path kind a on fit name p prep number room);
       agrees = λ p now number prep run.

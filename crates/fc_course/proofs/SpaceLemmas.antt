@@ -35,7 +35,7 @@ same_changes : (m : Map) (plan : Option Plan) (gone : List ℕ) (z : ℕ) → is
 same_changes m None gone z = refl
 same_changes m (Some p) gone z = or_nothing (has_part (fronts p.parts.items) z) (has_run_of gone (runs_of m z))
 
-zones_same : (m : Map) (plan : Option Plan) (gone : List ℕ) → zones_of m (option_to_list plan) gone None ≡ zones_changed m plan gone
+pub zones_same : (m : Map) (plan : Option Plan) (gone : List ℕ) → zones_of m (option_to_list plan) gone None ≡ zones_changed m plan gone
 zones_same m plan gone = filter_same (is_changed m (option_to_list plan) gone) (changes m plan None gone) (zone_numbers m.geometry) (λ z at. same_changes m plan gone z)
 
 -- ---- a step

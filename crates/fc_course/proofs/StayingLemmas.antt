@@ -27,7 +27,7 @@ use Rattle.fc_change.specs.Owned.{IsOwnerNow, entry_owner, owner_if, owners_with
 
 -- ---- as many sectors as the bytes need
 
-no_ceil : (size : ℕ) → div_ceil 0 size ≡ 0
+pub no_ceil : (size : ℕ) → div_ceil 0 size ≡ 0
 no_ceil size = ap₂ (λ (a b : ℕ). a + min 1 b) (zero-div size) (zero-mod size)
 
 new_count : (m : Map) (address n : ℕ) (sectors : List ℕ) → sectors_at (Layout.New m) address n ≡ Some sectors → length sectors ≡ div_ceil n m.geometry.sector
@@ -56,7 +56,7 @@ old_count space address n sectors at = elim (row_or_none space address n sectors
   | inr row ↦ row.long
 ]
 
-count : (layout : Layout) (address n : ℕ) (sectors : List ℕ) → sectors_at layout address n ≡ Some sectors → length sectors ≡ div_ceil n (sector_bytes layout)
+pub count : (layout : Layout) (address n : ℕ) (sectors : List ℕ) → sectors_at layout address n ≡ Some sectors → length sectors ≡ div_ceil n (sector_bytes layout)
 count (Layout.New m) address n sectors at = new_count m address n sectors at
 count (Layout.Old space) address n sectors at = old_count space address n sectors at
 
@@ -75,7 +75,7 @@ module _ (layout : Layout) (n dir : ℕ) (o : Object) (e : Entry) (at : IsAt lay
   sectors_are : div_ceil (object_size (dir_form layout) e) (sector_bytes layout) ≡ length o.sectors
   sectors_are = ap (λ (k : ℕ). div_ceil k (sector_bytes layout)) size_is ∙ sym (count layout o.entry.address (object_size (dir_form layout) o.entry) o.sectors at)
 
-  owner_same : entry_owner layout n dir e ≡ owner_with layout dir n o
+  pub owner_same : entry_owner layout n dir e ≡ owner_with layout dir n o
   owner_same = λ i. record {
     id = id_of (keeps.address i);
     dir = dir;

@@ -58,10 +58,10 @@ all_same : (m m' : Map) → KeepsRuns m m' → (zones : List ℕ) → runs_in m'
 all_same m m' kept [] = refl
 all_same m m' kept (z ∷ zones) = ap₂ (λ (runs : List Run) (others : List ZoneRun). placed z runs ++ others) (kept.runs z) (all_same m m' kept zones)
 
-every_same : (m m' : Map) → KeepsRuns m m' → all_runs m' ≡ all_runs m
+pub every_same : (m m' : Map) → KeepsRuns m m' → all_runs m' ≡ all_runs m
 every_same m m' kept = ap (λ (g : Geometry). runs_in m' (zone_numbers g)) kept.geometry ∙ all_same m m' kept (zone_numbers m.geometry)
 
-holes_same : (m m' : Map) → KeepsRuns m m' → hole_runs m' ≡ hole_runs m
+pub holes_same : (m m' : Map) → KeepsRuns m m' → hole_runs m' ≡ hole_runs m
 holes_same m m' kept = ap (filter (λ (p : ZoneRun). is_hole p.1.kind)) (every_same m m' kept)
 
 -- what was taken of a map of the same runs
@@ -90,7 +90,7 @@ all_stay : (ps : List ZoneRun) → filter (stays_given [] []) ps ≡ ps
 all_stay [] = refl
 all_stay (p ∷ ps) = ap₂ (λ (b : Bool) (qs : List ZoneRun). cond (not (b && true)) (p ∷ qs) qs) (none_goes p.1.kind) (all_stay ps)
 
-given_none : (m : Map) → runs_that (is_one_of []) m ≡ []
+pub given_none : (m : Map) → runs_that (is_one_of []) m ≡ []
 given_none m = none (all_runs m)
   where
     none : (ps : List ZoneRun) → filter (λ (p : ZoneRun). has_id_that (is_one_of []) p.1.kind) ps ≡ []

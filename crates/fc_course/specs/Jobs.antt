@@ -1,5 +1,5 @@
 -- Whose job a job is.
-use Rattle.std.specs.Prelude.{◌≡◌, ◌<◌, ℕ, false, List, [], None}
+use Rattle.std.specs.Prelude.{◌≡◌, ◌<◌, ◌^◌, ℕ, false, List, [], None}
 use Rattle.fc_names.specs.declared.name.NameForm.{NameForm}
 use Rattle.fc_names.specs.declared.name.NameForm.TheVariants as forms
 use Rattle.fc_dirs.specs.declared.SmallForm.TheVariants.{Bytes1280, Bytes2048}
@@ -12,6 +12,9 @@ use Rattle.fc_image.specs.Opening.{Opened}
 use Rattle.fc_image.specs.Sound.{AreSound}
 use Rattle.fc_tree.specs.Parts.{ArePartsOf, Parts}
 use Rattle.fc_change.specs.Jobs.{IsJob}
+use Rattle.fc_change.specs.Needs.{AreWants, len_at}
+use Rattle.fc_change.specs.declared.job.Wants.{Wants}
+use Rattle.fc_refusals.specs.declared.target.Slot.TheVariants as slots
 use Rattle.fc_change.specs.declared.job.Job.{Job}
 use Rattle.fc_change.specs.declared.job.Job.TheVariants as jobs
 
@@ -35,9 +38,17 @@ FitAttributes forms.Seven attrs = attrs < attrs_limit Bytes1280
 FitAttributes forms.Ten attrs = attrs < attrs_limit Bytes2048
 FitAttributes forms.Long attrs = Unit {0}
 
--- The laws of these jobs stand, if an entry can hold the access bits and the attributes that they give; the others follow.
-abbrev pub HasLaws : Parts → Job → Type 0
-HasLaws h (jobs.Removal target) = Unit {0}
-HasLaws h (jobs.Words target words) = words.access < 8
-HasLaws h (jobs.Marks target attrs) = FitAttributes (dir_form h.layout) attrs
-HasLaws h _ = ⊥
+-- By what it wants no directory has to grow.
+abbrev pub NoneGrows : Parts → Job → List ℕ → Type 0
+NoneGrows h job name = (w : Wants) → AreWants h job name w → w.grows ≡ None
+
+-- The laws of these jobs stand, if an entry can hold the access bits, the attributes and the length that they give, and no directory
+-- grows; the others follow.
+abbrev pub HasLaws : Parts → Job → List ℕ → Type 0
+HasLaws h (jobs.Removal target) name = Unit {0}
+HasLaws h (jobs.Words target words) name = words.access < 8
+HasLaws h (jobs.Marks target attrs) name = FitAttributes (dir_form h.layout) attrs
+HasLaws h (jobs.Directory dir) name = NoneGrows h (jobs.Directory dir) name
+HasLaws h (jobs.File (slots.New dir) words) name = (words.len < 2 ^ 32) × NoneGrows h (jobs.File (slots.New dir) words) name
+HasLaws h (jobs.File (slots.Over target) words) name = words.len < 2 ^ 32
+HasLaws h (jobs.Move renaming) name = (len_at h.nodes renaming.target.node < 2 ^ 32) × NoneGrows h (jobs.Move renaming) name

@@ -15,7 +15,7 @@ use Rattle.fc_tree.specs.Agree.{Agree}
 use Rattle.fc_tree.specs.Parts.{ArePartsOf, Parts}
 use Rattle.fc_change.specs.declared.job.Job.{Job}
 use Rattle.fc_change.specs.declared.job.Wants.{Wants}
-use Rattle.fc_change.specs.After.{CanTakeOver, owners_admitted}
+use Rattle.fc_change.specs.After.{CanTakeOver, nodes_more, owners_admitted}
 use Rattle.fc_change.specs.Needs.{AreWants, HasRoomOf}
 use Rattle.fc_change.specs.Shortage.{shortage}
 use Rattle.fc_course.specs.declared.stages.Prepared.{Prepared}
@@ -35,7 +35,7 @@ pub record JobLaws (kind : Kind) (h : Parts) (job : Job) (name bytes : List ℕ)
   -- each stage can follow
   pub can_prepare : CanPrepareJob h job name
   pub can_write : (p : Prepared) (n : ℕ) → IsPreparedFor h job name p → disc_sectors h.layout ≤ n → CanWriteOn h.layout n p.ready
-  pub can_take : (p : Prepared) (layout : Layout) (number room : ℕ) → IsPreparedFor h job name p → IsGivenOn h.layout p.ready layout
+  pub can_take : (p : Prepared) (layout : Layout) (number room : ℕ) → IsPreparedFor h job name p → IsGivenOn h.layout p.ready layout → nodes_more p.change.object ≤ room
       → CanTakeOver layout h.nodes (owners_admitted h.layout p.change.object number h.owners) room p.change
   -- The parts agree afterwards; if there was memory for no owner more, these are the owners before.
   pub agrees : (p : Prepared) (now : Parts) (number : ℕ) → IsPreparedFor h job name p → IsRun h now p number → Agree kind now × KeepsBehind now.layout
@@ -50,4 +50,4 @@ pub record JobLaws (kind : Kind) (h : Parts) (job : Job) (name bytes : List ℕ)
 -- ---- the jobs that have them
 
 abbrev pub CourseLaw : Type 0
-CourseLaw = (h : Parts) (job : Job) (name bytes : List ℕ) (kind : Kind) → HasLaws h job → IsMapOf h.layout → PlacesSuffice h.layout → Agree kind h → IsJudged h job name bytes → JobLaws kind h job name bytes
+CourseLaw = (h : Parts) (job : Job) (name bytes : List ℕ) (kind : Kind) → HasLaws h job name → IsMapOf h.layout → PlacesSuffice h.layout → Agree kind h → IsJudged h job name bytes → JobLaws kind h job name bytes

@@ -1,5 +1,6 @@
 -- A change that was written and taken over, in the parts of a volume.
-use Rattle.std.specs.Prelude.{◌≡◌, ℕ}
+use Rattle.std.specs.Prelude.{◌≡◌, ℕ, None}
+use Rattle.std.specs.FinMap.{get}
 use Rattle.fc_newmap.specs.NewMap.{IsNewMap}
 use Rattle.fc_oldmap.specs.OldMap.{IsOldMap}
 use Rattle.fc_image.specs.Layout.{Layout}
@@ -9,9 +10,11 @@ use Rattle.fc_change.specs.OldSpace.{LieBehind}
 use Rattle.fc_course.specs.declared.stages.Prepared.{Prepared}
 use Rattle.fc_course.specs.Written.{IsGivenOn}
 
--- These are the parts afterwards; `number` is that of the node of an object that comes, and the owners before have room for it.
+-- These are the parts afterwards; `number`, which no node has before, is that of the node of an object that comes, and the owners before have
+-- room for it.
 pub record IsRun (h now : Parts) (p : Prepared) (number : ℕ) : Type 0 where
   pub given : IsGivenOn h.layout p.ready now.layout
+  pub free : get h.nodes number ≡ None
   pub nodes : now.nodes ≡ nodes_after p.change number h.nodes
   pub owners : AreOwnersAfter now.layout h.nodes p.change (owners_admitted h.layout p.change.object number h.owners) now.owners
 

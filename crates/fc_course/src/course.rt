@@ -6,7 +6,7 @@ ghost use Rattle.fc_course.specs.Answers.{AnswersShort};
 ghost use Rattle.fc_course.specs.Holdings.{Stands, parts_of};
 ghost use Rattle.fc_course.specs.Jobs.{HasLaws, IsJobFor, IsJudged};
 ghost use Rattle.fc_course.specs.Stages.{CanPrepareJob, IsAdmitted, IsPreparedFor, RefusesJob};
-ghost use Rattle.fc_course.specs.Promises.{ChangeKeeps, HasChanged, WritesPlacesOf};
+ghost use Rattle.fc_course.specs.Promises.{ChangeKeeps, HasChanged, JobLeaves, WritesPlacesOf};
 
 use crate::error::CommandError;
 use crate::holdings::Holdings;
@@ -52,6 +52,8 @@ fn make_ready(
 /// of a new entry, and `bytes` are those of a file that is saved.
 ///
 /// Refused for want of space, with the first reason that applies, and then nothing has changed; `NoMemory` leaves all as it was, too.
+/// At any moment, a crash or an I/O error, only the space that the change gets is written, the directories that say something else, and
+/// the map, of which the copy that counts is that before, that with the new space, or that without what went back (`leaves`).
 /// `DiskFault` only if the disk's count of faults rose; the holdings stand for nothing afterwards.
 pub fn change<D: Disk>(
     alloc: Global,
@@ -65,12 +67,13 @@ pub fn change<D: Disk>(
     requires settled { IsFalse (D.pending disk.old) }
     requires stands { Stands D.Disk holdings.old disk.old }
     requires judged { IsJudged (parts_of holdings.old) job.now name.now bytes.now }
-    requires covered { HasLaws (parts_of holdings.old) job.now }
+    requires covered { HasLaws (parts_of holdings.old) job.now name.now }
     ensures refused { (c : Command) → IsJobFor c (parts_of holdings.old) job.now name.now bytes.now → AnswersShort c (parts_of holdings.old) result }
     ensures changed { OnOk result ((c : Command) → IsJobFor c (parts_of holdings.old) job.now name.now bytes.now
         → HasChanged D.Disk c (parts_of holdings.old) (parts_of holdings.new) disk.old disk.new) }
     ensures places { (c : Command) → IsJobFor c (parts_of holdings.old) job.now name.now bytes.now
         → StopsAndExitsLeave D.Disk disk.old disk.new (WritesPlacesOf c (parts_of holdings.old)) }
+    ensures leaves { StopsAndExitsLeave D.Disk disk.old disk.new (JobLeaves (parts_of holdings.old) job.now name.now) }
     ensures keeps { ChangeKeeps D.Disk disk.old disk.new holdings.old holdings.new result }
 {
     jobs();

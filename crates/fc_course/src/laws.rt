@@ -7,4 +7,7 @@ pub fn jobs()
 {
     fc_outcomes::deletion();
     fc_outcomes::rewording();
+    fc_outcomes::addition();
+    fc_outcomes::moving();
+    fc_outcomes::copying();
 }

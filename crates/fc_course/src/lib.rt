@@ -14,3 +14,4 @@ pub use course::change;
 pub use error::CommandError;
 pub use holdings::Holdings;
 pub use laws::jobs;
+pub use maps::is_map;

@@ -13,9 +13,10 @@ use Rattle.fc_course.specs.declared.holdings.Holdings.{Holdings}
 use Rattle.fc_course.specs.Answers.{AnswersShort}
 use Rattle.fc_course.specs.Holdings.{IsSameKind, parts_of}
 use Rattle.fc_course.specs.Written.{CanWriteOn, ChangeLeavesOn, IsChangedOn, IsGivenOn}
-use Rattle.fc_course.proofs.AdmitLemmas.{can_take_over, laws_for, layout_stays, run_is}
+use Rattle.fc_course.proofs.AdmitLemmas.{can_take_over, laws_for, layout_stays, room_made, run_is}
 use Rattle.fc_course.proofs.ChangeLemmas.{accepts, faults, has_changed, nothing_written, refuses, same_form, stands_now, written}
 use Rattle.fc_course.proofs.KeepLemmas.{kept_done}
+use Rattle.fc_course.proofs.MomentLemmas.{leaves_nothing, leaves_written}
 use Rattle.fc_course.proofs.course.change.Goals as goal
 
 pub make_ready-requires : goal.make_ready-requires
@@ -34,6 +35,10 @@ returns-in_err-change-clause-refused g c = λ cmd j.
 
 pub returns-in_err-change-clause-places : goal.returns-in_err-change-clause-places
 returns-in_err-change-clause-places g c = λ cmd j. nothing_written g.D.Disk (laws g.met.D.Disk) (parts_of c.args.holdings.now) cmd c.args.disk.now c.is_map.ensures c.requires.settled
+
+pub returns-in_err-change-clause-leaves : goal.returns-in_err-change-clause-leaves
+returns-in_err-change-clause-leaves g c =
+    leaves_nothing g.D.Disk (laws g.met.D.Disk) c.args.holdings.now c.args.job.now c.args.name.now c.args.disk.now c.requires.stands c.requires.settled
 
 -- ---- written
 
@@ -57,6 +62,12 @@ returns-in-Err-clause-places g c = λ cmd j.
     let keeps = subst (λ (l : Layout). StopsAndExitsLeave d c.args.disk.now c.write_change.new.disk (ChangeLeavesOn l p.ready bytes)) (layout_stays was c.make_ready.new.holdings p.change c.in_ok-change.ensures.admitted) c.write_change.ensures.keeps in
     written d (laws g.met.D.Disk) was c.args.disk.now c.write_change.new.disk job name bytes c.requires.stands c.is_map.ensures jl p c.in_ok-change.ensures.ready keeps cmd j
 
+pub returns-in-Err-clause-leaves : goal.returns-in-Err-clause-leaves
+returns-in-Err-clause-leaves g c =
+    let d = g.D.Disk in let was = c.args.holdings.now in let bytes = c.args.bytes.now in let p = c.in_ok-change.field-0 in
+    let keeps = subst (λ (l : Layout). StopsAndExitsLeave d c.args.disk.now c.write_change.new.disk (ChangeLeavesOn l p.ready bytes)) (layout_stays was c.make_ready.new.holdings p.change c.in_ok-change.ensures.admitted) c.write_change.ensures.keeps in
+    leaves_written d (laws g.met.D.Disk) was c.args.job.now c.args.name.now bytes c.args.disk.now c.write_change.new.disk p c.is_map.ensures c.in_ok-change.ensures.ready keeps
+
 -- ---- taken over
 
 pub take_over-requires : goal.take_over-requires
@@ -65,7 +76,8 @@ take_over-requires g c =
     let jl = laws_for d was c.args.disk.now c.jobs.ensures c.requires.stands c.is_map.ensures c.places_suffice.ensures c.args.job.now c.args.name.now c.args.bytes.now c.requires.covered c.requires.judged in
     can_take_over was mid p.change c.in_ok-change.ensures.admitted (layout_of c.write_change.new.places) mid.tree.room
     (jl.can_take p (layout_of c.write_change.new.places) (next_number was.tree) mid.tree.room c.in_ok-change.ensures.ready
-    (subst (λ (l : Layout). IsGivenOn l p.ready (layout_of c.write_change.new.places)) (layout_stays was mid p.change c.in_ok-change.ensures.admitted) c.in-Ok.ensures.given))
+    (subst (λ (l : Layout). IsGivenOn l p.ready (layout_of c.write_change.new.places)) (layout_stays was mid p.change c.in_ok-change.ensures.admitted) c.in-Ok.ensures.given)
+    (room_made was mid p.change c.in_ok-change.ensures.admitted))
 
 pub returns-in-Ok-clause-refused : goal.returns-in-Ok-clause-refused
 returns-in-Ok-clause-refused g c = λ cmd j.
@@ -79,6 +91,12 @@ returns-in-Ok-clause-places g c = λ cmd j.
     let jl = laws_for d was c.args.disk.now c.jobs.ensures c.requires.stands c.is_map.ensures c.places_suffice.ensures job name bytes c.requires.covered c.requires.judged in
     let keeps = subst (λ (l : Layout). StopsAndExitsLeave d c.args.disk.now c.write_change.new.disk (ChangeLeavesOn l p.ready bytes)) (layout_stays was c.make_ready.new.holdings p.change c.in_ok-change.ensures.admitted) c.write_change.ensures.keeps in
     written d (laws g.met.D.Disk) was c.args.disk.now c.write_change.new.disk job name bytes c.requires.stands c.is_map.ensures jl p c.in_ok-change.ensures.ready keeps cmd j
+
+pub returns-in-Ok-clause-leaves : goal.returns-in-Ok-clause-leaves
+returns-in-Ok-clause-leaves g c =
+    let d = g.D.Disk in let was = c.args.holdings.now in let bytes = c.args.bytes.now in let p = c.in_ok-change.field-0 in
+    let keeps = subst (λ (l : Layout). StopsAndExitsLeave d c.args.disk.now c.write_change.new.disk (ChangeLeavesOn l p.ready bytes)) (layout_stays was c.make_ready.new.holdings p.change c.in_ok-change.ensures.admitted) c.write_change.ensures.keeps in
+    leaves_written d (laws g.met.D.Disk) was c.args.job.now c.args.name.now bytes c.args.disk.now c.write_change.new.disk p c.is_map.ensures c.in_ok-change.ensures.ready keeps
 
 pub returns-in-Ok-clause-changed : goal.returns-in-Ok-clause-changed
 returns-in-Ok-clause-changed g c = λ cmd j.

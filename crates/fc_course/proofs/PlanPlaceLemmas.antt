@@ -1,0 +1,148 @@
+-- The sectors of a plan, by the map that it was made of: each once, and in holes; and where its identifier leads to once it has them.
+use Rattle.std.proofs.Common.{◌≡◌, ◌<◌, ◌≤◌, ◌+◌, ◌-◌, ◌*◌, inl, inr, ℕ, zero, suc, Bool, true, false, cond, ◌||◌, ◌==◌, List, [], ◌∷◌, ◌++◌, drop, filter, length, take, refl, sym, ap, subst, ◌∙◌, arith}
+use Rattle.std.specs.Prelude.{Contains}
+use Rattle.std.specs.Int.{div_ceil}
+use Rattle.std.specs.List.{range_with_len}
+use Rattle.std.proofs.Math.Nat.{div-mul-le_self, mul-le-mul_right}
+use Rattle.std.proofs.lemmas.Bool.{leb-true, ltb-true}
+use Rattle.std.proofs.lemmas.List.Elements.{All-contains, All-from_recursion}
+use Rattle.std.proofs.lemmas.Nat.{le-div}
+use Rattle.fc_record.specs.declared.Geometry.{Geometry}
+use Rattle.fc_newmap.specs.Map.{Map, ZoneRun, all_runs, first_sector, hole_runs, home_zone, is_hole, run_sectors, sector_count, sectors_of}
+use Rattle.fc_newmap.specs.NewMap.{IsNewMap}
+use Rattle.fc_newmap.specs.RunsLaw.{HoldsSector, IsGeometry}
+use Rattle.fc_newmap.proofs.CoverLemmas.{Distinct, Distinct-append}
+use Rattle.fc_newmap.proofs.PlaceLemmas.{contains_here, contains_later, filter_in, holder_of, range_in}
+use Rattle.fc_newmap.proofs.RunsLemmas.{runs_apart}
+use Rattle.fc_image.specs.Layout.{Layout, hole_sectors, is_among}
+use Rattle.fc_image.specs.effects.Placed.{BeginsBefore, IsFront}
+use Rattle.fc_objects.specs.Written.{AreApart}
+use Rattle.fc_plan.specs.declared.plan.Plan.{Plan}
+use Rattle.fc_plan.specs.Parts.{fronts}
+use Rattle.fc_plan.specs.Plan.{IsFrontOfOne}
+use Rattle.fc_plan.proofs.Order.{Rising, rising_of, same_place}
+use Rattle.fc_changes.proofs.BasicLemmas.{clash, unless}
+use Rattle.fc_laws.proofs.lemmas.agree.BeforeLemmas.{new_shape}
+use Rattle.fc_laws.proofs.lemmas.takeover.WriteLemmas.{apart_of}
+use Rattle.fc_placing.specs.Extents.{IsOwnPlace, parts_met}
+use Rattle.fc_placing.specs.Places.{IsOwnPlan}
+use Rattle.fc_placing.proofs.ExtentLemmas.{own_place, take_append}
+use Rattle.fc_placing.proofs.HoleLemmas.{in_holes}
+use Rattle.fc_space.specs.Index.{is_met}
+use Rattle.fc_change.specs.GrownSpace.{place_of_plan, plan_sectors}
+
+-- ---- lists
+
+range_Distinct : (from n : ℕ) → Distinct (range_with_len from n)
+range_Distinct from zero = tt
+range_Distinct from (suc n) = (unless (is_among (range_with_len (from + 1) n) from) (λ e. let r = range_in (from + 1) n from e in omega (arith, r.0)), range_Distinct (from + 1) n)
+
+in_taken : (n : ℕ) (xs : List ℕ) (s : ℕ) → is_among (take n xs) s ≡ true → is_among xs s ≡ true
+in_taken zero xs s h = absurd (cc)
+in_taken (suc n) [] s h = h
+in_taken (suc n) (x ∷ xs) s h = by (x == s) h (in_taken n xs s)
+  where
+    by : (b : Bool) → (b || is_among (take n xs) s) ≡ true → (is_among (take n xs) s ≡ true → is_among xs s ≡ true) → (b || is_among xs s) ≡ true
+    by true g more = refl
+    by false g more = more g
+
+taken_Distinct : (n : ℕ) (xs : List ℕ) → Distinct xs → Distinct (take n xs)
+taken_Distinct zero xs d = tt
+taken_Distinct (suc n) [] d = tt
+taken_Distinct (suc n) (x ∷ xs) d = (unless (is_among (take n xs) x) (λ h. clash (is_among xs x) (in_taken n xs x h) d.0), taken_Distinct n xs d.1)
+
+-- ---- fronts of holes
+
+-- a sector of a front lies in its hole
+front_holds : (g : Geometry) (hole part : ZoneRun) (s : ℕ) → 0 < g.sector → IsFront g hole part → HoldsSector g part s → HoldsSector g hole s
+front_holds g hole part s size front holds =
+    let place = same_place hole part front.at_front in
+    let first : first_sector g hole ≡ first_sector g part = λ i. first_sector g (place.0 i, record { start = place.1 i; len = part.1.len; kind = part.1.kind }) in
+    let within = front.within in
+    let bytes : part.1.len * g.bit_bytes ≤ hole.1.len * g.bit_bytes = mul-le-mul_right {m = part.1.len} {n = hole.1.len} g.bit_bytes within in
+    let whole = div-mul-le_self (part.1.len * g.bit_bytes) g.sector in
+    let count : sector_count g part ≤ sector_count g hole = le-div (sector_count g part) (hole.1.len * g.bit_bytes) g.sector size (omega (arith, bytes, whole)) in
+    let from = holds.from in
+    let to = holds.to in
+    record { from = omega (arith, first, from); to = omega (arith, first, to, count) }
+
+module _ (m : Map) (is : IsNewMap m) where
+  shape : IsGeometry m.geometry
+  shape = new_shape m is
+
+  -- Two fronts of one sector begin at one place.
+  one_place : (p q : ZoneRun) (s : ℕ) → IsFrontOfOne m.geometry (hole_runs m) p → IsFrontOfOne m.geometry (hole_runs m) q → HoldsSector m.geometry p s → HoldsSector m.geometry q s → (p.0 ≡ q.0) × (p.1.start ≡ q.1.start)
+  one_place p q s a b in_p in_q =
+      let run = λ (r : ZoneRun). is_hole r.1.kind in
+      let one = runs_apart m shape is.right a.0 b.0 (filter_in run (all_runs m) a.0 a.1).0 (filter_in run (all_runs m) b.0 b.1).0 s
+      (front_holds m.geometry a.0 p s shape.some a.2 in_p) (front_holds m.geometry b.0 q s shape.some b.2 in_q) in
+      let at_a = same_place a.0 p a.2.at_front in
+      let at_b = same_place b.0 q b.2.at_front in
+      (sym at_a.0 ∙ ap (λ (r : ZoneRun). r.0) one ∙ at_b.0, sym at_a.1 ∙ ap (λ (r : ZoneRun). r.1.start) one ∙ at_b.1)
+
+  never_both : (p q : ZoneRun) (s : ℕ) → IsFrontOfOne m.geometry (hole_runs m) p → IsFrontOfOne m.geometry (hole_runs m) q → BeginsBefore p q → HoldsSector m.geometry p s → HoldsSector m.geometry q s → ⊥
+  never_both p q s a b before in_p in_q =
+      let same = one_place p q s a b in_p in_q in
+      elim before [
+        | inl zone ↦ omega (arith, zone, same.0)
+        | inr place ↦ (let later = place.1 in omega (arith, later, same.1))
+      ]
+
+  parts_Distinct : (t : ZoneRun → Bool) (ps : List ZoneRun) → Rising ps → ((p : ZoneRun) → Contains ps p → IsFrontOfOne m.geometry (hole_runs m) p) → Distinct (sectors_of m.geometry (filter t ps))
+  parts_Distinct t [] rising fronts = tt
+  parts_Distinct t (p ∷ ps) rising fronts = by (t p) (parts_Distinct t ps rising.1 (λ q at. fronts q (contains_later p ps q at)))
+    where
+      by : (b : Bool) → Distinct (sectors_of m.geometry (filter t ps)) → Distinct (sectors_of m.geometry (cond b (p ∷ filter t ps) (filter t ps)))
+      by true rest =
+          Distinct-append (run_sectors m.geometry p) (sectors_of m.geometry (filter t ps)) (range_Distinct (first_sector m.geometry p) (sector_count m.geometry p)) rest
+          (λ s here later.
+          let r = range_in (first_sector m.geometry p) (sector_count m.geometry p) s here in
+          let q = holder_of m.geometry (filter t ps) s later in
+          let q_in = (filter_in t ps q.0 q.1.0).0 in
+          never_both p q.0 s (fronts p (contains_here p ps)) (fronts q.0 (contains_later p ps q.0 q_in)) (All-contains (BeginsBefore p) ps q.0 (All-from_recursion (BeginsBefore p) ps rising.0) q_in)
+          (record { from = r.0; to = r.1 }) q.1.1)
+      by false rest = rest
+
+  -- ---- a plan
+
+  module _ (bytes : ℕ) (plan : Plan) (own : IsOwnPlan m bytes plan) where
+    abbrev parts : List ZoneRun
+    parts = fronts plan.parts.items
+
+    front : (p : ZoneRun) → Contains parts p → IsFrontOfOne m.geometry (hole_runs m) p
+    front p at = All-contains (IsFrontOfOne m.geometry (hole_runs m)) parts p own.plan.taken.fronts at
+
+    abbrev met : Bool → List ℕ
+    met ahead = sectors_of m.geometry (parts_met m.geometry plan.id ahead parts)
+
+    met_Distinct : (ahead : Bool) → Distinct (met ahead)
+    met_Distinct ahead = parts_Distinct (λ (p : ZoneRun). is_met m.geometry ahead plan.id p.0) parts (rising_of parts own.can.rising) front
+
+    -- the search meets a zone once
+    met_once : (s : ℕ) → is_among (met true) s ≡ true → is_among (met false) s ≡ true → ⊥
+    met_once s first second =
+        let p = holder_of m.geometry (parts_met m.geometry plan.id true parts) s first in
+        let q = holder_of m.geometry (parts_met m.geometry plan.id false parts) s second in
+        let a = filter_in (λ (r : ZoneRun). is_met m.geometry true plan.id r.0) parts p.0 p.1.0 in
+        let b = filter_in (λ (r : ZoneRun). is_met m.geometry false plan.id r.0) parts q.0 q.1.0 in
+        let high = leb-true (home_zone m.geometry plan.id) p.0.0 a.1 in
+        let low = ltb-true q.0.0 (home_zone m.geometry plan.id) b.1 in
+        let same = one_place p.0 q.0 s (front p.0 a.0) (front q.0 b.0) p.1.1 q.1.1 in
+        omega (arith, high, low, same.0)
+
+    -- Its sectors are different ones,
+    pub plan_once : AreApart (place_of_plan m.geometry plan bytes)
+    plan_once =
+        apart_of (place_of_plan m.geometry plan bytes)
+        (taken_Distinct (div_ceil bytes m.geometry.sector) (plan_sectors m.geometry plan) (Distinct-append (met true) (met false) (met_Distinct true) (met_Distinct false) met_once))
+
+    cut : place_of_plan m.geometry plan bytes ≡ take (div_ceil bytes m.geometry.sector) (met true) ++ take (div_ceil bytes m.geometry.sector - length (met true)) (met false)
+    cut = take_append (div_ceil bytes m.geometry.sector) (met true) (met false)
+
+    -- they lie in holes,
+    pub plan_free : (s : ℕ) → is_among (place_of_plan m.geometry plan bytes) s ≡ true → is_among (hole_sectors (Layout.New m)) s ≡ true
+    plan_free = in_holes m is bytes plan own (div_ceil bytes m.geometry.sector) (div_ceil bytes m.geometry.sector - length (met true)) (place_of_plan m.geometry plan bytes) cut
+
+    -- and the identifier leads to them.
+    pub plan_leads : IsOwnPlace m bytes plan (place_of_plan m.geometry plan bytes)
+    plan_leads = own_place m is bytes plan own (div_ceil bytes m.geometry.sector) (place_of_plan m.geometry plan bytes) refl cut
