@@ -1,0 +1,2 @@
+pub mod BusyLemmas
+pub mod CrashLemmas

@@ -1,0 +1,15 @@
+pub mod LaidLemmas
+pub mod RelocatedLemmas
+pub mod RelocatedNodesLemmas
+pub mod AlongLemmas
+pub mod RelocatedOwnersLemmas
+pub mod SafePlacesLemmas
+pub mod SafeBytesLemmas
+pub mod SafeImageLemmas
+pub mod SafeOutcomeLemmas
+pub mod SafeChangeLemmas
+pub mod SafeDeletionLemmas
+pub mod RewordedImageLemmas
+pub mod SafeRewordingLemmas
+pub mod SafeSpaceLemmas
+pub mod SafeWritingLemmas

@@ -1,0 +1,9 @@
+pub mod Relocation
+pub mod SafePlaces
+pub mod SafeImage
+pub mod SafeOutcome
+pub mod SafeChange
+pub mod SafeDeletion
+pub mod SafeRewording
+pub mod SafeSpace
+pub mod SafeWriting

@@ -1,0 +1,3 @@
+pub mod PlaceLemmas
+pub mod RelaidLemmas
+pub mod FreeLemmas
