@@ -1,0 +1,4 @@
+pub mod ReasonLemmas
+pub mod NameLemmas
+pub mod JudgmentLemmas
+pub mod MomentLemmas
