@@ -69,14 +69,14 @@ size_most size (inl e) = omega arith
 size_most size (inr (inl e)) = omega arith
 size_most size (inr (inr e)) = omega arith
 
--- only a row of one sector isn't filled
-pub last_row : (count size left most : ℕ) → 0 < count → count ≤ most → (left < size → most ≡ 1) → (size ≤ left → most * size ≤ left) → left < count * size → count * size ≡ size
-last_row count size left most some few one enough short =
+-- Only less than a sector of bytes doesn't fill its row.
+pub end_row : (count size left most : ℕ) → 0 < count → count ≤ most → (left < size → most * size ≤ 16384) → (size ≤ left → most * size ≤ left) → left < count * size
+    → (left < size) × (size ≤ count * size) × (count * size ≤ 16384)
+end_row count size left most some few zeros enough short =
+    let up : count * size ≤ most * size = mul-le count size most size few (omega arith) in
     elim (cases_lt left size) [
-      | inl below ↦
-          let is : count ≡ 1 = omega (arith, some, few, one below) in
-          ap (λ (k : ℕ). k * size) is ∙ (let e : 1 * size ≡ size = omega arith in e)
-      | inr above ↦ absurd (omega (arith, short, enough above, mul-le count size most size few (omega arith)))
+      | inl below ↦ (below, omega (arith, mul-le 1 size count size some (omega arith)), omega (arith, up, zeros below))
+      | inr above ↦ absurd (omega (arith, short, enough above, up))
     ]
 
 -- a part of the first bytes as whole sectors
