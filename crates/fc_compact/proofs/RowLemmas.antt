@@ -9,23 +9,16 @@ use Rattle.fc_device.specs.Stops.{HasRowPart, LeavesOnly, RowOldOrNew}
 use Rattle.fc_device.specs.declared.disk.Disk.{Ghosts}
 use Rattle.fc_device.proofs.DiskLaws.{Laws as DiskLaws, row_fits_in, sector_fits}
 use Rattle.fc_device.proofs.SectorLemmas.{length-row_at, sector_at-row_at, sector_at-with_row_before, sector_at-with_row_behind, sector_at-with_row_in}
-use Rattle.fc_device.proofs.StopLemmas.{goes_on, left_now, led, started, weaker}
+use Rattle.fc_device.proofs.StopLemmas.{goes_on, left_now, led, started, weaker, told_before}
 use Rattle.fc_newmap.specs.Map.{Map}
 use Rattle.fc_image.specs.Layout.{Layout, hole_sectors, is_among}
 use Rattle.fc_alloc.specs.declared.owner.Owner.{Owner}
-use Rattle.fc_copies.proofs.PassLemmas.{keeps_told}
+use Rattle.fc_copies.proofs.PassLemmas.{keeps_told, some_is}
 use Rattle.fc_compact.specs.Laws.{Laws}
 use Rattle.fc_compact.specs.Ready.{IsReady}
 use Rattle.fc_compact.specs.Steps.{Preserves}
 use Rattle.fc_compact.specs.Copying.{ChangesHoles, ChangesRow, HasCopied, HasRow, IsCopied, TearsRow}
 use Rattle.fc_compact.proofs.ReadyLemmas.{hole_preserves, hole_ready, row_same}
-
-told_before : (f : List ℕ → List ℕ) (o : Option (List ℕ)) (image : List ℕ) → option_map f o ≡ Some image → (was : List ℕ) × (o ≡ Some was)
-told_before f None image is = cc
-told_before f (Some was) image is = (was, refl)
-
-some_is : {A : Type 0} {a b : A} → Some a ≡ Some b → a ≡ b
-some_is e = cc
 
 -- ---- images
 

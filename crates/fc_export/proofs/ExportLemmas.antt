@@ -17,6 +17,7 @@ use Rattle.fc_objects.specs.declared.reader.ObjectReader.{ObjectReader}
 use Rattle.fc_objects.specs.Ahead.{ahead}
 use Rattle.fc_objects.specs.Bytes.{bytes_ahead, first_bytes}
 use Rattle.fc_export.specs.Exports.{AreFirst, EndsAdding, IsTakenBack, LeavesPart, added_of}
+use Rattle.fc_host.proofs.FileLemmas.{told_files as told_one}
 
 -- ---- pieces
 
@@ -78,9 +79,6 @@ Holds old host bytes now = (now ≡ option_map (λ files. insert files host byte
 none_stays : (host : List ℕ) (pieces : List (List ℕ)) (now : Option Files) → AnswersCalls None (added_of host pieces) now → now ≡ None
 none_stays host [] now x = x
 none_stays host (piece ∷ pieces) now x = none_stays host pieces now (subst (λ (o : Option Files). AnswersCalls o (added_of host pieces) now) x.1 x.2)
-
-told_one : (a b : Files) → Some a ≡ Some b → a ≡ b
-told_one a b e = cc
 
 pub made_holds : (old now : Option Files) (host : List ℕ) (pieces : List (List ℕ)) → AnswersCalls old (made_of host pieces) now → Holds old host (joined pieces) now
 made_holds None now host pieces x =
@@ -145,10 +143,6 @@ ended_holds old mid now host front piece failed known holds (inr (is, added)) fi
 
 -- ---- a file that is taken back
 
--- what was asked then
-back_asked : List ℕ → Result (Unit {0}) Failed → List Asked
-back_asked host r = remove_asked host r ∷ []
-
 pub taken_or_left : (host : List ℕ) (known : Option (List ℕ)) (old mid now : Option Files) (r : Result (Unit {0}) Failed) → HoldsFirst old host known mid
     → OnOk r (now ≡ option_map (without host) mid) → OnErr r (MayBeGone host mid now) → IsTakenBack host (remove_asked host r ∷ []) old now × LeavesPart host known old now
 taken_or_left host known old mid now (Ok done) has gone failed =
@@ -169,19 +163,10 @@ asks_all host a b c e pieces failed back first second third =
     ∙ append_assoc a (made ++ (added_of host pieces ++ failed)) back
     ∙ ap (λ (l : List Asked). a ++ ((host, calls.Make true, []) ∷ l)) (append_assoc (added_of host pieces) failed back)
 
--- the file was made and has all bytes
-pub asks_made : (host : List ℕ) (a b c : List Asked) (pieces : List (List ℕ)) → b ≡ a ++ (host, calls.Make true, []) ∷ [] → c ≡ b ++ added_of host pieces → c ≡ a ++ made_of host pieces
-asks_made host a b c pieces first second =
-    second ∙ ap (λ (l : List Asked). l ++ added_of host pieces) first ∙ append_assoc a ((host, calls.Make true, []) ∷ []) (added_of host pieces)
-
 -- a file that was made wasn't there
 pub made_absent : (b : Bool) → true ≡ not b → b ≡ false
 made_absent true e = absurd (cc)
 made_absent false e = refl
-
-pub there_before : (b : Bool) → false ≡ not b → b ≡ true
-there_before true e = refl
-there_before false e = absurd (cc)
 
 -- what is known of a part is known if the whole is
 pub known_by : (told : Option (List ℕ)) (part : List ℕ → List ℕ) (P : List ℕ → Type 0) → ForSome told (λ image. P (part image)) → ForSome (option_map part told) P

@@ -18,7 +18,7 @@ use Rattle.fc_runs.specs.Run.{Mode, Takes, each_line, is_error}
 use Rattle.fc_runs.specs.Stops.{all_host_leave_image, host_leaves_image}
 use Rattle.fc_runs.proofs.RepliesLemmas.{taken_kept}
 use Rattle.fc_runs.proofs.StepLemmas.{step_keeps, step_leaves}
-use Rattle.fc_runs.proofs.TextLemmas.{both_true, true_both}
+use Rattle.std.proofs.lemmas.Bool.{and_parts as both_true, and_from as true_both}
 
 -- ---- a `get` leaves the image
 

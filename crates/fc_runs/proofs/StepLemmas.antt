@@ -22,7 +22,7 @@ use Rattle.fc_runs.proofs.TreeLemmas.{answer_ok, effect_tree}
 
 -- ---- a line that keeps the tree
 
-both_false : (b : Bool) → b ≡ false → (b || false) ≡ true → ⊥
+pub both_false : (b : Bool) → b ≡ false → (b || false) ≡ true → ⊥
 both_false true h k = absurd (cc)
 both_false false h k = absurd (cc)
 

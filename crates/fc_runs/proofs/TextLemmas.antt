@@ -6,16 +6,7 @@ use Rattle.std.proofs.lemmas.List.{append-nil, length-append, take-append-le}
 use Rattle.std.proofs.lemmas.Grind.{common_steps, flat_map-append}
 use Rattle.fc_runs.specs.Early.{text_begun}
 use Rattle.fc_runs.specs.Run.{text_of, whole_replies}
-
--- ---- tests
-
-pub both_true : (a b : Bool) → (a && b) ≡ true → (a ≡ true) × (b ≡ true)
-both_true true b h = (refl, h)
-both_true false b h = absurd (cc)
-
-pub true_both : (a b : Bool) → a ≡ true → b ≡ true → (a && b) ≡ true
-true_both true b h k = k
-true_both false b h k = absurd (cc)
+use Rattle.std.proofs.lemmas.Bool.{and_parts as both_true, and_from as true_both}
 
 -- ---- texts
 
