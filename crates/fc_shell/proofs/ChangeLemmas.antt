@@ -45,7 +45,7 @@ use Rattle.fc_shell.specs.Line.{IsDone, IsReady, KeepsGoing, LineEnds}
 use Rattle.fc_shell.specs.Modes.{plain_mode}
 use Rattle.fc_shell.specs.Writing.{Wrote, WrotePart}
 use Rattle.fc_shell.proofs.AnsweredLemmas.{caused_alone}
-use Rattle.fc_shell.proofs.ErrorLemmas.{ok_no_error}
+use Rattle.fc_runs.proofs.ErrorLemmas.{ok_no_error}
 use Rattle.fc_shell.proofs.StepLemmas.{left_ends, one_fault, unbegun_ends}
 use Rattle.fc_shell.proofs.WritingLemmas.{wrote_nothing}
 

@@ -25,7 +25,7 @@ use Rattle.fc_shell.specs.Answered.{IsReply, volume_reply}
 use Rattle.fc_shell.specs.Modes.{plain_mode}
 use Rattle.fc_shell.specs.Told.{told_line, told_lines}
 use Rattle.fc_shell.specs.declared.reply.Reply.{Reply}
-use Rattle.fc_shell.proofs.ErrorLemmas.{ok_no_error}
+use Rattle.fc_runs.proofs.ErrorLemmas.{ok_no_error}
 use Rattle.fc_shell.proofs.ShortageLemmas.{shortage_none}
 use Rattle.fc_runs.specs.Run.{is_error, keeps_tree}
 

@@ -8,7 +8,7 @@ use Rattle.std.proofs.lemmas.List.Sums.{sum_by-cons, sum_by_push}
 use Rattle.std.proofs.lemmas.Grind.{common_steps, flat_map-append}
 use Rattle.std.proofs.Math.Seq.{take-append-add}
 use Rattle.fc_device.specs.declared.disk.Disk.{Ghosts}
-use Rattle.fc_device.proofs.DiskLaws.{Laws, form_same, form_then}
+use Rattle.fc_device.proofs.DiskLaws.{Laws}
 use Rattle.fc_device.proofs.StopLemmas.{goes_on, started}
 use Rattle.fc_record.specs.declared.Kind.{Kind}
 use Rattle.fc_image.specs.Stays.{IsNewLayout, OpensAs}
@@ -16,10 +16,14 @@ use Rattle.fc_image.specs.effects.Effect.{State, tree_in}
 use Rattle.fc_image.specs.safe.SafeEffect.{HasTree}
 use Rattle.fc_script.specs.Lines.{command_of}
 use Rattle.fc_runs.specs.Early.{reply_begun, text_begun}
+use Rattle.fc_runs.specs.Meanwhile.{GoesOn}
 use Rattle.fc_runs.specs.Promises.{spares_disk}
 use Rattle.fc_runs.specs.Run.{Mode, Step, Steps, all_keep_tree, commands_in, each_line, is_error, keeps_tree_or, text_of, whole_replies}
 use Rattle.fc_runs.specs.Stops.{MayHaveLeft, all_leave_image, is_kept_by_next, leaves_image_or}
+use Rattle.fc_runs.proofs.MeanwhileLemmas.{goes_then}
 use Rattle.fc_runs.proofs.RepliesLemmas.{taken_kept}
+use Rattle.fc_runs.proofs.StepLemmas.{has_tree, step_keeps, step_leaves}
+use Rattle.fc_runs.proofs.TextLemmas.{begun_front, both_true, front_part, get_next, one_more, true_both, whole_all}
 use Rattle.fc_tree.specs.Parts.{ArePartsOf}
 use Rattle.fc_volume.specs.Volume.{Volume, parts_of}
 use Rattle.fc_shell.specs.declared.answer.LineFault.{LineFault}
@@ -27,22 +31,13 @@ use Rattle.fc_shell.specs.declared.answer.LineFault.TheVariants as lines
 use Rattle.fc_shell.specs.declared.tally.Tally.{Tally}
 use Rattle.fc_shell.specs.Reads.{Spares, all_read, is_reading_line}
 use Rattle.fc_shell.specs.Counted.{AreCounted, has_refused}
-use Rattle.fc_shell.specs.Line.{BreaksOff, GoesOn, IsAnswered, IsCutOff, IsDone, LineEnds}
+use Rattle.fc_shell.specs.Line.{BreaksOff, IsAnswered, IsCutOff, IsDone, LineEnds}
 use Rattle.fc_shell.specs.Modes.{plain_mode}
 use Rattle.fc_shell.specs.Serving.{AreDone, HasServed, ServesAs, cause_of}
 use Rattle.fc_shell.specs.Writing.{Wrote}
-use Rattle.fc_shell.proofs.StepLemmas.{has_tree, step_keeps, step_leaves}
 use Rattle.fc_shell.proofs.WritingLemmas.{wrote_nothing, wrote_both}
 
 -- ---- tests
-
-pub both_true : (a b : Bool) → (a && b) ≡ true → (a ≡ true) × (b ≡ true)
-both_true true b h = (refl, h)
-both_true false b h = absurd (cc)
-
-pub true_both : (a b : Bool) → a ≡ true → b ≡ true → (a && b) ≡ true
-true_both true b h k = k
-true_both false b h k = absurd (cc)
 
 -- lines that write nothing, and lines that change the disc
 pub spares_first : (ro now : Bool) (line : List ℕ) (left : List (List ℕ)) → now ≡ ro → Spares ro (line ∷ left) → (now ≡ true) ⊎ (is_reading_line (command_of line) ≡ true)
@@ -150,45 +145,13 @@ module _ (May : List ℕ → Type 0) (mode : Mode) where
         let both = both_true (test (is_error r) l) (each_line test (lines ++ line ∷ []) (replies ++ reply ∷ [])) keep in
         true_both (test (is_error r) l) (each_line test lines replies) both.0 (each_front x.0 s' lines replies line reply x.3 both.1)
 
--- ---- texts
-
-pub one_more : (replies : List (List ℕ)) (reply : List ℕ) → text_of (replies ++ reply ∷ []) ≡ text_of replies ++ reply
-one_more replies reply = flat_map-append (λ (r : List ℕ). r) replies (reply ∷ []) ∙ ap (λ (text : List ℕ). text_of replies ++ text) (append-nil reply)
-
--- Replies that were written whole are counted.
-whole_all : (replies : List (List ℕ)) (more : List ℕ) → whole_replies (length (text_of replies ++ more)) replies ≡ length replies
-whole_all [] more = refl
-whole_all (reply ∷ replies) more =
-    let rest = length (text_of replies ++ more) in
-    let n = length ((reply ++ text_of replies) ++ more) in
-    let long : n ≡ length reply + rest = ap length (append_assoc reply (text_of replies) more) ∙ length-append reply (text_of replies ++ more) in
-    let fits : nat_le (length reply) n ≡ true = grind (arith, nat_tests, long) in
-    let left : n - length reply ≡ rest = omega (arith, long) in
-    ap (λ (b : Bool). if b then suc (whole_replies (n - length reply) replies) else 0) fits ∙ ap (λ (k : ℕ). suc (whole_replies k replies)) left ∙ ap suc (whole_all replies more)
-
-get_next : (xs : List (List ℕ)) (y : List ℕ) (ys : List (List ℕ)) (n : ℕ) → n ≡ length xs → slice_get (xs ++ y ∷ ys) n ≡ Some y
-get_next [] y ys n is = rw is refl
-get_next (x ∷ xs) y ys n is = rw is (get_next xs y ys (length xs) refl)
-
--- a part of a text is one from the front of both
-front_part : (n : ℕ) (a b : List ℕ) → (k : ℕ) × (take n a ≡ take k (a ++ b))
-front_part n a b = (min n (length a), sym (take-append-le (min n (length a)) a b (omega arith) ∙ take-min n a))
-  where
-    take-min : (n : ℕ) (xs : List ℕ) → take (min n (length xs)) xs ≡ take n xs
-    take-min n xs = grind (arith, common_steps)
-
--- the text of a run begins with its replies
-begun_front : (replies : List (List ℕ)) (next : Option (List ℕ)) (begun : List ℕ → List ℕ) → (rest : List ℕ) × (text_begun None replies next begun ≡ text_of replies ++ rest)
-begun_front replies None begun = ([], sym (append-nil (text_of replies)))
-begun_front replies (Some line) begun = (begun line, refl)
-
 -- ---- counts
 
-none_counted : (tally : Tally) → tally.replies ≡ 0 → tally.refused ≡ 0 → AreCounted [] tally
+pub none_counted : (tally : Tally) → tally.replies ≡ 0 → tally.refused ≡ 0 → AreCounted [] tally
 none_counted tally replies refused = record { replies_are = replies; refused_are = refused }
 
 -- a reply more
-one_counted : (replies : List (List ℕ)) (reply : List ℕ) (refused : Bool) (was now : Tally) → AreCounted replies was → refused ≡ is_error reply
+pub one_counted : (replies : List (List ℕ)) (reply : List ℕ) (refused : Bool) (was now : Tally) → AreCounted replies was → refused ≡ is_error reply
     → now.replies ≡ was.replies + 1 → now.refused ≡ was.refused + cond refused 1 0 → AreCounted (replies ++ reply ∷ []) now
 one_counted replies reply refused was now are is more errors = record {
   replies_are = more ∙ ap (λ (n : ℕ). n + 1) are.replies_are ∙ sym (length-append replies (reply ∷ []));
@@ -224,16 +187,6 @@ is_disk lines.NoMemory h = absurd (cc)
 -- ---- lines that were done
 
 module _ {D : Type 0} {d : Ghosts D} (law : Laws d) where
-  pub goes_same : (s : D) → GoesOn d s s
-  goes_same s = record { form = form_same d s; stops = started law s (λ image. Unit {0}) (λ image left. tt); faults = omega arith }
-
-  pub goes_then : {old mid new : D} → GoesOn d old mid → GoesOn d mid new → GoesOn d old new
-  goes_then first second = record {
-    form = form_then d first.form second.form;
-    stops = goes_on law first.stops second.stops (λ image left. tt);
-    faults = omega (arith, first.faults, second.faults);
-  }
-
   module _ (kind : Kind) (read_only : Bool) (s : State) (script : List ℕ) (old : D) (told : d.bytes old ≡ Some s.image) (quiet : d.pending old ≡ false) (opens : OpensAs s.image kind s.view) where
     abbrev mode : Mode
     mode = plain_mode kind read_only
@@ -354,7 +307,7 @@ module _ {D : Type 0} {d : Ghosts D} (law : Laws d) where
           record {
             end = are.state;
             ended = record {
-              start = start_left new (goes_then first second);
+              start = start_left new (goes_then law first second);
               replies = are.replies;
               steps = subst (λ (lines : List (List ℕ)). Steps (MayHaveLeft d old new) mode s lines are.replies are.state) (sym front) are.steps;
               told = (length (text_of was.replies) + part.0, is);
@@ -402,7 +355,7 @@ module _ {D : Type 0} {d : Ghosts D} (law : Laws d) where
           record {
             end = are.state;
             ended = record {
-              start = start_left new (goes_then first second);
+              start = start_left new (goes_then law first second);
               replies = are.replies;
               steps = subst (λ (lines : List (List ℕ)). Steps (MayHaveLeft d old new) mode s lines are.replies are.state) (sym front)
                   (steps_weaker May (MayHaveLeft d old new) (λ image may tells. second.stops.keeps (d.moment old) image first.stops.later (may tells)) mode s are.state are.done are.replies are.steps);

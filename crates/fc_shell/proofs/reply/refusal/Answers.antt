@@ -1,6 +1,6 @@
 use Rattle.std.proofs.Common.{sym, arith}
 use Rattle.std.proofs.lemmas.Grind.{common_steps}
-use Rattle.fc_shell.proofs.ErrorLemmas.{refusal_error}
+use Rattle.fc_runs.proofs.ErrorLemmas.{refusal_error}
 use Rattle.fc_shell.proofs.reply.refusal.Goals as goal
 
 pub returns : goal.returns
