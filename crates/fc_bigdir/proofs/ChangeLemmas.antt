@@ -9,6 +9,7 @@ use Rattle.fc_dirs.specs.Big.{AllStand, BigDir, FitsBig, IsBig, StandsInHeap, by
 use Rattle.fc_dirs.proofs.SearchLemmas.{blank}
 use Rattle.fc_dirs.proofs.TwinLemmas.{apart_from, none_from, apart_set}
 use Rattle.fc_bigdir.proofs.GrowLemmas.{big_with}
+use Rattle.fc_smalldir.proofs.SmallLemmas.{named_at}
 
 -- Each entry has a place.
 pub places_of : (heap places : List ℕ) (es : List Entry) → AllStand heap places es → length places ≡ length es
@@ -28,12 +29,6 @@ fits_set : (es : List Entry) (i : ℕ) (e : Entry) → AllByRecursion FitsBig es
 fits_set [] i e all same last within = absurd (omega arith)
 fits_set (x ∷ es) zero e all same last within = (record { name = subst IsName same (all.0).name; last = last }, all.1)
 fits_set (x ∷ es) (suc i) e all same last within = (all.0, fits_set es i e all.1 same last (omega arith))
-
--- the name of the entry of that number
-pub named_at : (es : List Entry) (at : ℕ) (name : List ℕ) → option_map (λ (d : Entry). d.name) (slice_get es at) ≡ Some name → at < length es → (get_or es at blank).name ≡ name
-named_at es at name same within =
-    let found : Some (get_or es at blank).name ≡ Some name = sym (ap (option_map (λ (d : Entry). d.name)) (slice_get-get_or es at blank within)) ∙ same in
-    cc
 
 pub big_changed : (dir : BigDir) (at : ℕ) (e : Entry) → IsBig dir → at < length dir.entries → option_map (λ (d : Entry). d.name) (slice_get dir.entries at) ≡ Some e.name → e.last ≡ 0
     → IsBig (with_big_changed at e dir)

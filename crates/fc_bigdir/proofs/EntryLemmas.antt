@@ -10,10 +10,7 @@ use Rattle.byteorder.specs.Numbers.{little_from-take}
 use Rattle.fc_bytes.specs.Words.{bytes_at, u32_at}
 use Rattle.fc_dirs.specs.Big.{is_entry_right, entry_bytes, entries_start, entry_count, name_place, first_bad_entry, heap_of}
 use Rattle.fc_dirs.proofs.SearchLemmas.{find-none, find-found}
-
-pub both : (a b : Bool) → (a && b) ≡ true → (a ≡ true) × (b ≡ true)
-both true b is = (refl, is)
-both false b is = absurd (cc)
+use Rattle.std.proofs.lemmas.Bool.{and_parts as both}
 
 -- A name that passes the test: 1 to 255 bytes from 32 on, inside the heap.
 pub record IsNamed (heap : List ℕ) (at len : ℕ) : Type 0 where

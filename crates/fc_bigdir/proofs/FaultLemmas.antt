@@ -1,7 +1,7 @@
 -- The first fault of a directory, and what stands if there is none around the entries.
 use Rattle.std.proofs.Common.{◌≡◌, ◌≤◌, ◌≢◌, ℕ, ◌+◌, ◌*◌, ◌%◌, ◌-◌, ◌&&◌, ◌||◌, ◌==◌, Bool, true, false, not, nat_le, List, [], ◌∷◌, length, slice_index, Some, None, Option, refl, sym, ap, ◌∙◌, arith, subst, inl, inr}
 use Rattle.std.specs.Int.{is_in_range}
-use Rattle.std.proofs.lemmas.Bool.{cases_eq}
+use Rattle.std.proofs.lemmas.Bool.{cases_eq, and_parts as both}
 use Rattle.std.proofs.lemmas.Bool.Decides.{nat_tests}
 use Rattle.fc_checks.specs.Checks.{is_big_size, big_dir_check}
 use Rattle.fc_bytes.specs.Words.{u32_at}
@@ -13,7 +13,6 @@ use Rattle.std.specs.Option.{option_map}
 use Rattle.fc_dirs.specs.Entries.{fault_unless, first_of, first_twin}
 use Rattle.fc_dirs.specs.Big.{big_entries, big_fault, first_bad_entry, does_fit, entry_count, frame_fault, has_second_form, head_space, heap_end, heap_len, is_check_right, is_magic_right, is_sequence_right, is_size_right, name_len}
 use Rattle.fc_dirs.specs.Faults.{IsFaultOf}
-use Rattle.fc_bigdir.proofs.EntryLemmas.{both}
 
 -- ---- the first of three faults
 
@@ -66,7 +65,7 @@ second_words b first second = elim (cases_eq (name_len b % 4) 0) [
       absurd (let bad : true ≡ false = sym second ∙ same ∙ first in cc)
 ]
 
-space_holds : (form : Bool) (n : ℕ) → n ≤ head_space form n
+pub space_holds : (form : Bool) (n : ℕ) → n ≤ head_space form n
 space_holds true n = omega arith
 space_holds false n = omega arith
 

@@ -10,7 +10,9 @@ use Rattle.fc_smalldir.proofs.NameLemmas.{length-padded}
 use Rattle.fc_dirs.specs.Entries.{padded_name}
 use Rattle.fc_dirs.specs.Big.{BigDir, IsBig, head_space, head_space_of, bytes_taken}
 use Rattle.fc_dirs.specs.BigBytes.{head_word, tail_word, head_bytes, entries_bytes, parts_bytes, parts_end, tail_bytes, laid}
-use Rattle.fc_bigdir.proofs.WrittenEntries.{behind, word_first, places_as_many, length-entries}
+use Rattle.fc_bigdir.proofs.WrittenEntries.{word_first, places_as_many, length-entries}
+use Rattle.fc_bigdir.proofs.FaultLemmas.{space_holds as space_least}
+use Rattle.fc_smalldir.proofs.LayoutLemmas.{at_front, step as behind}
 
 -- ---- sizes
 
@@ -25,11 +27,6 @@ size_bounds n right = record {
   most = grind (arith, nat_tests, right);
   whole = grind (arith, nat_tests, right);
 }
-
--- the space of a name holds it, and is whole words
-pub space_least : (form : Bool) (n : ℕ) → n ≤ head_space form n
-space_least false n = omega arith
-space_least true n = omega arith
 
 pub space_whole : (form : Bool) (n : ℕ) → head_space form n % 4 ≡ 0
 space_whole false n = omega arith
@@ -51,11 +48,6 @@ length-parts dir big =
 
 pub parts_whole : (dir : BigDir) → IsBig dir → parts_end dir % 4 ≡ 0
 parts_whole dir big = omega (arith, space_whole dir.second_form (length dir.name), big.words)
-
-at_front : (bytes : List ℕ) (at x : ℕ) (rest : List ℕ) → drop at bytes ≡ x ∷ rest → slice_index bytes at ≡ x
-at_front bytes at x rest here =
-    let place : at + 0 ≡ at = omega arith in
-    sym (rw place at (get_or-drop at bytes 0 0)) ∙ ap (λ r. slice_index r 0) here
 
 -- what stands after the entries
 abbrev pub behind_entries : BigDir → List ℕ → ℕ → List ℕ

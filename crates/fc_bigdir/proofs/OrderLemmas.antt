@@ -163,7 +163,7 @@ numbers_of : (f : ℕ → List ℕ) (a n : ℕ) → map (λ (p : ℕ × List ℕ
 numbers_of f a zero = refl
 numbers_of f a (suc n) = ap (λ l. a ∷ l) (numbers_of f (a + 1) n)
 
-eqb_flips : (x y : ℕ) → eqb x y ≡ eqb y x
+pub eqb_flips : (x y : ℕ) → eqb x y ≡ eqb y x
 eqb_flips x y = grind (arith, nat_tests)
 
 -- ---- names in order

@@ -12,7 +12,8 @@ use Rattle.fc_bigdir.specs.Laws.{ReadsBack, HasWidths}
 use Rattle.fc_dirs.specs.BigBytes.{laid, free_bytes, checked_bytes, parts_bytes, parts_end, big_bytes, tail_word}
 use Rattle.fc_bigdir.proofs.WrittenEntries.{SaysEntries, says_entries}
 use Rattle.fc_bigdir.proofs.LaidLemmas.{SaysLaid, says_laid, size_bounds}
-use Rattle.fc_bigdir.proofs.WrittenChecks.{second_true, sum_over, check_of_parts, end_said, own_form_right, first_form_wrong, behind_heap_set}
+use Rattle.fc_bigdir.proofs.WrittenChecks.{sum_over, check_of_parts, end_said, own_form_right, first_form_wrong, behind_heap_set}
+use Rattle.fc_smalldir.proofs.SmallLemmas.{right_true as second_true}
 
 -- ---- what is read, in plain words
 

@@ -13,9 +13,7 @@ use Rattle.fc_smalldir.proofs.ReadLemmas.{take_bytes, drop_bytes}
 use Rattle.fc_dirs.proofs.SearchLemmas.{fails-find}
 use Rattle.fc_bigdir.proofs.EntryLemmas.{AreRight, named}
 use Rattle.fc_bigdir.proofs.FaultLemmas.{IsFramed, framed}
-
-pub length_at : (b : List ℕ) (at n : ℕ) → at + n ≤ length b → length (bytes_at b at n) ≡ n
-length_at b at n within = length-take-le n (drop at b) (omega (arith, length-drop at b))
+use Rattle.fc_smalldir.proofs.FaultLemmas.{length_at}
 
 -- Each is a byte.
 abbrev pub AreBytes : List ℕ → Type 0

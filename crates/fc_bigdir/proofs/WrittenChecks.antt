@@ -13,6 +13,8 @@ use Rattle.fc_dirs.specs.BigBytes.{tail_word, head_bytes, entry_bytes, entries_b
 use Rattle.fc_bigdir.specs.Laws.{AreBytes, HasWidths}
 use Rattle.fc_bigdir.proofs.FlipLemmas.{flipped}
 use Rattle.fc_bigdir.proofs.LaidLemmas.{SaysLaid, says_laid, length-parts, parts_whole}
+use Rattle.fc_smalldir.proofs.SmallLemmas.{right_true as second_true}
+use Rattle.std.proofs.lemmas.Bool.{false_from_ne_true as not_true}
 
 -- ---- words
 
@@ -137,14 +139,6 @@ own_form_right dir free check big len is =
     rw fit (eq-eqb _ _ same)
 
 -- ---- the first form, where the second is laid
-
-pub second_true : (a b : Bool) → (a && b) ≡ true → b ≡ true
-second_true true b is = is
-second_true false b is = absurd (cc)
-
-not_true : (b : Bool) → (b ≡ true → ⊥) → b ≡ false
-not_true false never = refl
-not_true true never = absurd (never refl)
 
 two_of : (xs : List ℕ) → length xs ≡ 2 → (a : ℕ) × (b : ℕ) × (xs ≡ a ∷ b ∷ [])
 two_of [] is = absurd (omega arith)

@@ -11,11 +11,7 @@ use Rattle.fc_dirs.specs.declared.Entry.{Entry}
 use Rattle.fc_dirs.specs.Big.{AllStand, StandsInHeap, FitsBig, big_entry, is_entry_right, name_place, entry_name_len}
 use Rattle.fc_dirs.specs.BigBytes.{entry_bytes, entries_bytes}
 use Rattle.fc_bigdir.specs.Laws.{HasWords}
-
--- one step further after a part
-pub behind : (bytes part rest : List ℕ) (at size next : ℕ) → drop at bytes ≡ part ++ rest → length part ≡ size → next ≡ at + size → drop next bytes ≡ rest
-behind bytes part rest at size next here is sum =
-    rw sum (sym (drop-drop size at bytes) ∙ ap (drop size) here ∙ drop_at part rest size is)
+use Rattle.fc_smalldir.proofs.LayoutLemmas.{step as behind}
 
 -- the words of an entry, each at its place
 pub record SaysWords (bytes : List ℕ) (a b c d f n p : ℕ) : Type 0 where

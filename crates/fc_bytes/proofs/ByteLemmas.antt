@@ -6,7 +6,7 @@ use Rattle.fc_bytes.specs.Bits.{bits, low_bits, num}
 use Rattle.fc_bytes.specs.BitLaws.{AreBytes, bits-drop, length-low_bits, num-low_bits}
 
 -- the first eight bits are those of the first byte
-first_bits : (x : ℕ) (xs : List ℕ) (k : ℕ) → k < 8 → get_or (bits (x ∷ xs)) k 0 ≡ get_or (low_bits 8 x) k 0
+pub first_bits : (x : ℕ) (xs : List ℕ) (k : ℕ) → k < 8 → get_or (bits (x ∷ xs)) k 0 ≡ get_or (low_bits 8 x) k 0
 unfolding bits
 first_bits x xs k low = get_or_append_left (low_bits 8 x) (bits xs) 0 k (omega (arith, length-low_bits 8 x))
 

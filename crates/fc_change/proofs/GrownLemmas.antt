@@ -62,13 +62,6 @@ growth_planned m is old left all bytes object from (growings.Moves growth addres
   id = id_then m is old left all bytes object from alone address plan.id t.id;
 }
 
--- Its parts rise.
-pub growth_rises : (m : Map) (object : Option Plan) (x : Growing) (dir : Option Plan) → IsGrowthPlan m object x dir → IfSome dir (λ (plan : Plan). AllPairs BeginsBefore (fronts plan.parts.items))
-growth_rises m object x None p = tt
-growth_rises m object growings.Nothing (Some plan) p = absurd (cc)
-growth_rises m object (growings.There q) (Some plan) p = absurd (cc)
-growth_rises m object (growings.Moves growth address alone) (Some plan) p = p.plan_is.rising
-
 -- It has no plan, or is alone as it was judged.
 pub alone_same : (m : Map) (h : Parts) (object : Option Plan) (grows : Option Growth) (x : Growing) (dir : Option Plan) → IsJudged m h grows x → IsGrowthPlan m object x dir
     → (dir ≡ None) ⊎ (alone_in x ≡ is_grown_alone h grows)
@@ -108,22 +101,3 @@ grown_is m h object (Some g) (growings.Moves growth address alone) (Some plan) (
   leads = subst (λ (k : Growth). LeadsTo m k.len plan (sectors_in q.extents.items)) j.growth_is t.leads;
   free = t.free;
 }
-
--- A directory that needs new space has a plan.
-pub new_space_of : (m : Map) (x : Growing) (dir : Option Plan) (growth : Growth) (address : ℕ) (alone : Bool) (plan : Plan) → x ≡ growings.Moves growth address alone → dir ≡ Some plan → IsPlannedAfter m x dir
-    → IsNewSpaceOf m growth address alone plan
-new_space_of m x dir growth address alone plan e f after = record {
-  bytes = after.bytes;
-  object = after.object;
-  own = after.own;
-  longer = subst IsLonger e after.longer;
-  space = subst (IsGrowthPlan m after.object (growings.Moves growth address alone)) f (subst (λ (y : Growing). IsGrowthPlan m after.object y dir) e after.plan);
-}
-
-pub never_planless : (m : Map) (x : Growing) (dir : Option Plan) (growth : Growth) (address : ℕ) (alone : Bool) → x ≡ growings.Moves growth address alone → dir ≡ None → IsPlannedAfter m x dir → ⊥
-never_planless m x dir growth address alone e f after = subst (IsGrowthPlan m after.object (growings.Moves growth address alone)) f (subst (λ (y : Growing). IsGrowthPlan m after.object y dir) e after.plan)
-
-pub moved_to : (m : Map) (x : Growing) (dir : Option Plan) (growth : Growth) (address : ℕ) (alone : Bool) (plan : Plan) (place : GrownPlace) → x ≡ growings.Moves growth address alone → dir ≡ Some plan
-    → IsMovedTo m growth address alone plan place → IsGrownTo m x dir (Some place)
-moved_to m x dir growth address alone plan place e f moved =
-    subst (λ (y : Growing). IsGrownTo m y dir (Some place)) (sym e) (subst (λ (d : Option Plan). IsMovedIf m growth address alone d (Some place)) (sym f) moved)

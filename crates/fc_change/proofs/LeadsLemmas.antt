@@ -3,7 +3,7 @@ use Rattle.std.proofs.Common.{◌≡◌, ◌<◌, ◌≤◌, ◌&&◌, ◌+◌, 
 use Rattle.std.specs.Prelude.{All, AllPairs, Contains, nat_lt}
 use Rattle.std.specs.List.{AllByRecursion}
 use Rattle.std.specs.Int.{div_ceil}
-use Rattle.std.proofs.lemmas.Bool.{le-leb, leb-true, lt-ltb, ltb-true, ne_eqb}
+use Rattle.std.proofs.lemmas.Bool.{le-leb, leb-true, lt-ltb, ltb-true, ne_eqb, and_parts as and_both}
 use Rattle.std.proofs.lemmas.List.Elements.{All-from_recursion, recursion_from_All}
 use Rattle.std.proofs.lemmas.List.Sorted.{All-permutation, sum_by-IsPermutation}
 use Rattle.std.proofs.lemmas.List.Sums.{sum_by-cons}
@@ -109,11 +109,6 @@ module _ (m m' : Map) (is : IsNewMap m) (same : m'.geometry ≡ m.geometry) (byt
       ∙ ap (λ (xs : List ℕ). let r : Option (List ℕ) = Some (take (div_ceil bytes m.geometry.sector) xs) in r) sectors_are
 
 -- ---- new space that is planned
-
-and_both : (a b : Bool) → (a && b) ≡ true → (a ≡ true) × (b ≡ true)
-and_both true true e = (refl, refl)
-and_both true false e = absurd (cc)
-and_both false b e = absurd (cc)
 
 -- the new space of a directory, planned after an object's
 module _ (m : Map) (is : IsNewMap m) (growth : Growth) (address : ℕ) (alone : Bool) (plan : Plan) (new : IsNewSpaceOf m growth address alone plan) where

@@ -71,12 +71,6 @@ never_so_many space n is many =
 pub whole_need : (space : OldMapContent) (n : ℕ) → IsOldMap space → old_need space n % space.sector_units ≡ 0
 whole_need space n is = none_over space.sector_units is.units (div_ceil n (256 * space.sector_units))
 
-pub some_need : (space : OldMapContent) (n : ℕ) → IsOldMap space → 0 < n → 0 < old_need space n
-some_need space n is some = let e = need_some space n is.units some in positive (old_need space n) e
-  where
-    positive : (k : ℕ) → (k == 0) ≡ false → 0 < k
-    positive k e = grind (arith, nat_tests, e)
-
 -- ---- what is answered
 
 -- the refusal, by what it is judged on
@@ -86,29 +80,8 @@ lack less some place = first_of (when less refusals.DiscFull ∷ when (some && i
 never_both : (start : ℕ) (e : TakeError) → (let r : Result ℕ TakeError = Ok start in r) ≡ Err e → ⊥
 never_both start e is = cc
 
-one_error : (a b : TakeError) → (let r : Result ℕ TakeError = Err a in r) ≡ Err b → a ≡ b
-one_error a b is = cc
-
 one_start : (a b : ℕ) → (let r : Result ℕ TakeError = Ok a in r) ≡ Ok b → a ≡ b
 one_start a b is = cc
-
-refusal_for : (a b : TakeError) → a ≡ b → (let o : Option Refusal = Some (refused_take a) in o) ≡ Some (refused_take b)
-refusal_for a b same = ap (λ (e : TakeError). let o : Option Refusal = Some (refused_take e) in o) same
-
--- Where the map answers an error, the command is refused for it.
-pub lacks : (space : OldMapContent) (n : ℕ) (e : TakeError) → IsOldMap space → 0 < n → take_answer (old_need space n) space.holes ≡ Err e → short_take space n ≡ Some (refused_take e)
-lacks space n e is some answer = by (first_fit_place (old_need space n) space.holes) (nat_lt (hole_sum space.holes) (old_need space n)) refl refl
-  where
-    by : (o : Option ℕ) (b : Bool) → first_fit_place (old_need space n) space.holes ≡ o → nat_lt (hole_sum space.holes) (old_need space n) ≡ b → short_take space n ≡ Some (refused_take e)
-    by (Some start) b at t = absurd (never_both start e (sym (take_answer-some (old_need space n) start space.holes at) ∙ answer))
-    by None true at t =
-        ap (λ (x : Bool). lack x (nat_lt 0 (old_need space n)) (first_fit_place (old_need space n) space.holes)) t
-        ∙ refusal_for DiscFull e (one_error DiscFull e (sym (take_answer-none (old_need space n) space.holes at ∙ ap shortage t) ∙ answer))
-    by None false at t =
-        ap (λ (x : Bool). lack x (nat_lt 0 (old_need space n)) (first_fit_place (old_need space n) space.holes)) t
-        ∙ ap (λ (x : Bool). lack false x (first_fit_place (old_need space n) space.holes)) (lt-ltb 0 (old_need space n) (some_need space n is some))
-        ∙ ap (lack false true) at
-        ∙ refusal_for CompactionRequired e (one_error CompactionRequired e (sym (take_answer-none (old_need space n) space.holes at ∙ ap shortage t) ∙ answer))
 
 -- Where it answers a place, that is the first fit,
 pub fits_at : (n start : ℕ) (holes : List Hole) → take_answer n holes ≡ Ok start → first_fit_place n holes ≡ Some start
@@ -131,12 +104,6 @@ no_lack space n start at =
     by : (b : Bool) → lack false b (Some start) ≡ None
     by true = refl
     by false = refl
-
--- No bytes lack nothing.
-pub none_lack : (space : OldMapContent) → IsOldMap space → short_take space 0 ≡ None
-none_lack space is =
-    ap (λ (k : ℕ). lack (nat_lt (hole_sum space.holes) k) (nat_lt 0 k) (first_fit_place k space.holes)) (none_needed space is.units)
-    ∙ ap (λ (x : Bool). lack x false (first_fit_place 0 space.holes)) (le-ltb (hole_sum space.holes) 0 (omega arith))
 
 pub some_bytes : (n : ℕ) → (n ≡ 0 → ⊥) → 0 < n
 some_bytes zero none = absurd (none refl)
@@ -206,9 +173,3 @@ after_is space w t is = by t.map is.map
     by : (o : Option OldMapContent) → IsMapNow space (map_taken space w.bytes) o → map_after space o ≡ map_taken space w.bytes
     by None e = sym e
     by (Some now) e = e.0
-
--- It is of the same disc.
-pub taken_disc : (space now : OldMapContent) (w : Wants) (t : Taken) → IsTakenFor space w t → t.map ≡ Some now → now ≡ holding space now.holes
-taken_disc space now w t is e =
-    let same : now ≡ map_taken space w.bytes = ap (map_after space) (sym e) ∙ after_is space w t is in
-    same ∙ ap (λ (m : OldMapContent). holding space m.holes) (sym same)

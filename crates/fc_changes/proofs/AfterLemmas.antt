@@ -4,7 +4,7 @@ use Rattle.std.specs.Prelude.{Contains, ◌==◌, ◌||◌, ◌&&◌, nat_lt}
 use Rattle.std.specs.List.{list_any}
 use Rattle.std.proofs.Math.Nat.{div-mul-le_self}
 use Rattle.std.proofs.lemmas.Nat.{le-div}
-use Rattle.std.proofs.lemmas.Bool.{eqb-true, eq-eqb}
+use Rattle.std.proofs.lemmas.Bool.{eqb-true, eq-eqb, false_from_ne_true as unless}
 use Rattle.std.proofs.lemmas.List.{drop-drop}
 use Rattle.std.proofs.lemmas.List.Elements.{All-nil, All-cons}
 use Rattle.fc_device.specs.Sectors.{sector_at}
@@ -33,18 +33,13 @@ use Rattle.fc_image.proofs.PathsLemmas.{itself}
 use Rattle.fc_image.specs.effects.Short.{Growth, growth_in}
 use Rattle.fc_image.specs.effects.Steady.{MapOutside, SameSectors, ZoneSteady, expected_zone, idle_sectors, zone0_after}
 use Rattle.fc_changes.specs.Owed.{IsMapAfter, IsWritten}
-use Rattle.fc_changes.proofs.BasicLemmas.{any_in, in_any, unless}
+use Rattle.fc_changes.proofs.BasicLemmas.{any_in, in_any}
 use Rattle.fc_changes.proofs.BeforeLemmas.{address_by, boot_stays, had, held_by, parts, sound}
 use Rattle.fc_changes.proofs.DirectoriesLemmas.{Lasts}
 use Rattle.fc_changes.proofs.OutsideLemmas.{AreBusy, idle_stay, same_behind}
+use Rattle.fc_image.proofs.HolesLemmas.{new_size}
 
-new_size : (kind : Kind) (r : DiscRecord) → IsNewKind kind r → disc_size kind ≡ r.size
-new_size (Boot s) r is = ap (λ (t : DiscRecord). t.size) is
-new_size (OneZone s) r is = ap (λ (t : DiscRecord). t.size) is
-new_size DiscD r is = absurd is
-new_size (DiscL units) r is = absurd is
-
-all_same : (size : ℕ) (image image' sectors : List ℕ) → HasSectorsOf size sectors image image' → SameSectors size sectors image image'
+pub all_same : (size : ℕ) (image image' sectors : List ℕ) → HasSectorsOf size sectors image image' → SameSectors size sectors image image'
 all_same size image image' [] same = All-nil (λ s. sector_at size image' s ≡ sector_at size image s)
 all_same size image image' (x ∷ sectors) same =
     All-cons (λ s. sector_at size image' s ≡ sector_at size image s) x sectors (same x (ap (λ b. b || is_among sectors x) (eq-eqb x x refl)))

@@ -8,17 +8,14 @@ use Rattle.std.proofs.lemmas.List.Elements.{Contains-append_cases}
 use Rattle.std.proofs.lemmas.List.Sorted.{IsPermutation-middle, IsPermutation-remove}
 use Rattle.fc_names.specs.Names.{Path}
 use Rattle.fc_model.specs.Tree.{holder}
-use Rattle.fc_image.proofs.EntriesLemmas.{same_some}
+use Rattle.fc_image.proofs.EntriesLemmas.{same_some, at_place as place_of}
+use Rattle.std.proofs.lemmas.Bool.{false_from_ne_true as unless, or_left, or_right as or_second}
 
 -- ---- tests
 
 pub clash : (b : Bool) → b ≡ true → b ≡ false → ⊥
 clash true y n = cc
 clash false y n = cc
-
-pub unless : (b : Bool) → (b ≡ true → ⊥) → b ≡ false
-unless true never = absurd (never refl)
-unless false never = refl
 
 pub or_false : (b : Bool) → (b || false) ≡ b
 or_false true = refl
@@ -27,14 +24,6 @@ or_false false = refl
 pub and_false : (b : Bool) → (b && false) ≡ false
 and_false true = refl
 and_false false = refl
-
-pub or_left : (a b : Bool) → a ≡ true → (a || b) ≡ true
-or_left true b h = refl
-or_left false b h = absurd (cc)
-
-pub or_second : (a b : Bool) → b ≡ true → (a || b) ≡ true
-or_second true b h = refl
-or_second false b h = h
 
 pub or_cases : (a b : Bool) → (a || b) ≡ true → (a ≡ true → ⊥) → (b ≡ true → ⊥) → ⊥
 or_cases true b h first second = first refl
@@ -119,11 +108,6 @@ holder_pushed path name =
     ap (λ (n : ℕ). take n (path ++ name ∷ [])) (let long = long_pushed path name in let e : length (path ++ name ∷ []) - 1 ≡ length path = omega (arith, long) in e) ∙ take_front path name
 
 -- ---- elements by number
-
-place_of : {X : Type 0} (xs : List X) (i : ℕ) (x : X) → slice_get xs i ≡ Some x → (i < length xs) × (x ≡ get_or xs i x)
-place_of [] i x e = absurd (cc)
-place_of (y ∷ xs) zero x e = (omega arith, sym (same_some y x e))
-place_of (y ∷ xs) (suc i) x e = let r = place_of xs i x e in (omega (arith, r.0), r.1)
 
 pub without_it : {X : Type 0} (xs : List X) (i : ℕ) (x : X) → slice_get xs i ≡ Some x → IsPermutation xs (x ∷ remove xs i)
 without_it xs i x at = let place = place_of xs i x at in IsPermutation-remove xs i x place.0 place.1

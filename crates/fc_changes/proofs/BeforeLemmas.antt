@@ -3,7 +3,7 @@ use Rattle.std.proofs.Common.{◌≡◌, ◌≤◌, ◌⊎◌, inl, inr, ℕ, Bo
 use Rattle.std.specs.Option.{option_map_or}
 use Rattle.std.specs.Prelude.{Contains, IsPermutation, filter, ◌==◌, ◌&&◌, nat_le}
 use Rattle.std.specs.Int.{div_ceil}
-use Rattle.std.proofs.lemmas.Bool.{leb-true}
+use Rattle.std.proofs.lemmas.Bool.{leb-true, false_from_ne_true as unless}
 use Rattle.std.proofs.lemmas.List.Elements.{Contains-append_left}
 use Rattle.std.proofs.lemmas.List.Sorted.{Contains-permutation, IsPermutation-sym}
 use Rattle.fc_names.specs.Names.{Path, is_same_path}
@@ -40,7 +40,7 @@ use Rattle.fc_image.proofs.MapEditLemmas.{all_listed, held_in, is_file, listed_o
 use Rattle.fc_image.proofs.RenameLemmas.{alone, child_path}
 use Rattle.fc_image.proofs.LookupLemmas.{lookup_law}
 use Rattle.fc_image.proofs.TreeLemmas.{tree_edit_law}
-use Rattle.fc_changes.proofs.BasicLemmas.{cases_cons, clash, first_in, holder_pushed, in_flat, next_in, unless}
+use Rattle.fc_changes.proofs.BasicLemmas.{cases_cons, clash, first_in, holder_pushed, in_flat, next_in}
 
 -- ---- copies
 

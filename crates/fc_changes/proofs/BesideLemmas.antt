@@ -10,12 +10,12 @@ use Rattle.fc_image.specs.Walk.{Listing, Object, reader_of}
 use Rattle.fc_image.specs.Objects.{has_sectors, is_owned, is_owner_of, owner_count}
 use Rattle.fc_image.specs.Edits.{IsListing, StayListed}
 use Rattle.fc_image.specs.Commanded.{Each}
-use Rattle.fc_image.proofs.OneZoneLemmas.{and_second}
 use Rattle.fc_image.proofs.PathsLemmas.{many}
 use Rattle.fc_image.proofs.RenameLemmas.{many_shuffled}
 use Rattle.fc_image.specs.effects.Short.{is_sharing}
 use Rattle.fc_changes.specs.Owed.{GivesBack}
 use Rattle.fc_changes.proofs.BasicLemmas.{any_in, cases_cons, first_in, in_any, next_in}
+use Rattle.fc_record.proofs.KindLemmas.{and_second}
 
 -- how many pass a test
 pub counted : (t : Object → Bool) (xs : List Object) → length (filter t xs) ≡ many t xs

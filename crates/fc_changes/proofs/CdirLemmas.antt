@@ -44,14 +44,15 @@ use Rattle.fc_changes.proofs.AfterLemmas.{still_owns}
 use Rattle.fc_changes.proofs.BasicLemmas.{cases_cons, first_in, map_or_none, next_in, nothing_in}
 use Rattle.fc_changes.proofs.BeforeLemmas.{address_by, opened_as}
 use Rattle.fc_changes.proofs.DirectoriesLemmas.{moved_none, plain_cdir}
-use Rattle.fc_changes.proofs.MadeLemmas.{free_name, stands_new, turned}
+use Rattle.fc_changes.proofs.MadeLemmas.{free_name, stands_new}
 use Rattle.fc_changes.proofs.NewPlaceLemmas.{NewPlace, new_place}
 use Rattle.fc_changes.proofs.PlacedLemmas.{id_is, same_left}
 use Rattle.fc_changes.proofs.ReadsLemmas.{LiesIn, lies_in, other_dir, told}
 use Rattle.fc_changes.proofs.ChangeLemmas.{Change, Edited, behind_now, directories_now, edit, in_place, l_in, l_there, objects_now, opened, outside_now, says, sound_now, space_now, stay_is, top}
+use Rattle.fc_image.proofs.EditLemmas.{apart_turned as turned}
 
 -- a new directory is read as it was written
-new_reads : (form : NameForm) (bytes : List ℕ) (parent : ℕ) (name : List ℕ) → AreWritten bytes (new_directory form parent name) → directory_of form bytes ≡ Ok (new_directory form parent name)
+pub new_reads : (form : NameForm) (bytes : List ℕ) (parent : ℕ) (name : List ℕ) → AreWritten bytes (new_directory form parent name) → directory_of form bytes ≡ Ok (new_directory form parent name)
 new_reads Seven bytes parent name written =
     told (small_fault Bytes1280 bytes) (Directory.Small (small_dir Bytes1280 bytes)) (Directory.Small (empty_small Bytes1280 parent name)) written.reads.right (ap (λ d. Directory.Small d) written.reads.says)
 new_reads Ten bytes parent name written =
@@ -59,12 +60,12 @@ new_reads Ten bytes parent name written =
 new_reads Long bytes parent name written =
     told (big_fault bytes) (Directory.Big (big_dir bytes)) (Directory.Big (empty_big parent name)) written.reads.right (ap (λ d. Directory.Big d) written.reads.says)
 
-none_in_new : (form : NameForm) (parent : ℕ) (name : List ℕ) → entries_of (new_directory form parent name) ≡ []
+pub none_in_new : (form : NameForm) (parent : ℕ) (name : List ℕ) → entries_of (new_directory form parent name) ≡ []
 none_in_new Seven parent name = refl
 none_in_new Ten parent name = refl
 none_in_new Long parent name = refl
 
-size_of_new : (form : NameForm) → directory_size form (new_dir_size form) ≡ new_dir_size form
+pub size_of_new : (form : NameForm) → directory_size form (new_dir_size form) ≡ new_dir_size form
 size_of_new Seven = refl
 size_of_new Ten = refl
 size_of_new Long = refl

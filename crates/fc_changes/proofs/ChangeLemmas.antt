@@ -3,7 +3,7 @@ use Rattle.std.proofs.Common.{◌≡◌, ◌<◌, ◌≤◌, inl, inr, ℕ, zero
 use Rattle.std.specs.Prelude.{Ok, Err, Contains, IsPermutation, ◌==◌, ◌&&◌, ◌||◌, nat_le}
 use Rattle.std.specs.List.{list_any}
 use Rattle.std.specs.Int.{div_ceil}
-use Rattle.std.proofs.lemmas.Bool.{eqb-true, leb-true}
+use Rattle.std.proofs.lemmas.Bool.{eqb-true, leb-true, false_from_ne_true as unless, or_right as or_second}
 use Rattle.std.proofs.lemmas.Grind.{div_ceil_times}
 use Rattle.std.proofs.lemmas.List.{append_assoc}
 use Rattle.std.proofs.lemmas.List.Elements.{Contains-append_cases, Contains-append_left, Contains-append_right}
@@ -42,7 +42,7 @@ use Rattle.fc_image.specs.effects.Short.{growth_in}
 use Rattle.fc_image.specs.effects.Placed.{holes_left}
 use Rattle.fc_image.specs.effects.Steady.{AreWritten, DirectoriesSteady, IsRewritten, holes_untaken, MapOutside, NewMapSteady, edited, expected_zone, holds_named, idle_sectors, is_given_back, is_gone, named_entry}
 use Rattle.fc_changes.specs.Owed.{GivesBack, IsBefore, IsDirectoryWritten, IsMapAfter, IsSpaceEdit, IsWritten}
-use Rattle.fc_changes.proofs.BasicLemmas.{and_false, any_in, cases_cons, clash, first_in, in_any, long_pushed, next_in, not_zero, nothing_in, or_cases, or_second, unless}
+use Rattle.fc_changes.proofs.BasicLemmas.{and_false, any_in, cases_cons, clash, first_in, in_any, long_pushed, next_in, not_zero, nothing_in, or_cases}
 use Rattle.fc_changes.proofs.BeforeLemmas.{Had, boot_stays, had, listed_in, map_edit, object_lies, other_path, parts, says_old, sound}
 use Rattle.fc_changes.proofs.DirectoriesLemmas.{IsPlain, Lasts, Stays, all_steady, written_steady}
 use Rattle.fc_changes.proofs.OutsideLemmas.{AreBusy, both_busy, low_owned, no_owner_low, object_busy, object_owns}
@@ -95,7 +95,7 @@ pub record Change : Type 0 where
 
 -- ---- objects with sectors
 
-ceil_some : (bytes size : ℕ) → 0 < bytes → 0 < size → 0 < div_ceil bytes size
+pub ceil_some : (bytes size : ℕ) → 0 < bytes → 0 < size → 0 < div_ceil bytes size
 ceil_some bytes size some pos = by (div_ceil bytes size) (div_ceil_times bytes size pos).0
   where
     by : (n : ℕ) → bytes ≤ n * size → 0 < n

@@ -62,7 +62,7 @@ same_part (suc a) n (x ∷ xs) [] long same = absurd (omega (arith, long))
 same_part (suc a) n (x ∷ xs) (y ∷ ys) long same = same_part a n xs ys (omega (arith, long)) (λ k h g. same (suc k) (omega (arith, h)) (omega (arith, g)))
 
 -- what agrees from one place on agrees in each part after it
-part_behind : (a from n : ℕ) (xs ys : List ℕ) → a ≤ from → drop a ys ≡ drop a xs → take n (drop from ys) ≡ take n (drop from xs)
+pub part_behind : (a from n : ℕ) (xs ys : List ℕ) → a ≤ from → drop a ys ≡ drop a xs → take n (drop from ys) ≡ take n (drop from xs)
 part_behind a from n xs ys low same =
     let at : a + (from - a) ≡ from = omega (arith, low) in
     ap (λ (k : ℕ). take n (drop k ys)) (sym at) ∙ ap (take n) (sym (drop-drop (from - a) a ys)) ∙ ap (λ (zs : List ℕ). take n (drop (from - a) zs)) same ∙ ap (take n) (drop-drop (from - a) a xs)
@@ -88,7 +88,7 @@ index_part (suc a) n k [] low = index_take n k [] low ∙ ap (slice_index []) (l
 index_part (suc a) n k (x ∷ xs) low = index_part a n k xs low ∙ ap (slice_index (x ∷ xs)) (let e : suc (a + k) ≡ suc a + k = omega arith in e)
 
 -- holes begin in the zone's bits
-starts_high : (s : ZoneShape) (bs : List ℕ) (at : ℕ) (runs : List Run) (end : ℕ) → Spells s bs at runs end → AllByRecursion (λ p. at ≤ p) (hole_starts runs)
+pub starts_high : (s : ZoneShape) (bs : List ℕ) (at : ℕ) (runs : List Run) (end : ℕ) → Spells s bs at runs end → AllByRecursion (λ p. at ≤ p) (hole_starts runs)
 starts_high s bs at [] end spelled = tt
 starts_high s bs at (run ∷ runs) end spelled =
     by run.kind (higher (hole_starts runs) (starts_high s bs (at + run.len) runs end spelled.3))
@@ -194,7 +194,7 @@ committed_law m mid m' start image' edits kept contents ends = committed m mid m
 
 -- ---- runs
 
-all_same : (m m' : Map) → KeepsRuns m m' → (zones : List ℕ) → runs_in m' zones ≡ runs_in m zones
+pub all_same : (m m' : Map) → KeepsRuns m m' → (zones : List ℕ) → runs_in m' zones ≡ runs_in m zones
 all_same m m' kept [] = refl
 all_same m m' kept (z ∷ zones) = ap₂ (λ (runs : List Run) (others : List ZoneRun). placed z runs ++ others) (kept.runs z) (all_same m m' kept zones)
 

@@ -3,7 +3,7 @@ use Rattle.std.proofs.Common.{◌≡◌, ◌<◌, ◌≤◌, inl, inr, zero, suc
 use Rattle.std.specs.Prelude.{Ok, Err, Contains, IsPermutation, IfSome, IsSomeAnd, insert, remove, not, filter, drop, ◌&&◌, ◌||◌, ◌==◌, nat_le, nat_lt}
 use Rattle.std.specs.List.{list_any}
 use Rattle.std.specs.Option.{option_map_or}
-use Rattle.std.proofs.lemmas.Bool.{eqb-true, lt-ltb}
+use Rattle.std.proofs.lemmas.Bool.{eqb-true, lt-ltb, false_from_ne_true as unless, or_left, or_right as or_second, not-true as not_true}
 use Rattle.std.proofs.lemmas.List.Elements.{Contains-append_left, Contains-append_right}
 use Rattle.std.proofs.lemmas.List.Sorted.{Contains-permutation, IsPermutation-append_left, IsPermutation-append_right, IsPermutation-cons, IsPermutation-insert, IsPermutation-middle, IsPermutation-refl, IsPermutation-sym, IsPermutation-trans, length_permutation}
 use Rattle.fc_names.specs.declared.name.NameForm.{NameForm}
@@ -36,12 +36,11 @@ use Rattle.fc_image.specs.Commanded.{IsMoved}
 use Rattle.fc_image.specs.MapEdits.{IsMapEdit, IsNewMapEdit, KeepsPlace, OpensEdited}
 use Rattle.fc_image.specs.InPlace.{says_now}
 use Rattle.fc_image.proofs.CommandLemmas.{command_law, objects_law, other_path as not_there, same_by_folds}
-use Rattle.fc_image.proofs.EditLemmas.{stay_law}
+use Rattle.fc_image.proofs.EditLemmas.{stay_law, apart_turned as turned}
 use Rattle.fc_image.proofs.EntriesLemmas.{entries_law, from_filter, from_map, in_filter, in_mapped, same_some}
 use Rattle.fc_image.proofs.HolesLemmas.{Lies, apart_at, apart_from, in_id}
 use Rattle.fc_image.proofs.LookupLemmas.{lookup_law}
 use Rattle.fc_image.proofs.MapEditLemmas.{file_stays, is_file, known_apart, known_root, map_edit_law, places_law}
-use Rattle.fc_image.proofs.MoveLemmas.{not_true}
 use Rattle.fc_image.proofs.OrderLemmas.{apart_shuffled}
 use Rattle.fc_image.proofs.PathsLemmas.{itself}
 use Rattle.fc_image.proofs.RelistLemmas.{apart_behind, edited_apart_law, map_itself, prefix_long, prefix_step}
@@ -58,12 +57,12 @@ use Rattle.fc_plan.proofs.Units.{units_some}
 use Rattle.fc_changes.specs.Owed.{GivesBack, IsDirectoryWritten}
 use Rattle.fc_changes.specs.Changed.{IsChanged}
 use Rattle.fc_changes.specs.Copied.{CopiedLaw, IsCopyChange}
-use Rattle.fc_changes.proofs.BasicLemmas.{and_false, any_in, cases_cons, clash, first_in, in_any, in_flat, long_pushed, next_in, not_zero, or_cases, or_left, or_second, unless, without_it}
+use Rattle.fc_changes.proofs.BasicLemmas.{and_false, any_in, cases_cons, clash, first_in, in_any, in_flat, long_pushed, next_in, not_zero, or_cases, without_it}
 use Rattle.fc_changes.proofs.BeforeLemmas.{Had, boot_stays, child_in, had, listed_in, map_edit, object_from, object_lies, opened_as, other_path, parts, says_old, sound}
 use Rattle.fc_changes.proofs.BesideLemmas.{all_listed, each_itself, shared_stays, three}
 use Rattle.fc_changes.proofs.ChangeLemmas.{a_sector, opened}
 use Rattle.fc_changes.proofs.DirectoriesLemmas.{Lasts, entries_now, no_new_holder}
-use Rattle.fc_changes.proofs.MadeLemmas.{file_low_small, stands_new, turned}
+use Rattle.fc_changes.proofs.MadeLemmas.{file_low_small, stands_new}
 use Rattle.fc_changes.proofs.MovedLemmas.{both_apart}
 use Rattle.fc_changes.proofs.NewPlaceLemmas.{NewPlace, new_place}
 use Rattle.fc_changes.proofs.OutsideLemmas.{AreBusy, both_busy, no_owner_low, object_busy}

@@ -38,13 +38,13 @@ use Rattle.fc_changes.proofs.SpaceLemmas.{untaken_is}
 use Rattle.fc_changes.proofs.ReadsLemmas.{LiesIn, entry_at, lies_in, other_dir, same_name_turned}
 use Rattle.fc_changes.proofs.ChangeLemmas.{Change, Edited, behind_now, directories_now, edit, in_place, l_in, opened, outside_now, says, space_now, top}
 
-none_held : (out : List Listing) (o : Object) → GoesAlone out o → held out ≡ []
+pub none_held : (out : List Listing) (o : Object) → GoesAlone out o → held out ≡ []
 none_held [] o alone = refl
 none_held (d ∷ []) o alone = ap (λ (os : List Object). os ++ []) alone.2
 none_held (d ∷ e ∷ out) o alone = absurd alone
 
 -- what goes stood at the path
-goes_at : (path : Path) (out : List Listing) (o : Object) → GoesAlone out o → is_same_path path o.path ≡ true → (k : Listing) → Contains out k → is_same_path path k.object.path ≡ true
+pub goes_at : (path : Path) (out : List Listing) (o : Object) → GoesAlone out o → is_same_path path o.path ≡ true → (k : Listing) → Contains out k → is_same_path path k.object.path ≡ true
 goes_at path [] o alone same k at = absurd (nothing_in k at)
 goes_at path (d ∷ []) o alone same k at = elim (cases_cons d [] k at) [
   | inl is ↦ ap (λ (x : Listing). is_same_path path x.object.path) (sym is) ∙ ap (λ (x : Object). is_same_path path x.path) alone.0 ∙ same

@@ -21,7 +21,8 @@ use Rattle.fc_image.proofs.LookupLemmas.{lookup_law}
 use Rattle.fc_image.proofs.PathsLemmas.{itself}
 use Rattle.fc_image.specs.effects.Short.{growth_in, moved_growth}
 use Rattle.fc_image.specs.effects.Steady.{AreWritten, BigNameAfter, DirectoriesSteady, DirectorySteady, HasName, IsRewritten, edited, entries_after, gets_parent, grown_object, has_new_holder, holds_named, is_gone, is_renamed_by, named_entry, path_after, regrown_entry, small_name_after, with_made, without_name}
-use Rattle.fc_changes.proofs.BasicLemmas.{and_then_none, cases_cons, clash, map_or_none, map_same, or_left}
+use Rattle.fc_changes.proofs.BasicLemmas.{and_then_none, cases_cons, clash, map_or_none, map_same}
+use Rattle.std.proofs.lemmas.Bool.{or_left}
 
 -- ---- commands that change no path
 

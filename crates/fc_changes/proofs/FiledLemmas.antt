@@ -41,10 +41,11 @@ use Rattle.fc_changes.proofs.BasicLemmas.{cases_cons, clash, first_in, map_or_no
 use Rattle.fc_changes.proofs.BeforeLemmas.{opened_as, parts, sound}
 use Rattle.fc_changes.proofs.DirectoriesLemmas.{IsPlain, moved_none, plain_create, plain_save}
 use Rattle.fc_changes.proofs.NewPlaceLemmas.{NewPlace, file_place}
-use Rattle.fc_changes.proofs.MadeLemmas.{file_low_small, free_name, no_slack, stands_new, turned}
+use Rattle.fc_changes.proofs.MadeLemmas.{file_low_small, free_name, no_slack, stands_new}
 use Rattle.fc_changes.proofs.PlacedLemmas.{found_in, id_is, is_shared, same_bits, same_left}
 use Rattle.fc_changes.proofs.ReadsLemmas.{LiesIn, changed_entry, entry_at, lies_in, other_dir}
 use Rattle.fc_changes.proofs.ChangeLemmas.{Change, Edited, behind_now, directories_now, edit, in_place, l_in, objects_now, opened, outside_now, says, sound_now, space_now, stay_in, stay_is, top}
+use Rattle.fc_image.proofs.EditLemmas.{apart_turned as turned}
 
 -- the command makes an object of n bytes at the path
 pub record MakesObject (c : Command) (path : Path) (n : ℕ) : Type 0 where
@@ -98,7 +99,7 @@ makes_create path load exec len = record {
 
 -- ---- by whether there was a file
 
-abbrev kids_of : Option Object → Listing → ℕ → List Object
+abbrev pub kids_of : Option Object → Listing → ℕ → List Object
 kids_of None l i = l.children
 kids_of (Some p) l i = remove l.children i
 
@@ -115,11 +116,11 @@ edit_made kind r own image image' v m m' root rest l content i o more None path 
 edit_made kind r own image image' v m m' root rest l content i o more (Some p) path made e comes file =
     in_place_law.file_changed kind r own image image' v m m' root rest l content more i p o e made.1 made.0 comes made.2 file
 
-file_of : (old : Option Object) (path : Path) (l : Listing) (content : Directory) (i : ℕ) (o : Object) → IsEntryMade old path l content i o.entry → is_directory_object o ≡ false
+pub file_of : (old : Option Object) (path : Path) (l : Listing) (content : Directory) (i : ℕ) (o : Object) → IsEntryMade old path l content i o.entry → is_directory_object o ≡ false
 file_of None path l content i o made = ap is_directory made.2
 file_of (Some p) path l content i o made = ap is_directory made.4 ∙ made.2
 
-stood_at : (ls : List Listing) (path : Path) (old : Option Object) → object_at ls path ≡ old → AreAt path (option_to_list old)
+pub stood_at : (ls : List Listing) (path : Path) (old : Option Object) → object_at ls path ≡ old → AreAt path (option_to_list old)
 stood_at ls path None h = tt
 stood_at ls path (Some p) h = ((found_in (λ (o : Object). is_same_path path o.path) (objects_of ls) p h).1, tt)
 

@@ -1,7 +1,7 @@
 -- A new object: what it is called, and where it lies.
 use Rattle.std.proofs.Common.{◌≡◌, ◌<◌, ◌≤◌, ℕ, Bool, true, false, cond, List, [], ◌∷◌, ◌++◌, length, refl, sym, subst, ◌∙◌, arith, Some, None, Option}
 use Rattle.std.specs.Prelude.{Contains, is_some, ◌==◌}
-use Rattle.std.proofs.lemmas.Bool.{eq-eqb}
+use Rattle.std.proofs.lemmas.Bool.{eq-eqb, false_from_ne_true as unless}
 use Rattle.std.proofs.lemmas.List.Sorted.{Contains-permutation}
 use Rattle.fc_names.specs.Names.{Path, is_same_name, is_same_path}
 use Rattle.fc_record.specs.declared.DiscRecord.{DiscRecord}
@@ -27,11 +27,12 @@ use Rattle.fc_image.specs.effects.Sharing.{slack, slack_among, units}
 use Rattle.fc_image.specs.effects.Placed.{IsNewId, IsTaken, has_spare_share, StandsInNewSpace, file_low, first_low}
 use Rattle.fc_changes.specs.Owed.{IsSpaceEdit}
 use Rattle.fc_changes.specs.Changed.{IsInNewSpace}
-use Rattle.fc_changes.proofs.BasicLemmas.{any_in, first_in, unless}
+use Rattle.fc_changes.proofs.BasicLemmas.{any_in, first_in}
 use Rattle.fc_changes.proofs.BeforeLemmas.{child_in, parts, sound}
 use Rattle.fc_changes.proofs.PlacedLemmas.{found_in, id_is, low_is, runs_are, some_parts, taken}
 use Rattle.fc_changes.proofs.ReadsLemmas.{object_of_entry, same_path_of}
 use Rattle.fc_changes.proofs.ChangeLemmas.{opened, says}
+use Rattle.fc_image.proofs.EditLemmas.{apart_turned as turned}
 
 -- ---- names
 
@@ -55,9 +56,6 @@ free_name kind r image m ls new opens l at says path name same none = unless (ha
     some_entry (Some x) h g = (x, h)
 
 -- ---- places
-
-pub turned : (xs ys : List ℕ) → is_apart xs ys ≡ true → is_apart ys xs ≡ true
-turned xs ys e = apart_from ys xs (λ s i j. let no' = apart_at xs ys s e j in cc)
 
 pub file_low_small : (g : Geometry) (space n : ℕ) → file_low g space n < 256
 file_low_small g space n = one_or_none (has_spare_share g space n)

@@ -84,17 +84,18 @@ use Rattle.fc_image.specs.effects.Short.{Growth, is_copied, new_length}
 use Rattle.fc_image.specs.effects.Placed.{GrowthPlacedIn, NewObjectPlaced}
 use Rattle.fc_image.specs.effects.Sharing.{units}
 use Rattle.fc_image.specs.effects.Steady.{is_moved_by, DirectorySteady, HasName, IsKept, IsWrittenAnew, NamedStays, RenamedHead, gets_parent, is_renamed_by, path_after, replaced_entry, without_name}
-use Rattle.fc_changes.proofs.BasicLemmas.{clash, long_pushed, or_left, or_second, holder_pushed, unless}
+use Rattle.fc_changes.proofs.BasicLemmas.{clash, long_pushed, holder_pushed}
 use Rattle.fc_changes.proofs.BeforeLemmas.{address_by, held_by, opened_as}
 use Rattle.fc_changes.proofs.ChangeLemmas.{opened}
 use Rattle.fc_changes.proofs.DirectoriesLemmas.{entries_now, no_new_holder}
-use Rattle.fc_changes.proofs.MadeLemmas.{turned}
 use Rattle.fc_changes.proofs.OutsideLemmas.{both_busy}
 use Rattle.fc_changes.proofs.ReadsLemmas.{same_name_turned}
 use Rattle.fc_changes.proofs.RewordedLemmas.{Mapped, mapped, no_space_edit, ok_same, same_address}
 use Rattle.fc_image.proofs.CommandLemmas.{is_prefix_of, prefix_is}
 use Rattle.std.proofs.lemmas.List.{take-take}
 use Rattle.fc_changes.proofs.RenamedLemmas.{each_apart, folds_append}
+use Rattle.std.proofs.lemmas.Bool.{false_from_ne_true as unless, or_left, or_right as or_second}
+use Rattle.fc_image.proofs.EditLemmas.{apart_turned as turned}
 
 -- both parts are apart
 pub both_apart : (xs ys zs : List ℕ) → is_apart xs ys ≡ true → is_apart xs zs ≡ true → is_apart xs (ys ++ zs) ≡ true
@@ -112,7 +113,7 @@ holder_folds p = go (length p - 1) p
     go (suc n) (x ∷ q) = ap (λ (zs : Path). folded x ∷ zs) (go n q)
 
 -- what isn't below a path has a holder that isn't
-holder_not : (from p : Path) → is_prefix (folded_path from) (folded_path p) ≡ false → is_prefix (folded_path from) (folded_path (holder p)) ≡ false
+pub holder_not : (from p : Path) → is_prefix (folded_path from) (folded_path p) ≡ false → is_prefix (folded_path from) (folded_path (holder p)) ≡ false
 holder_not from p no' = unless (is_prefix (folded_path from) (folded_path (holder p))) (λ h.
     let n = length p - 1 in
     let cut' = prefix_is (folded_path from) (folded_path (holder p)) h in

@@ -2,7 +2,7 @@
 use Rattle.std.proofs.Common.{◌≡◌, ◌<◌, ◌≤◌, inl, inr, ℕ, ◌+◌, ◌*◌, ◌/◌, Bool, true, false, cond, List, [], ◌∷◌, length, refl, sym, ap, ap₂, subst, ◌∙◌, arith, Some, eq-eqb}
 use Rattle.std.specs.Prelude.{Contains, ◌==◌, ◌&&◌, ◌||◌, nat_lt}
 use Rattle.std.specs.List.{list_any}
-use Rattle.std.proofs.lemmas.Bool.{eqb-true, le-leb, lt-ltb, ltb-true}
+use Rattle.std.proofs.lemmas.Bool.{eqb-true, le-leb, lt-ltb, ltb-true, or_right as or_second}
 use Rattle.fc_names.specs.Names.{Path}
 use Rattle.fc_names.specs.declared.name.NameForm.{NameForm}
 use Rattle.fc_names.specs.declared.name.NameForm.TheVariants.{Long, Ten}
@@ -25,16 +25,16 @@ use Rattle.fc_image.proofs.EntriesLemmas.{same_some}
 use Rattle.fc_image.proofs.HolesLemmas.{apart_at, apart_from, holes_law, in_id, loose_sectors, no_hole_in, none_loose}
 use Rattle.fc_image.proofs.MapEditLemmas.{places_law}
 use Rattle.fc_image.proofs.MoveLemmas.{id_loose}
-use Rattle.fc_image.proofs.OneZoneLemmas.{and_first, and_second}
 use Rattle.fc_image.specs.effects.Placed.{file_low, has_spare_share}
 use Rattle.fc_changes.specs.Owed.{GivesBack, IsSpaceEdit}
 use Rattle.fc_changes.specs.Changed.{IsFileAt, IsInNewSpace, IsInSlack, IsNowhere}
-use Rattle.fc_changes.proofs.BasicLemmas.{any_in, clash, first_in, or_second}
+use Rattle.fc_changes.proofs.BasicLemmas.{any_in, clash, first_in}
 use Rattle.fc_changes.proofs.BeforeLemmas.{object_lies, parts}
 use Rattle.fc_changes.proofs.ChangeLemmas.{a_sector, opened}
 use Rattle.fc_changes.proofs.OutsideLemmas.{AreBusy, holes_busy, object_owns, owned_busy}
 use Rattle.fc_changes.proofs.PlacedLemmas.{IsShared, high, id_is, in_holes, is_shared, unused}
 use Rattle.fc_changes.proofs.SpaceLemmas.{runs_stay, still_owned}
+use Rattle.fc_record.proofs.KindLemmas.{and_first, and_second}
 
 -- The new object's identifier is free, or owned already, and its sectors are nobody's.
 pub record NewPlace (kind : Kind) (m : Map) (objects stay : List Object) (id : ℕ) (parts : List ZoneRun) (o : Object) : Type 0 where
@@ -46,19 +46,19 @@ pub record NewPlace (kind : Kind) (m : Map) (objects stay : List Object) (id : �
   pub busy : AreBusy m objects o.sectors
 
 -- the identifier of an owner
-owner_id : (k : ℕ) (o : Object) → is_owner_of k o ≡ true → id_of o.entry.address ≡ k
+pub owner_id : (k : ℕ) (o : Object) → is_owner_of k o ≡ true → id_of o.entry.address ≡ k
 owner_id k o own = eqb-true (id_of o.entry.address) k (and_second (has_sectors o) (id_of o.entry.address == k) own)
 
-some_of : (sectors : List ℕ) → nat_lt 0 (length sectors) ≡ true → (s : ℕ) × (is_among sectors s ≡ true)
+pub some_of : (sectors : List ℕ) → nat_lt 0 (length sectors) ≡ true → (s : ℕ) × (is_among sectors s ≡ true)
 some_of [] h = absurd (let low = ltb-true 0 0 h in omega arith)
 some_of (x ∷ sectors) h = (x, ap (λ b. b || is_among sectors x) (eq-eqb x x refl))
 
-some_there : (xs : List ℕ) (t : ℕ) → is_among xs t ≡ true → nat_lt 0 (length xs) ≡ true
+pub some_there : (xs : List ℕ) (t : ℕ) → is_among xs t ≡ true → nat_lt 0 (length xs) ≡ true
 some_there [] t h = absurd (cc)
 some_there (x ∷ xs) t h = lt-ltb 0 (length (x ∷ xs)) (omega arith)
 
 -- the sectors of bytes, some
-by_new : (m : Map) (address n : ℕ) (sectors : List ℕ) → 0 < n → sectors_at (Layout.New m) address n ≡ Some sectors → new_sectors m address n ≡ Some sectors
+pub by_new : (m : Map) (address n : ℕ) (sectors : List ℕ) → 0 < n → sectors_at (Layout.New m) address n ≡ Some sectors → new_sectors m address n ≡ Some sectors
 unfolding sectors_at
 by_new m address n sectors some h = by (n == 0) refl h
   where
@@ -66,7 +66,7 @@ by_new m address n sectors some h = by (n == 0) refl h
     by true e g = absurd (let none = eqb-true n 0 e in omega (arith, none, some))
     by false e g = g
 
-none_at : (layout : Layout) (address : ℕ) (sectors : List ℕ) → sectors_at layout address 0 ≡ Some sectors → sectors ≡ []
+pub none_at : (layout : Layout) (address : ℕ) (sectors : List ℕ) → sectors_at layout address 0 ≡ Some sectors → sectors ≡ []
 unfolding sectors_at
 none_at layout address sectors h = sym (same_some [] sectors h)
 

@@ -2,7 +2,7 @@
 use Rattle.std.proofs.Common.{◌≡◌, ◌<◌, ◌≤◌, inl, inr, ℕ, zero, suc, ◌+◌, ◌*◌, Bool, true, false, List, [], ◌∷◌, ◌++◌, length, take, drop, refl, sym, ap, ap₂, subst, ◌∙◌, arith, Some, eq-eqb}
 use Rattle.std.specs.Prelude.{Ok, Err, Contains, filter, not, ◌==◌, ◌&&◌, ◌||◌, nat_le, nat_lt}
 use Rattle.std.specs.List.{list_any}
-use Rattle.std.proofs.lemmas.Bool.{cases_lt, eqb-true, leb-false, lt-ltb, ltb-true}
+use Rattle.std.proofs.lemmas.Bool.{cases_lt, eqb-true, leb-false, lt-ltb, ltb-true, false_from_ne_true as unless, not-true as not_true}
 use Rattle.std.proofs.lemmas.List.{drop-drop, drop_all, take-append-drop}
 use Rattle.fc_device.specs.Sectors.{sector_at}
 use Rattle.fc_zone.specs.declared.RunKind.{RunKind}
@@ -17,11 +17,11 @@ use Rattle.fc_image.specs.Objects.{has_sectors, is_owned, is_owner_of}
 use Rattle.fc_image.specs.Written.{WritesOnly}
 use Rattle.fc_image.specs.Edits.{IsAt}
 use Rattle.fc_image.proofs.HolesLemmas.{apart_from, in_id}
-use Rattle.fc_image.proofs.OneZoneLemmas.{and_first, and_second}
-use Rattle.fc_image.proofs.MoveLemmas.{all_filter, not_true}
+use Rattle.fc_image.proofs.MoveLemmas.{all_filter}
 use Rattle.fc_image.specs.effects.Steady.{SameSectors, is_idle}
-use Rattle.fc_changes.proofs.BasicLemmas.{any_in, clash, in_any, unless}
+use Rattle.fc_changes.proofs.BasicLemmas.{any_in, clash, in_any}
 use Rattle.fc_changes.proofs.BeforeLemmas.{id_high}
+use Rattle.fc_record.proofs.KindLemmas.{and_first, and_second}
 
 pub no_sectors : (xs : List ℕ) → is_apart xs [] ≡ true
 no_sectors xs = apart_from xs [] (λ s a b. absurd (cc))

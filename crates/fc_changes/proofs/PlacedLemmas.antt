@@ -5,7 +5,7 @@ use Rattle.std.specs.List.{flat_map, fold, list_all, range_with_len}
 use Rattle.std.specs.Option.{option_map_or}
 use Rattle.std.proofs.Math.Nat.{div-mul-le_self, mul-le-mul_right}
 use Rattle.std.proofs.lemmas.Nat.{le-div}
-use Rattle.std.proofs.lemmas.Bool.{ltb-true}
+use Rattle.std.proofs.lemmas.Bool.{ltb-true, not-true as not_true}
 use Rattle.std.proofs.lemmas.List.Elements.{All-contains}
 use Rattle.std.proofs.lemmas.List.Sorted.{Contains-permutation, IsPermutation-sym, sum_by-IsPermutation}
 use Rattle.fc_names.specs.Names.{Path, is_same_path}
@@ -21,8 +21,6 @@ use Rattle.fc_image.specs.Walk.{Object}
 use Rattle.fc_image.specs.Objects.{has_sectors, is_owner_of}
 use Rattle.fc_image.proofs.EntriesLemmas.{from_filter, from_map, in_filter, in_mapped, same_some}
 use Rattle.fc_image.proofs.HolesLemmas.{apart_at, apart_from}
-use Rattle.fc_image.proofs.MoveLemmas.{not_true}
-use Rattle.fc_image.proofs.OneZoneLemmas.{and_first, and_second}
 use Rattle.fc_image.specs.effects.Sharing.{Holding, holding_of, holdings_in, is_shareable, is_spare, may_share_with, shares, slack, slack_among, units}
 use Rattle.fc_image.specs.effects.Placed.{IsFront, IsTaken, holes_left}
 use Rattle.fc_plan.specs.Plan.{AreApart}
@@ -37,6 +35,7 @@ use Rattle.fc_changes.specs.Owed.{IsSpaceEdit}
 use Rattle.fc_changes.specs.Changed.{IsInNewSpace}
 use Rattle.fc_changes.proofs.BasicLemmas.{cases_cons, clash, first_in, in_flat, next_in, not_zero, nothing_in}
 use Rattle.fc_changes.proofs.SpaceLemmas.{no_runs}
+use Rattle.fc_record.proofs.KindLemmas.{and_first, and_second}
 
 -- ---- lists
 
@@ -63,7 +62,7 @@ found_in t (y ∷ xs) x h = by (t y) refl h (found_in t xs x)
     by true e g more = (let is = same_some y x g in (subst (λ (z : _). Contains (y ∷ xs) z) is (first_in y xs), ap t (sym is) ∙ e))
     by false e g more = (let r = more g in (next_in y x xs r.0, r.1))
 
-is_in_flat : {X : Type 0} (f : X → List ℕ) (xs : List X) (x : X) (s : ℕ) → Contains xs x → is_among (f x) s ≡ true → is_among (flat_map f xs) s ≡ true
+pub is_in_flat : {X : Type 0} (f : X → List ℕ) (xs : List X) (x : X) (s : ℕ) → Contains xs x → is_among (f x) s ≡ true → is_among (flat_map f xs) s ≡ true
 is_in_flat f [] x s at h = absurd (nothing_in x at)
 is_in_flat f (y ∷ xs) x s at h = elim (cases_cons y xs x at) [
   | inl is ↦ in_front (f y) (flat_map f xs) s (subst (λ (z : _). is_among (f z) s ≡ true) (sym is) h)

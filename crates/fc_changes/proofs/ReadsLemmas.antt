@@ -18,17 +18,18 @@ use Rattle.fc_dirs.proofs.EditLemmas.{edit_law}
 use Rattle.fc_image.specs.Layout.{Layout}
 use Rattle.fc_image.specs.Walk.{Object}
 use Rattle.fc_image.specs.Edits.{AreChildren}
-use Rattle.fc_image.proofs.OneZoneLemmas.{and_first, and_second}
 use Rattle.fc_image.proofs.PathsLemmas.{cut, itself, root_other, same_last}
 use Rattle.fc_image.proofs.RenameLemmas.{last_pushed}
 use Rattle.fc_image.proofs.CommandLemmas.{same_by_folds}
 use Rattle.fc_image.proofs.TreeLemmas.{folds_alike}
 use Rattle.fc_image.specs.effects.Steady.{AreWritten, IsRewritten, replaced_entry, with_made}
-use Rattle.fc_changes.proofs.BasicLemmas.{cases_cons, clash, first_in, holder_pushed, next_in, nothing_in, unless}
+use Rattle.fc_changes.proofs.BasicLemmas.{cases_cons, clash, first_in, holder_pushed, next_in, nothing_in}
+use Rattle.std.proofs.lemmas.Bool.{false_from_ne_true as unless}
+use Rattle.fc_record.proofs.KindLemmas.{and_first, and_second}
 
 -- ---- reading back
 
-said : (fault : Option DirFault) (dir content : Directory) → read_or fault dir ≡ Ok content → dir ≡ content
+pub said : (fault : Option DirFault) (dir content : Directory) → read_or fault dir ≡ Ok content → dir ≡ content
 said None dir content h = same dir content h
   where
     same : (x y : Directory) → (let q : Result Directory DirFault = Ok x in q) ≡ Ok y → x ≡ y

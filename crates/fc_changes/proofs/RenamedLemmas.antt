@@ -83,14 +83,15 @@ use Rattle.fc_image.specs.effects.Short.{Growth, is_copied, is_sharing, new_leng
 use Rattle.fc_image.specs.effects.Placed.{GrowthPlacedIn, NewObjectPlaced}
 use Rattle.fc_image.specs.effects.Sharing.{units}
 use Rattle.fc_image.specs.effects.Steady.{is_moved_by, DirectorySteady, HasName, IsKept, IsWrittenAnew, NamedStays, RenamedHead, gets_parent, is_renamed_by, path_after, replaced_entry, without_name}
-use Rattle.fc_changes.proofs.BasicLemmas.{clash, long_pushed, or_left, or_second, holder_pushed, unless}
+use Rattle.fc_changes.proofs.BasicLemmas.{clash, long_pushed, holder_pushed}
 use Rattle.fc_changes.proofs.BeforeLemmas.{address_by, held_by, opened_as}
 use Rattle.fc_changes.proofs.ChangeLemmas.{opened}
 use Rattle.fc_changes.proofs.DirectoriesLemmas.{entries_now, no_new_holder}
-use Rattle.fc_changes.proofs.MadeLemmas.{turned}
 use Rattle.fc_changes.proofs.OutsideLemmas.{both_busy}
 use Rattle.fc_changes.proofs.ReadsLemmas.{same_name_turned}
 use Rattle.fc_changes.proofs.RewordedLemmas.{Mapped, mapped, no_space_edit, ok_same, same_address}
+use Rattle.std.proofs.lemmas.Bool.{false_from_ne_true as unless, or_left, or_right as or_second}
+use Rattle.fc_image.proofs.EditLemmas.{apart_turned as turned}
 
 pub each_apart : (taken : List ℕ) (objects : List Object) (o p : Object) → IsApartFrom taken objects o → Contains objects p → is_apart o.sectors p.sectors ≡ true
 each_apart taken [] o p a at = absurd (nothing_in p at)

@@ -16,8 +16,9 @@ use Rattle.fc_plan.proofs.Left.{left_of_none}
 use Rattle.fc_image.specs.effects.Steady.{NewMapSteady, back_runs, goes_back, has_id_that, holes_untaken, holes_with, is_given_back, is_left_by_growth, runs_that, zone_holes}
 use Rattle.fc_plan.specs.Giving.{is_one_of}
 use Rattle.fc_changes.specs.Owed.{GivesBack, IsSpaceEdit}
-use Rattle.fc_changes.proofs.BasicLemmas.{and_false, any_in, clash, filter_same, first_in, in_any, map_or_none, nothing_in, or_false, unless}
+use Rattle.fc_changes.proofs.BasicLemmas.{and_false, any_in, clash, filter_same, first_in, in_any, map_or_none, nothing_in, or_false}
 use Rattle.fc_changes.proofs.DirectoriesLemmas.{moved_none}
+use Rattle.std.proofs.lemmas.Bool.{false_from_ne_true as unless}
 
 -- ---- which identifiers are used
 

@@ -1,7 +1,7 @@
 -- Writes, one after another.
 use Rattle.std.proofs.Common.{◌≡◌, ◌<◌, ◌≤◌, ◌⊎◌, inl, inr, ℕ, ◌+◌, ◌*◌, Bool, true, false, List, [], ◌∷◌, ◌++◌, length, refl, sym, ap, ◌∙◌, arith, eq-eqb}
 use Rattle.std.specs.Prelude.{◌==◌, ◌||◌}
-use Rattle.std.proofs.lemmas.Bool.{cases_lt}
+use Rattle.std.proofs.lemmas.Bool.{cases_lt, false_from_ne_true as unless}
 use Rattle.fc_device.specs.Sectors.{sector_at, with_sector}
 use Rattle.fc_device.proofs.SectorLemmas.{length-with_sector, sector_at-with_sector_other}
 use Rattle.fc_newmap.specs.Map.{Map, map_sectors}
@@ -11,7 +11,7 @@ use Rattle.fc_image.specs.Layout.{is_among}
 use Rattle.fc_image.proofs.FreeLemmas.{among_range}
 use Rattle.fc_changes.specs.Owed.{IsWritten}
 use Rattle.fc_changes.specs.Laws.{WritesLaw}
-use Rattle.fc_changes.proofs.BasicLemmas.{clash, unless}
+use Rattle.fc_changes.proofs.BasicLemmas.{clash}
 
 committed' : (m : Map) (zones : List (List ℕ)) (start image : List ℕ) → CommitEnds m.geometry start zones image → IsWritten m [] start image
 committed' m zones start image ends = record {

@@ -2,7 +2,7 @@
 use Rattle.std.proofs.Common.{◌≡◌, ◌<◌, ◌≤◌, ℕ, zero, suc, ◌+◌, ◌*◌, ◌/◌, ◌%◌, ◌==◌, ◌||◌, ◌&&◌, not, ◌⊎◌, inl, inr, Bool, true, false, cond, List, [], ◌∷◌, ◌++◌, length, refl, sym, ap, subst, ◌∙◌, arith, Some, None, Ok, Err, count_by, sum_by, nat_le, leb-true}
 use Rattle.std.specs.List.{flat_map, range_with_len}
 use Rattle.std.specs.Int.{div_ceil}
-use Rattle.std.proofs.lemmas.Bool.{eqb-true, eqb-false, ne_eqb, cases_lt}
+use Rattle.std.proofs.lemmas.Bool.{eqb-true, eqb-false, ne_eqb, cases_lt, false_from_ne_true as unless, or_from as neither}
 use Rattle.std.proofs.lemmas.List.Folds.{list_any-append}
 use Rattle.std.proofs.lemmas.List.FromFn.{length-range_with_len}
 use Rattle.std.proofs.lemmas.List.Sums.{sum_by-cons}
@@ -12,19 +12,17 @@ use Rattle.fc_oldmap.specs.Holes.{AreHoles, hole_end, hole_sum}
 use Rattle.fc_oldmap.specs.OldMap.{OldMapContent, map_units}
 use Rattle.fc_image.specs.Layout.{Layout, disc_sectors, hole_sectors, hole_sectors_in, is_among, map_place, sectors_at}
 use Rattle.fc_image.specs.Walk.{Object}
-use Rattle.fc_image.specs.Edits.{Apart}
+use Rattle.fc_image.specs.Edits.{Apart, IsAt as IsPlaced}
 use Rattle.fc_image.specs.Report.{is_lost_sector}
 use Rattle.fc_image.proofs.FreeLemmas.{among_range, range_bounds}
-use Rattle.fc_image.proofs.HolesLemmas.{Each, IsPlaced, apart_at}
+use Rattle.fc_image.proofs.HolesLemmas.{Each, apart_at}
 use Rattle.fc_image.proofs.EditLemmas.{taken_by}
+use Rattle.fc_tree.proofs.TallyLemmas.{count_cons as count_first}
 
 -- ---- counts
 
 pub count_same : {X : Type 0} (p q : X → Bool) (xs : List X) → ((x : X) → p x ≡ q x) → count_by p xs ≡ count_by q xs
 count_same p q xs same = ap (λ t. count_by t xs) (λ k x. same x k)
-
-pub count_first : {X : Type 0} (p : X → Bool) (x : X) (xs : List X) → count_by p (x ∷ xs) ≡ cond (p x) 1 0 + count_by p xs
-count_first p x xs = sum_by-cons (λ y. cond (p y) 1 0) x xs
 
 -- what passes, and what doesn't
 count_rest : {X : Type 0} (p : X → Bool) (xs : List X) → count_by (λ x. not (p x)) xs + count_by p xs ≡ length xs
@@ -87,14 +85,6 @@ count_one x from (suc n) low high = by (x == from) refl (λ above. count_one x (
 
 abbrev pub among : ℕ → List ℕ → ℕ
 among n sectors = count_by (is_among sectors) (range_with_len 0 n)
-
-unless : (b : Bool) → (b ≡ true → ⊥) → b ≡ false
-unless true never = absurd (never refl)
-unless false never = refl
-
-neither : (a b : Bool) → a ≡ false → b ≡ false → (a || b) ≡ false
-neither true b e f = absurd (cc)
-neither false b e f = f
 
 -- a row of sectors comes to some that are none of it
 row_more : (n from k : ℕ) (taken : List ℕ) → from + k ≤ n → ((s : ℕ) → from ≤ s → s < from + k → is_among taken s ≡ false)

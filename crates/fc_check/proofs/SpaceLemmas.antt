@@ -3,7 +3,7 @@ use Rattle.std.proofs.Common.{◌≡◌, ◌≤◌, ◌⊎◌, ℕ, ◌+◌, ◌
 use Rattle.std.specs.List.{list_any, range_with_len}
 use Rattle.std.specs.Ordering.{nat_cmp}
 use Rattle.std.specs.FinMap.{FinMap}
-use Rattle.std.proofs.lemmas.Bool.{eqb-true, ltb-false}
+use Rattle.std.proofs.lemmas.Bool.{eqb-true, ltb-false, and_parts as both}
 use Rattle.std.proofs.lemmas.List.Sums.{sum_by-cons}
 use Rattle.std.proofs.lemmas.List.Sorted.{list_any-IsPermutation, sum_by-IsPermutation}
 use Rattle.fc_record.specs.declared.Kind.{Kind}
@@ -24,15 +24,16 @@ use Rattle.fc_image.specs.Objects.{has_sectors, is_owner_of, objects_of}
 use Rattle.fc_image.specs.Opening.{MapAndRoot, Opened, holes_or, map_and_root, reserved_in}
 use Rattle.fc_image.specs.Report.{is_lost_run, is_lost_sector, lost_bytes}
 use Rattle.fc_image.specs.Stays.{OpensAs}
-use Rattle.fc_image.specs.Edits.{Apart}
+use Rattle.fc_image.specs.Edits.{Apart, IsAt as IsPlaced}
 use Rattle.fc_image.proofs.FreeLemmas.{parts_of}
-use Rattle.fc_image.proofs.HolesLemmas.{Each, Each-objects, IsPlaced, Lies, found_map, walk_lies}
+use Rattle.fc_image.proofs.HolesLemmas.{Each, Each-objects, Lies, found_map, walk_lies}
 use Rattle.fc_image.proofs.EditLemmas.{walk_gives}
 use Rattle.fc_tree.specs.declared.node.Node.{Node}
 use Rattle.fc_tree.specs.Parts.{AreOwners, owner_of}
 use Rattle.fc_check.specs.Space.{bytes_lost_to, is_lost_kind, left_sectors}
 use Rattle.fc_check.proofs.LostLemmas.{lost_left}
 use Rattle.fc_check.proofs.SumLemmas.{left_sum}
+use Rattle.fc_image.proofs.OldMapLemmas.{old_same, not_old}
 
 -- ---- owners and objects
 
@@ -89,20 +90,10 @@ module _ (nodes : FinMap nat_cmp Node) (layout : Layout) where
 
 -- ---- old maps
 
-both : (a b : Bool) → (a && b) ≡ true → (a ≡ true) × (b ≡ true)
-both true b e = (refl, e)
-both false b e = absurd (cc)
-
 record IsOldDisc (space : OldMapContent) : Type 0 where
   pub units : (space.sector_units ≡ 1) ⊎ (space.sector_units ≡ 4)
   pub holes : AreHoles space.disc_units space.sector_units (map_units space.sector_units) space.holes
   pub room : map_units space.sector_units ≤ space.disc_units
-
-old_same : (x y : OldMapContent) → Layout.Old x ≡ Layout.Old y → x ≡ y
-old_same x y e = cc
-
-not_old : (m : Map) (space : OldMapContent) → Layout.New m ≡ Layout.Old space → ⊥
-not_old m space e = cc
 
 right_holes : (image : List ℕ) (units : ℕ) → hole_fault image units ≡ None → AreHoles (old_units image) units (map_units units) (stored_holes image)
 right_holes image units e = by (is_free_end (free_end image)) e

@@ -2,7 +2,7 @@
 use Rattle.std.proofs.Common.{◌≡◌, ◌<◌, ◌≤◌, ◌⊎◌, inl, inr, ℕ, ◌+◌, ◌-◌, Bool, true, false, List, [], ◌∷◌, ◌++◌, map, length, refl, sym, ap, ap₂, subst, ◌∙◌, arith, append_assoc}
 use Rattle.std.specs.Prelude.{filter}
 use Rattle.std.specs.List.{range_with_len}
-use Rattle.std.proofs.lemmas.Bool.{cases_eq, cases_lt, eqb-true}
+use Rattle.std.proofs.lemmas.Bool.{cases_eq, cases_lt, eqb-true, false_from_ne_true as unless}
 use Rattle.std.proofs.lemmas.List.{append-nil}
 use Rattle.fc_device.specs.Sectors.{sector_at}
 use Rattle.fc_record.specs.declared.Geometry.{Geometry}
@@ -39,10 +39,6 @@ use Rattle.fc_compact.proofs.OwnersLemmas.{same_movable}
 use Rattle.fc_compact.proofs.PreservesLemmas.{geometry_is, loose_before}
 use Rattle.fc_compact.proofs.ReadyLemmas.{map_no_hole}
 use Rattle.fc_compact.proofs.StepLemmas.{beyond_map, map_is}
-
-unless : (b : Bool) → (b ≡ true → ⊥) → b ≡ false
-unless true never = absurd (never refl)
-unless false never = refl
 
 map_twice : (g f : ℕ → ℕ) (xs extra : List ℕ) → map g (map f xs ++ extra) ≡ map (λ s. g (f s)) xs ++ map g extra
 map_twice g f [] extra = refl

@@ -3,7 +3,7 @@ use Rattle.std.proofs.Common.{◌≡◌, ◌<◌, ◌≤◌, ◌⊎◌, inl, inr
 use Rattle.std.specs.Prelude.{◌==◌, ◌||◌, All, filter}
 use Rattle.std.specs.List.{sum_by}
 use Rattle.std.specs.List.Sorted.{IsStrictlyIncreasing}
-use Rattle.std.proofs.lemmas.Bool.{cases_eq, cases_lt, eq-eqb, eqb-true}
+use Rattle.std.proofs.lemmas.Bool.{cases_eq, cases_lt, eq-eqb, eqb-true, or_parts as neither}
 use Rattle.std.proofs.lemmas.List.{get_or-append_right, get_or_append_left}
 use Rattle.std.proofs.lemmas.List.Folds.{list_any-append}
 use Rattle.std.proofs.lemmas.List.Sums.{sum_by-cons}
@@ -17,7 +17,7 @@ use Rattle.fc_newmap.specs.NewMap.{IsNewMap}
 use Rattle.fc_newmap.specs.RunsLaw.{placed}
 use Rattle.fc_newmap.proofs.ComposeLemmas.{edit_all, edit_none, edit_then, edits_none, edits_then, runs_other, same_none}
 use Rattle.fc_newmap.proofs.HeldLemmas.{geometry_facts}
-use Rattle.fc_newmap.proofs.PlaceLemmas.{in_range, is_in}
+use Rattle.fc_newmap.proofs.PlaceLemmas.{in_range}
 use Rattle.fc_alloc.specs.declared.owner.Owner.{Owner}
 use Rattle.fc_copies.specs.declared.Which.TheVariants.{One}
 use Rattle.fc_copies.specs.Committing.{CanWrite, KeepsContents}
@@ -36,6 +36,7 @@ use Rattle.fc_compact.proofs.KeptLemmas.{can_write, committed_geometry, committe
 use Rattle.fc_compact.proofs.ListedLemmas.{listed_none, unlisted}
 use Rattle.fc_compact.proofs.PacksLemmas.{packs_in, packs_none, packs_then}
 use Rattle.fc_compact.proofs.TouchLemmas.{ids_joined}
+use Rattle.fc_device.specs.Numbers.{is_listed as is_in}
 
 -- ---- one zone
 
@@ -126,10 +127,6 @@ no_numbers (x ∷ xs) e = absurd (omega (arith, e))
 
 pub some_numbers : (xs : List ℕ) → (length xs ≡ 0 → ⊥) → xs ≡ [] → ⊥
 some_numbers xs some e = some (ap length e)
-
-neither : (a b : Bool) → (a || b) ≡ false → (a ≡ false) × (b ≡ false)
-neither true b e = absurd (cc)
-neither false b e = (refl, e)
 
 -- a zone with the sector that it had has its runs
 same_zone : (m n : Map) (z : ℕ) → n.geometry ≡ m.geometry → sector_of n z ≡ sector_of m z → runs_of n z ≡ runs_of m z

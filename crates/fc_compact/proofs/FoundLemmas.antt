@@ -10,8 +10,9 @@ use Rattle.fc_newmap.specs.Map.{Map, ZoneRun, has_id, runs_of}
 use Rattle.fc_newmap.specs.RunsLaw.{placed}
 use Rattle.fc_compact.specs.Joining.{has_run_in, ids_in, is_listed}
 use Rattle.fc_newmap.proofs.CoverLemmas.{range_cut}
-use Rattle.fc_newmap.proofs.PlaceLemmas.{in_range, is_in}
+use Rattle.fc_newmap.proofs.PlaceLemmas.{in_range}
 use Rattle.fc_zone.specs.declared.Run.{Run}
+use Rattle.fc_device.specs.Numbers.{is_listed as is_in}
 
 pub any_there : (f : Run → Bool) (done rest : List Run) (run : Run) → f run ≡ true → list_any f (done ++ run ∷ rest) ≡ true
 any_there f [] rest run e = ap (λ b. b || list_any f rest) e
@@ -47,16 +48,6 @@ passed_room t z n lt e =
     ap (λ (k : ℕ). filter t (range_with_len 0 k)) (let f : n ≡ z + 1 + (n - (z + 1)) = omega arith in f) ∙ ap (filter t) (range_cut 0 (z + 1) (n - (z + 1))) ∙ filter-append t (range_with_len 0 (z + 1)) (range_with_len (0 + (z + 1)) (n - (z + 1))) in
     let more : filter t (range_with_len 0 (z + 1)) ≡ filter t (range_with_len 0 z) ++ z ∷ [] = passed_more t z ∙ ap (λ b. cond b (filter t (range_with_len 0 z) ++ z ∷ []) (filter t (range_with_len 0 z))) e in
     omega (arith, ap length all, length-append (filter t (range_with_len 0 (z + 1))) (filter t (range_with_len (0 + (z + 1)) (n - (z + 1)))), ap length more, length-append (filter t (range_with_len 0 z)) (z ∷ []))
-
-pub passed_in : (t : ℕ → Bool) (xs : List ℕ) (y : ℕ) → is_in xs y ≡ true → t y ≡ true → Contains (filter t xs) y
-passed_in t [] y i e = absurd (cc)
-passed_in t (x ∷ xs) y i e = by (x == y) (t x) refl refl i (λ later. passed_in t xs y later e)
-  where
-    by : (a b : Bool) → (x == y) ≡ a → t x ≡ b → (a || is_in xs y) ≡ true → (is_in xs y ≡ true → Contains (filter t xs) y) → Contains (cond b (x ∷ filter t xs) (filter t xs)) y
-    by true true f g j more = (0, omega arith, eqb-true x y f)
-    by true false f g j more = absurd (let h = ap t (eqb-true x y f) in cc)
-    by false true f g j more = (let r = more j in (suc r.0, (let l = r.1 in omega arith), r.2))
-    by false false f g j more = more j
 
 pub range_rises : (from n : ℕ) → IsStrictlyIncreasing (range_with_len from n)
 range_rises from n k lt =

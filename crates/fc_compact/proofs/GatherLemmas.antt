@@ -15,14 +15,14 @@ use Rattle.fc_zone.specs.declared.Run.{Run}
 use Rattle.fc_zone.specs.declared.RunKind.{RunKind}
 use Rattle.fc_zone.specs.declared.RunKind.TheVariants as kinds
 use Rattle.fc_zone.proofs.HolderLemmas.{run_spelled}
-use Rattle.fc_zone.proofs.ZoneLemmas.{Spells-le}
+use Rattle.fc_zone.proofs.ZoneLemmas.{Spells-le, Contains-head as contains_here}
 use Rattle.fc_newmap.specs.Edits.{IsEdit}
 use Rattle.fc_newmap.specs.Map.{Map, ZoneRun, all_runs, first_sector, has_id, hole_runs, id_runs, is_hole, runs_of, sector_count, sector_of, shape, zone_numbers}
 use Rattle.fc_newmap.specs.NewMap.{IsNewMap}
 use Rattle.fc_newmap.specs.RunsLaw.{placed}
 use Rattle.fc_newmap.proofs.ComposeLemmas.{edit_none, edit_then, runs_other, zone_cut}
 use Rattle.fc_newmap.proofs.HeldLemmas.{geometry_facts}
-use Rattle.fc_newmap.proofs.PlaceLemmas.{contains_here, held_in, in_filter, in_range, in_zone}
+use Rattle.fc_newmap.proofs.PlaceLemmas.{held_in, in_filter, in_range, in_zone}
 use Rattle.fc_newmap.proofs.RunsLemmas.{place_sector}
 use Rattle.fc_alloc.specs.declared.owner.Owner.{Owner}
 use Rattle.fc_image.specs.Layout.{Layout, disc_sectors, hole_sectors, id_sectors, is_among}

@@ -17,7 +17,7 @@ use Rattle.fc_newmap.specs.NewMap.{IsNewMap}
 use Rattle.fc_newmap.specs.RunsLaw.{placed}
 use Rattle.fc_newmap.proofs.ComposeLemmas.{zone_cut}
 use Rattle.fc_newmap.proofs.HeldLemmas.{end_within, geometry_facts, sector_high, shape_fits}
-use Rattle.fc_newmap.proofs.NextLemmas.{split_at, zone_of_run}
+use Rattle.fc_newmap.proofs.NextLemmas.{split_at, zone_of_run, placed_in}
 use Rattle.fc_newmap.proofs.PlaceLemmas.{filter_in, in_id_runs, in_range, in_zone, range_in, zone_in}
 use Rattle.fc_alloc.specs.declared.owner.Owner.{Owner}
 use Rattle.fc_alloc.specs.Owners.{is_id_owned}
@@ -35,18 +35,13 @@ movable_high owners id may = leb-true 3 id (right (is_id_owned owners id) (nat_l
     right true b e = e
     right false b e = absurd (cc)
 
-hole_kind : (k : RunKind) → is_hole k ≡ true → k ≡ kinds.Hole
+pub hole_kind : (k : RunKind) → is_hole k ≡ true → k ≡ kinds.Hole
 hole_kind kinds.Hole e = refl
 hole_kind (kinds.Id id) e = absurd (cc)
 
 pub id_kind : (id : ℕ) (k : RunKind) → has_id id k ≡ true → k ≡ kinds.Id id
 id_kind id kinds.Hole e = absurd (cc)
 id_kind id (kinds.Id other) e = ap kinds.Id (eqb-true other id e)
-
-placed_in : (z : ℕ) (runs : List Run) (p : ZoneRun) → Contains (placed z runs) p → Contains runs p.1
-placed_in z [] p (k, h, e) = absurd (omega arith)
-placed_in z (run ∷ runs) p (zero, h, e) = (0, omega arith, ap (λ (q : ZoneRun). q.1) e)
-placed_in z (run ∷ runs) p (suc k, h, e) = let r = placed_in z runs p (k, omega arith, e) in (suc r.0, (let l = r.1 in omega arith), r.2)
 
 -- a run stands between others
 pub run_between : (m : Map) (zones : List ℕ) (p : ZoneRun) → Contains (runs_in m zones) p → HasBetween m p.0 p.1

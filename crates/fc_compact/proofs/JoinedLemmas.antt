@@ -8,7 +8,7 @@ use Rattle.std.proofs.lemmas.List.Elements.{Contains-append_right}
 use Rattle.fc_bytes.specs.Bits.{bits}
 use Rattle.fc_zone.specs.declared.Run.{Run}
 use Rattle.fc_zone.proofs.HolderLemmas.{run_spelled}
-use Rattle.fc_zone.proofs.ZoneLemmas.{Spells-le}
+use Rattle.fc_zone.proofs.ZoneLemmas.{Spells-le, Contains-head as contains_here}
 use Rattle.fc_newmap.specs.Edits.{AreEdits, IsEdit, KeepsRuns}
 use Rattle.fc_newmap.specs.Map.{Map, ZoneRun, all_runs, bits_in, first_sector, has_id, hole_runs, id_runs, is_hole, runs_of, sector_of, shape, zone_numbers}
 use Rattle.fc_newmap.specs.NewMap.{IsNewMap}
@@ -16,7 +16,7 @@ use Rattle.fc_newmap.specs.RunsLaw.{placed}
 use Rattle.fc_newmap.specs.Walk.{IsInZone}
 use Rattle.fc_newmap.proofs.ComposeLemmas.{edits_join, edits_then, runs_other, zone_cut}
 use Rattle.fc_newmap.proofs.HeldLemmas.{geometry_facts}
-use Rattle.fc_newmap.proofs.PlaceLemmas.{contains_here, held_in, in_filter, in_range, in_zone}
+use Rattle.fc_newmap.proofs.PlaceLemmas.{held_in, in_filter, in_range, in_zone}
 use Rattle.fc_alloc.specs.declared.owner.Owner.{Owner}
 use Rattle.fc_copies.specs.Committing.{KeepsContents}
 use Rattle.fc_copies.specs.declared.Which.TheVariants.{One}

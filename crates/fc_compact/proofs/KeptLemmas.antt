@@ -23,11 +23,7 @@ use Rattle.fc_newmap.proofs.HeldLemmas.{shape_fits}
 use Rattle.fc_copies.specs.Committing.{CanWrite, KeepsContents}
 use Rattle.fc_copies.specs.Copies.{HoldsCopies}
 use Rattle.fc_compact.specs.Compacting.{ZoneStays}
-
--- the lowest eight bits are those of the first byte
-first_bits : (x : ℕ) (xs : List ℕ) (k : ℕ) → k < 8 → get_or (bits (x ∷ xs)) k 0 ≡ get_or (low_bits 8 x) k 0
-unfolding bits
-first_bits x xs k low = get_or_append_left (low_bits 8 x) (bits xs) 0 k (omega (arith, length-low_bits 8 x))
+use Rattle.fc_bytes.proofs.ByteLemmas.{first_bits}
 
 -- a bit of a byte that is the same
 bit_in : (s t : List ℕ) (i j : ℕ) → length t ≡ length s → slice_index t i ≡ slice_index s i → j < 8 → get_or (bits t) (8 * i + j) 0 ≡ get_or (bits s) (8 * i + j) 0

@@ -11,10 +11,10 @@ use Rattle.fc_alloc.specs.declared.owner.Owner.{Owner}
 use Rattle.fc_compact.specs.Compacting.{ZoneStays}
 use Rattle.fc_compact.specs.Steps.{Leads}
 
-zone_none : (m : Map) (z : ℕ) → ZoneStays m m z
+pub zone_none : (m : Map) (z : ℕ) → ZoneStays m m z
 zone_none m z = record { outside = record { header = refl; behind = refl }; links = keeps_none (shape m.geometry z) (bits (sector_of m z)) (runs_of m z) }
 
-zone_then : (a b c : Map) (z : ℕ) → b.geometry ≡ a.geometry → ZoneStays a b z → ZoneStays b c z → ZoneStays a c z
+pub zone_then : (a b c : Map) (z : ℕ) → b.geometry ≡ a.geometry → ZoneStays a b z → ZoneStays b c z → ZoneStays a c z
 zone_then a b c z same one two = record {
   outside = record {
     header = two.outside.header ∙ one.outside.header;

@@ -2,16 +2,16 @@ mod ShiftLemmas
 mod WholeLemmas
 mod OwnersLemmas
 mod KeptLemmas
-mod PreservesLemmas
+pub mod PreservesLemmas
 mod ReadyLemmas
 mod RowLemmas
 mod SlideLemmas
 mod FindLemmas
-mod StepLemmas
+pub mod StepLemmas
 mod CarryLemmas
 mod GatherLemmas
 mod DrawnLemmas
-mod LeadsLemmas
+pub mod LeadsLemmas
 mod ReleaseLemmas
 mod ListedLemmas
 mod FoundLemmas

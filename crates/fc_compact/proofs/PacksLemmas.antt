@@ -11,13 +11,14 @@ use Rattle.fc_newmap.specs.NewMap.{IsNewMap}
 use Rattle.fc_newmap.specs.RunsLaw.{placed}
 use Rattle.fc_newmap.proofs.CoverLemmas.{order_Distinct, split_once}
 use Rattle.fc_newmap.proofs.HeldLemmas.{geometry_facts}
-use Rattle.fc_newmap.proofs.PlaceLemmas.{in_order_of, is_in}
+use Rattle.fc_newmap.proofs.PlaceLemmas.{in_order_of}
 use Rattle.fc_alloc.specs.declared.owner.Owner.{Owner}
 use Rattle.fc_image.specs.effects.Settled.{KeepsBits}
 use Rattle.fc_compact.specs.Joining.{ids_in}
 use Rattle.fc_compact.specs.Ready.{is_movable_by}
 use Rattle.fc_compact.specs.Steps.{Leads, Packs, SamePart}
 use Rattle.fc_compact.proofs.LeadsLemmas.{leads_none, leads_then}
+use Rattle.fc_device.specs.Numbers.{is_listed as is_in}
 
 same_runs : (m m' : Map) (z : ℕ) (zones : List ℕ) → is_in zones z ≡ false → ((y : ℕ) → (y ≡ z → ⊥) → runs_of m' y ≡ runs_of m y) → runs_in m' zones ≡ runs_in m zones
 same_runs m m' z [] out same = refl

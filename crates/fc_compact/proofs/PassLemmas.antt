@@ -2,7 +2,7 @@
 use Rattle.std.proofs.Common.{◌≡◌, ◌<◌, ◌≤◌, ◌⊎◌, inl, inr, ℕ, zero, suc, ◌+◌, Bool, true, false, cond, List, [], ◌∷◌, ◌++◌, length, length-append, take, get_or, refl, sym, ap, subst, ◌∙◌, arith}
 use Rattle.std.specs.Prelude.{Option, Some, Contains, ◌==◌, ◌||◌, ◌&&◌, nat_le, nat_lt, filter}
 use Rattle.std.specs.List.{list_any, range_with_len}
-use Rattle.std.proofs.lemmas.Bool.{cases_eq, cases_lt, eqb-true, lt-ltb, le-ltb, lt-leb}
+use Rattle.std.proofs.lemmas.Bool.{cases_eq, cases_lt, eqb-true, lt-ltb, le-ltb, lt-leb, and_parts as both_true, or_parts as neither}
 use Rattle.std.proofs.lemmas.List.{take_all, take_more}
 use Rattle.std.proofs.lemmas.List.Sums.{sum_by-append, sum_by-cons}
 use Rattle.fc_zone.specs.declared.Run.{Run}
@@ -69,10 +69,6 @@ outer_not false b c e = refl
 middle_not : (a b c : Bool) → b ≡ false → ((a && b) && c) ≡ false
 middle_not true b c e = ap (λ (x : Bool). x && c) e
 middle_not false b c e = refl
-
-pub both_true : (a b : Bool) → (a && b) ≡ true → (a ≡ true) × (b ≡ true)
-both_true true b e = (refl, e)
-both_true false b e = absurd (cc)
 
 -- ---- one identifier
 
@@ -263,10 +259,6 @@ pub owner_in : (list : List Owner) (i : ℕ) (d : Owner) → i < length list →
 owner_in [] i d low = absurd (omega arith)
 owner_in (x ∷ list) zero d low = (0, omega arith, refl)
 owner_in (x ∷ list) (suc i) d low = let r = owner_in list i d (omega (arith, low)) in (suc r.0, (let l = r.1 in omega arith), r.2)
-
-neither : (a b : Bool) → (a || b) ≡ false → (a ≡ false) × (b ≡ false)
-neither true b e = absurd (cc)
-neither false b e = (refl, e)
 
 module _ (owners list : List Owner) (m m' : Map) (i : ℕ) (low : i < length list) (d : Owner) (any joined r : Bool) (e : r ≡ (any || joined)) (tries : Tries owners m m' (get_or list i d).id joined) where
   pub falls_more : (base : ℕ) → run_count list m + one_if any ≤ base → run_count list m' + one_if r ≤ base

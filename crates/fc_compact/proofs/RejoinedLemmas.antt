@@ -2,7 +2,7 @@
 use Rattle.std.proofs.Common.{◌≡◌, ◌<◌, inl, inr, ℕ, zero, suc, ◌+◌, ◌-◌, Bool, true, false, cond, List, [], ◌∷◌, ◌++◌, length, length-append, refl, sym, ap, ap₂, subst, ◌∙◌, arith, append_assoc}
 use Rattle.std.specs.Prelude.{◌==◌, ◌||◌, ◌&&◌}
 use Rattle.std.specs.List.{list_any, flat_map}
-use Rattle.std.proofs.lemmas.Bool.{cases_eq, eq-eqb, eqb-true, lt-ltb, le-ltb, ne_eqb}
+use Rattle.std.proofs.lemmas.Bool.{cases_eq, eq-eqb, eqb-true, lt-ltb, le-ltb, ne_eqb, false_from_ne_true as not_true}
 use Rattle.std.proofs.lemmas.Grind.{flat_map-append}
 use Rattle.fc_zone.specs.declared.Run.{Run}
 use Rattle.fc_zone.specs.declared.RunKind.TheVariants as kinds
@@ -16,6 +16,7 @@ use Rattle.fc_compact.specs.Joining.{HasBetween, all_freed, changed_runs, freed,
 use Rattle.fc_compact.specs.Sliding.{HasRuns, hole_at, run_at}
 use Rattle.fc_compact.proofs.HoldLemmas.{has_run_same}
 use Rattle.fc_compact.proofs.ReleaseLemmas.{hole_part_some}
+use Rattle.fc_record.proofs.KindLemmas.{and_second as second_true}
 
 -- where the hole isn't among the runs, the identifier's are freed
 freed_there : (len : ℕ) (hole : ZoneRun) (id y : ℕ) (runs : List Run) → list_any (is_the_hole hole y) runs ≡ false → flat_map (rejoined len hole id y) runs ≡ all_freed id runs
@@ -43,14 +44,6 @@ any_cut f (x ∷ xs) e = by (f x) refl e (λ more. any_cut f xs more)
         → (front : List Run) × (y : Run) × (rest : List Run) × (x ∷ xs ≡ front ++ y ∷ rest) × (f y ≡ true)
     by true g h more = ([], x, xs, refl, g)
     by false g h more = let r = more h in (x ∷ r.0, r.1, r.2, ap (λ (l : List Run). x ∷ l) r.3, r.4)
-
-second_true : (a b : Bool) → (a && b) ≡ true → b ≡ true
-second_true true b e = e
-second_true false b e = absurd (cc)
-
-not_true : (b : Bool) → (b ≡ true → ⊥) → b ≡ false
-not_true true never = absurd (never refl)
-not_true false never = refl
 
 module _ (m : Map) (is : IsNewMap m) (z : ℕ) (low : z < m.geometry.zones) (front rest : List Run) (hole : Run) (runs : HasRuns m z (front ++ hole ∷ rest)) where
   -- no other run begins where the hole does

@@ -16,48 +16,7 @@ use Rattle.fc_alloc.specs.declared.owner.Owner.{Owner}
 use Rattle.fc_compact.specs.Passing.{AreSeen, SeesFew, places}
 use Rattle.fc_compact.specs.Ready.{is_movable_by}
 use Rattle.fc_compact.specs.Steps.{Packs}
-
--- ---- one run more
-
-abbrev of : ℕ → ZoneRun → Bool
-of id p = has_id id p.1.kind
-
-filter_more : (t : ZoneRun → Bool) (runs : List ZoneRun) (p : ZoneRun) → length (filter t (runs ++ p ∷ [])) ≡ length (filter t runs) + length (cond (t p) (p ∷ []) [])
-filter_more t runs p = ap length (filter-append t runs (p ∷ [])) ∙ length-append (filter t runs) (filter t (p ∷ []))
-
-at_most_one : (b : Bool) (p : ZoneRun) → length (cond b (p ∷ []) []) ≤ 1
-at_most_one true p = omega arith
-at_most_one false p = omega arith
-
-none_more : (t : ZoneRun → Bool) (runs : List ZoneRun) (p : ZoneRun) → t p ≡ false → length (filter t (runs ++ p ∷ [])) ≡ length (filter t runs)
-none_more t runs p e = filter_more t runs p ∙ ap (λ (b : Bool). length (filter t runs) + length (cond b (p ∷ []) [])) e ∙ (let z : length (filter t runs) + 0 ≡ length (filter t runs) = omega arith in z)
-
--- the run's identifier has another place
-not_of : (id k : ℕ) (p : ZoneRun) → p.1.kind ≡ kinds.Id id → (id % places ≡ k % places → ⊥) → of k p ≡ false
-not_of id k p kind other = ap (has_id k) kind ∙ by (id == k) refl
-  where
-    by : (b : Bool) → (id == k) ≡ b → (id == k) ≡ false
-    by true e = absurd (other (ap (λ n. n % places) (eqb-true id k e)))
-    by false e = e
-
-pub seen_more : (seen : List ℕ) (runs : List ZoneRun) (p : ZoneRun) (id : ℕ) → p.1.kind ≡ kinds.Id id → id % places < length seen → AreSeen seen runs
-    → AreSeen (set seen (id % places) (get_or seen (id % places) 0 + 1)) (runs ++ p ∷ [])
-seen_more seen runs p id kind low was k few = elim (cases_eq (k % places) (id % places)) [
-  | inl here ↦ (
-      let v = get_or seen (id % places) 0 + 1 in
-      let now : get_or (set seen (id % places) v) (k % places) 0 ≡ v = ap (λ (i : ℕ). get_or (set seen (id % places) v) i 0) here ∙ get_or-set_same seen (id % places) v 0 low in
-      let old : get_or seen (k % places) 0 ≡ get_or seen (id % places) 0 = ap (λ (i : ℕ). get_or seen i 0) here in
-      let before = was k (omega (arith, few, now, old)) in
-      let all = filter_more (of k) runs p in
-      let one = at_most_one (of k p) p in
-      omega (arith, all, one, before, now, old))
-  | inr other ↦ (
-      let v = get_or seen (id % places) 0 + 1 in
-      let now : get_or (set seen (id % places) v) (k % places) 0 ≡ get_or seen (k % places) 0 = get_or-set_other seen (id % places) (k % places) v 0 other in
-      let same = none_more (of k) runs p (not_of id k p kind (λ e. other (sym e))) in
-      let before = was k (omega (arith, few, now)) in
-      omega (arith, same, before, now))
-]
+use Rattle.fc_newmap.proofs.WalkLemmas.{of_id as of}
 
 -- ---- all runs
 

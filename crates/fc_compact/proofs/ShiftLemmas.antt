@@ -24,9 +24,6 @@ part_before start len id rest = by (len == 0)
 pub part_some : (start len id : ℕ) (rest : List Run) → 0 < len → part start len id rest ≡ run_at start len id ∷ rest
 part_some start len id rest some = ap (λ b. cond b rest (run_at start len id ∷ rest)) (ne_eqb len 0 (omega arith))
 
-pub part_none : (start len id : ℕ) (rest : List Run) → len ≡ 0 → part start len id rest ≡ rest
-part_none start len id rest none = ap (λ b. cond b rest (run_at start len id ∷ rest)) (eq-eqb len 0 none)
-
 pub front_with : (front : List Run) (start len id : ℕ) (rest : List Run) → front ++ part start len id rest ≡ (front ++ part start len id []) ++ rest
 front_with front start len id rest = ap (λ (rs : List Run). front ++ rs) (part_before start len id rest) ∙ sym (append_assoc front (part start len id []) rest)
 

@@ -13,7 +13,7 @@ use Rattle.fc_record.specs.Record.{base, first_bit, end_bit}
 use Rattle.fc_zone.specs.declared.Run.{Run}
 use Rattle.fc_zone.specs.Zone.{Spells, Zone}
 use Rattle.fc_zone.proofs.HolderLemmas.{run_spelled}
-use Rattle.fc_zone.proofs.ZoneLemmas.{Spells-le}
+use Rattle.fc_zone.proofs.ZoneLemmas.{Spells-le, Contains-head as contains_here}
 use Rattle.fc_zone.proofs.CutLemmas.{id_below}
 use Rattle.fc_newmap.specs.Map.{Map, ZoneRun, all_runs, has_id, hole_runs, is_hole, run_sectors, runs_of, sector_of, sectors_of, shape, zone_numbers}
 use Rattle.fc_newmap.specs.NewMap.{IsNewMap}
@@ -23,7 +23,7 @@ use Rattle.fc_newmap.proofs.CoverLemmas.{range_cut}
 use Rattle.fc_newmap.proofs.ExtentLemmas.{bits_on_disc}
 use Rattle.fc_newmap.proofs.ComposeLemmas.{zone_cut}
 use Rattle.fc_newmap.proofs.HeldLemmas.{geometry_facts}
-use Rattle.fc_newmap.proofs.PlaceLemmas.{contains_here, held_in, in_filter, in_range, in_zone}
+use Rattle.fc_newmap.proofs.PlaceLemmas.{held_in, in_filter, in_range, in_zone}
 use Rattle.fc_newmap.proofs.RunsLemmas.{place_sector, sectors_add}
 use Rattle.fc_image.specs.Layout.{Layout, disc_sectors, hole_sectors, is_among}
 use Rattle.fc_image.specs.Moves.{Carried}

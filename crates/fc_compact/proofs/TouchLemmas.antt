@@ -8,6 +8,8 @@ use Rattle.fc_newmap.specs.Map.{ZoneRun, has_id, is_hole}
 use Rattle.fc_newmap.specs.RunsLaw.{placed}
 use Rattle.fc_image.specs.effects.Moves.{before_holes, with_holes_joined}
 use Rattle.fc_compact.specs.Joining.{are_holes, hole_or_next, joined, passed}
+use Rattle.fc_record.proofs.KindLemmas.{and_first as first_hole, and_second as second_hole}
+use Rattle.fc_compact.proofs.HoldLemmas.{hole_kind}
 
 -- two holes, the first before others
 before_hole : (one two : Run) (runs : List Run) → are_holes one two ≡ true → before_holes one (two ∷ runs) ≡ joined one two ∷ runs
@@ -60,18 +62,6 @@ pair_joined run next rest = by (are_holes run next) refl
 no_id : (k : ℕ) (kind : RunKind) → is_hole kind ≡ true → has_id k kind ≡ false
 no_id k kinds.Hole e = refl
 no_id k (kinds.Id id) e = absurd (cc)
-
-first_hole : (a b : Bool) → (a && b) ≡ true → a ≡ true
-first_hole true b e = refl
-first_hole false b e = absurd (cc)
-
-second_hole : (a b : Bool) → (a && b) ≡ true → b ≡ true
-second_hole true b e = e
-second_hole false b e = absurd (cc)
-
-hole_kind : (kind : RunKind) → is_hole kind ≡ true → kind ≡ kinds.Hole
-hole_kind kinds.Hole e = refl
-hole_kind (kinds.Id id) e = absurd (cc)
 
 pub same_kind : (one two : Run) → are_holes one two ≡ true → one.kind ≡ two.kind
 same_kind one two e =

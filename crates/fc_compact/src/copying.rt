@@ -1,42 +1,50 @@
 // Sectors that are copied into a hole.
-ghost use Rattle.std.specs.Prelude.{◌≡◌, ◌⊎◌, ◌<◌, ◌≤◌, ◌+◌, ◌^◌, ℕ, true, length, IsTrue, IsFalse, OnOk};
+ghost use Rattle.std.specs.Prelude.{◌≡◌, ◌⊎◌, ◌<◌, ◌≤◌, ◌+◌, ◌*◌, ◌^◌, ℕ, true, length, IsTrue, IsFalse, OnOk};
 ghost use Rattle.std.specs.Option.{ForSome};
 ghost use Rattle.fc_device.specs.Calls.{FailsByFault, SameForm, StopsAndExitsLeave};
 ghost use Rattle.fc_image.specs.Layout.{Layout, hole_sectors, is_among};
 ghost use Rattle.fc_compact.specs.Ready.{IsReady};
 ghost use Rattle.fc_compact.specs.Steps.{Preserves};
-ghost use Rattle.fc_compact.specs.Copying.{ChangesRow, IsCopied, TearsRow};
+ghost use Rattle.fc_compact.specs.Copying.{HasCopied, IsCopied, TearsRow};
 
 use crate::laws;
 use fc_alloc::Owners;
-use fc_device::{Disk, DiskFault, MAX_SECTOR};
+use fc_device::{Disk, DiskFault, Extent};
 use fc_newmap::NewMap;
 
-// Copies `count` sectors from sector `from` on to those from sector `to` on, which are none of them. The buffer has the
-// bytes of a sector.
-fn copy_sectors<D: Disk>(
+// So many bytes are copied at once, if they lie in a row.
+const ROW: usize = 16384;
+
+// How many sectors these are.
+fn sectors_at_once(size: u32) -> u64
+    requires some { 0 < size }
+    requires most { size ≤ 1024 }
+    ensures some { 0 < result }
+    ensures most { result * size ≤ 16384 }
+{
+    (ROW / size as usize) as u64
+}
+
+// Copies one row of sectors over another.
+fn copy_piece<D: Disk>(
     disk: &mut D,
-    from: u64,
-    to: u64,
-    count: u64,
-    sector: &mut [u8],
+    from: Extent,
+    to: Extent,
+    piece: &mut [u8],
 ) -> Result<(), DiskFault>
     requires attached { IsTrue (D.attached disk.old) }
-    requires whole { length sector.old ≡ D.sector_size disk.old }
-    requires apart { (from + count ≤ to) ⊎ (to + count ≤ from) }
-    requires on_disk { from + count ≤ D.sectors disk.old }
-    requires to_on_disk { to + count ≤ D.sectors disk.old }
-    requires fits { from + count < 2 ^ 64 }
-    requires to_fits { to + count < 2 ^ 64 }
-    ensures tears { TearsRow D.Disk disk.old disk.new to count }
-    ensures copied { OnOk result (ForSome (D.bytes disk.new) (IsCopied (D.sector_size disk.old) from to count)) }
+    requires on_disk { from.first + from.sectors ≤ D.sectors disk.old }
+    requires to_on_disk { to.first + to.sectors ≤ D.sectors disk.old }
+    requires same { from.sectors ≡ to.sectors }
+    requires whole { length piece.old ≡ from.sectors * D.sector_size disk.old }
+    requires some { 0 < to.sectors }
+    ensures tears { TearsRow D.Disk disk.old disk.new to.first to.sectors }
+    ensures copied { OnOk result (HasCopied D.Disk disk.old disk.new from.first to.first to.sectors) }
     ensures form { SameForm D.Disk disk.old disk.new }
     ensures cause { FailsByFault D.Disk disk.old disk.new result }
 {
-    for i in 0..count {
-        disk.read(from + i, sector)?;
-        disk.write(to + i, sector)?;
-    }
+    disk.read_row(from, piece)?;
+    disk.write_row(to, piece)?;
     Ok(())
 }
 
@@ -61,8 +69,28 @@ pub fn copy_row<D: Disk>(
     ensures form { SameForm D.Disk disk.old disk.new }
     ensures cause { FailsByFault D.Disk disk.old disk.new result }
 {
-    let mut sector = [0; MAX_SECTOR];
-    copy_sectors(disk, from, to, count, &mut sector[..size as usize])
+    let mut row = [0; ROW];
+    let most = sectors_at_once(size);
+    let mut done = 0;
+    while done < count {
+        let sectors = most.min(count - done);
+        let here = Extent {
+            first: from + done,
+            sectors,
+        };
+        let there = Extent {
+            first: to + done,
+            sectors,
+        };
+        copy_piece(
+            disk,
+            here,
+            there,
+            &mut row[..(sectors * u64::from(size)) as usize],
+        )?;
+        done += sectors;
+    }
+    Ok(())
 }
 
 // Copies `count` sectors from sector `from` on into a hole, to those from sector `to` on, and syncs. After a crash and at every

@@ -6,7 +6,7 @@ use Rattle.fc_device.specs.Sectors.{IsSectorSize}
 use Rattle.fc_newmap.specs.NewMap.{IsNewMap}
 use Rattle.std.specs.List.{AllByRecursion, zip}
 use Rattle.std.specs.List.Sorted.{IsStrictlyIncreasing}
-use Rattle.std.proofs.lemmas.Bool.{cases_lt, eqb-true}
+use Rattle.std.proofs.lemmas.Bool.{cases_lt, eqb-true, cases_Bool as decided}
 use Rattle.std.proofs.lemmas.List.{get_or_past}
 use Rattle.fc_device.specs.Sectors.{sector_at}
 use Rattle.fc_record.specs.declared.Geometry.{Geometry}
@@ -26,10 +26,6 @@ all_by_index : (xs : List ℕ) (P : ℕ → Type 0) → ((k : ℕ) → k < lengt
 all_by_index [] P each = tt
 all_by_index (x ∷ xs) P each = (each 0 (omega arith), all_by_index xs P (λ k lt. each (suc k) (omega (arith, lt))))
 
-decided : (b : Bool) → (b ≡ true) ⊎ (b ≡ false)
-decided true = inl refl
-decided false = inr refl
-
 -- a pass over a copy changes only the copies
 pass_frame : (g : Geometry) (start mid image : List ℕ) (first : ℕ) (new : ℕ → List ℕ) → g.map_sector ≤ first → first + g.zones ≤ g.map_sector + 2 * g.zones → ChangesCopies g start mid
     → IsPartWritten g.sector first 0 g.zones new mid image → ChangesCopies g start image
@@ -38,7 +34,7 @@ pass_frame g start mid image first new from to frame part = record {
   outside = λ s there. part.outside s (⊎_elim (λ l. inl (omega (arith, l, from))) (λ r. inr (omega (arith, r, to))) there) ∙ frame.outside s there;
 }
 
-same_frame : (g : Geometry) (start : List ℕ) → ChangesCopies g start start
+pub same_frame : (g : Geometry) (start : List ℕ) → ChangesCopies g start start
 same_frame g start = record { same_length = refl; outside = λ s there. refl }
 
 -- New zones for a start, where the zones outside the list are the old ones.

@@ -5,7 +5,7 @@ use Rattle.std.specs.List.{list_all, list_any, zip, items_where_true, AllByRecur
 use Rattle.std.specs.List.Sorted.{IsStrictlyIncreasing}
 use Rattle.std.specs.Int.Bits.{xor_assoc, xor_zero_r}
 use Rattle.std.proofs.lemmas.Nat.{xor_comm}
-use Rattle.std.proofs.lemmas.Bool.{cases_eq, cases_lt, eqb-true, eq-eqb}
+use Rattle.std.proofs.lemmas.Bool.{cases_eq, cases_lt, eqb-true, eq-eqb, and_cases as either_none}
 use Rattle.std.proofs.lemmas.List.{length-set, length-map, get_or-set_same, get_or-set_other, set-get_or, get_or_past}
 use Rattle.std.proofs.lemmas.List.FromFn.{length-map-range_with_len}
 use Rattle.std.proofs.lemmas.Slice.Zip.{firsts-zip, seconds-zip}
@@ -14,9 +14,11 @@ use Rattle.std.proofs.Math.Seq.{map-set_same}
 use Rattle.fc_zone.specs.Edits.{sealed}
 use Rattle.fc_copies.specs.Copies.{cross_of, is_check_right, is_sound, sealed_zones}
 use Rattle.fc_copies.specs.Gate.{chosen_deltas, gate_delta, gate_deltas, gated, gated_by, gated_sector, is_mixed}
-use Rattle.fc_copies.proofs.GateLemmas.{cancel, choice_passes, cross-gated, cross-gated_by, first_part, gate_of, second_part, xor_all-cons, length-gated}
+use Rattle.fc_copies.proofs.GateLemmas.{cancel, choice_passes, cross-gated, cross-gated_by, gate_of, xor_all-cons, length-gated, IsLong}
 use Rattle.fc_copies.proofs.ReadingLemmas.{same_lists}
 use Rattle.fc_copies.proofs.RepairLemmas.{check-masked, sound_right}
+use Rattle.fc_zone.proofs.ReadingLemmas.{first_part}
+use Rattle.fc_record.proofs.KindLemmas.{and_second as second_part}
 
 -- ---- zones of a list
 
@@ -209,10 +211,6 @@ mixed_not : (b : Bool) (x : ℕ) → not (b && (x == 0)) ≡ true → x ≡ 0 �
 mixed_not false x passes none = refl
 mixed_not true x passes none = absurd (let t = eq-eqb x 0 none in let f : not true ≡ true = rw t at passes in cc)
 
-either_none : (a b : Bool) → (a && b) ≡ false → (a ≡ false) ⊎ (b ≡ false)
-either_none false b e = inl refl
-either_none true b e = inr e
-
 no_mix : (k : ℕ) → k ≤ 9 → (flags : List Bool) → length flags ≡ k → xor_all (items_where_true flags (gate_deltas k)) ≡ 0 → is_mixed flags ≡ false
 no_mix zero few flags long none = small_mix flags (omega (arith, long))
 no_mix (suc zero) few flags long none = small_mix flags (omega (arith, long))
@@ -229,9 +227,6 @@ all_low : (changed ds : List ℕ) (n : ℕ) → AllByRecursion (λ z. z < n) cha
 all_low [] ds n all = tt
 all_low (z ∷ changed) [] n all = tt
 all_low (z ∷ changed) (d ∷ ds) n all = (all.0, all_low changed ds n all.1)
-
-abbrev IsLong : List ℕ → Type 0
-IsLong sector = 4 ≤ length sector
 
 gated_right : (sector : List ℕ) (delta : ℕ) → IsLong sector → is_check_right (gated_sector sector delta) ≡ true
 gated_right sector delta long =

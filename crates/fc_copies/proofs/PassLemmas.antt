@@ -10,7 +10,7 @@ use Rattle.fc_device.proofs.StopLemmas.{goes_on, weaker, keeps_start, keeps_same
 use Rattle.fc_device.proofs.SectorLemmas.{length-with_sector, sector_at-with_sector_same, sector_at-with_sector_other}
 use Rattle.fc_copies.specs.Passes.{HasEach, HasWritten, IsPartWritten}
 
-some_is : {A : Type 0} {a b : A} → Some a ≡ Some b → a ≡ b
+pub some_is : {A : Type 0} {a b : A} → Some a ≡ Some b → a ≡ b
 some_is e = cc
 
 module _ (size first low high : ℕ) (new : ℕ → List ℕ) where

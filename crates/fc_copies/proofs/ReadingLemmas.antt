@@ -13,11 +13,12 @@ use Rattle.fc_device.proofs.DiskLaws.{Laws}
 use Rattle.fc_newmap.specs.Map.{zones_in}
 use Rattle.fc_newmap.proofs.HeldLemmas.{place_fits}
 use Rattle.fc_record.specs.declared.Geometry.{Geometry}
-use Rattle.fc_copies.proofs.GateLemmas.{first_part, second_part}
 use Rattle.fc_copies.specs.declared.Which.{Which}
 use Rattle.fc_copies.specs.declared.Which.TheVariants.{One, Two}
 use Rattle.fc_copies.specs.Choosing.{copy_fault, cross_if_right}
 use Rattle.fc_copies.specs.Copies.{chosen, copy_of, copy_start, cross_of, is_check_right, is_sound, unsound_zone}
+use Rattle.fc_zone.proofs.ReadingLemmas.{first_part}
+use Rattle.fc_record.proofs.KindLemmas.{and_second as second_part}
 
 -- a disk's sectors are a number of 64 bits
 pub sectors_fit : {D : Type 0} {d : Ghosts D} → Laws d → (s : D) (n : ℕ) → n ≤ d.sectors s → n < 2 ^ 64
@@ -65,9 +66,6 @@ copy_is g w image zones long each =
     (λ k lt. let in_copy : k < g.zones = omega (arith, lt, length-copy g w image) in zone_of_copy g w image k in_copy ∙ each k in_copy)
 
 -- ---- where it is wrong
-
-cross : List ℕ → ℕ
-cross sector = slice_index sector 3
 
 taken_in : (b : Bool) (v w : ℕ) → cond b (Some v) None ≡ Some w → (b ≡ true) × (v ≡ w)
 taken_in true v w e = (refl, cc)

@@ -20,8 +20,10 @@ use Rattle.fc_copies.specs.declared.Which.{Which}
 use Rattle.fc_copies.specs.declared.Which.TheVariants.{One, Two}
 use Rattle.fc_copies.specs.Copies.{ChangesCopies, HoldsCopies, RepairLeaves, chosen, copy_of, copy_start, cross_of, is_check_right, is_sound}
 use Rattle.fc_copies.specs.Passes.{HasWritten, IsPartWritten, masked, zone_from}
-use Rattle.fc_copies.proofs.GateLemmas.{cancel, first_part}
+use Rattle.fc_copies.proofs.GateLemmas.{cancel}
 use Rattle.fc_copies.proofs.ReadingLemmas.{chooses_one, chooses_two, copy_is, length-copy, one_was, right_before, two_was, zone_of_copy}
+use Rattle.fc_zone.proofs.ReadingLemmas.{first_part}
+use Rattle.fc_device.proofs.StopLemmas.{one_told as some_is}
 
 -- copies with the same sectors
 pub same_copy : (g : Geometry) (w : Which) (image start : List ℕ) → ((z : ℕ) → z < g.zones → sector_at g.sector image (copy_start g w + z) ≡ sector_at g.sector start (copy_start g w + z))
@@ -196,9 +198,6 @@ some_bytes : (size : ℕ) → IsSectorSize size → 0 < size
 some_bytes size (inl e) = omega arith
 some_bytes size (inr (inl e)) = omega arith
 some_bytes size (inr (inr e)) = omega arith
-
-pub some_is : {a b : List ℕ} → Some a ≡ Some b → a ≡ b
-some_is e = cc
 
 module _ {D : Type 0} {d : Ghosts D} (law : Laws d) (g : Geometry) (start : D) (size_is : d.sector_size start ≡ g.sector) (some : 1 ≤ g.zones) (one two : ℕ) (one_is : one ≡ g.map_sector)
     (two_is : two ≡ copy_start g Two) (on_disk : two < d.sectors start) (chosen_two : ForSome (d.bytes start) (λ image. chosen g image ≡ Ok Two)) where

@@ -27,7 +27,7 @@ use Rattle.fc_tree.proofs.SoundLemmas.{children_stored}
 use Rattle.fc_laws.specs.agree.Agreed.{CanSay}
 use Rattle.fc_laws.specs.nodes.Edits.{Nodes}
 use Rattle.fc_laws.proofs.lemmas.agree.CutLemmas.{cut_law}
-use Rattle.fc_laws.proofs.lemmas.agree.SayLemmas.{say_law}
+use Rattle.fc_laws.proofs.lemmas.agree.SayLemmas.{say_law, as_directory as says_it}
 use Rattle.fc_laws.proofs.lemmas.nodes.ListLemmas.{put_at}
 use Rattle.fc_edits.specs.Addition.{Addition, ComesAlone, IsAddition}
 use Rattle.fc_edits.proofs.lemmas.ShapeLemmas.{of_one}
@@ -42,19 +42,19 @@ use Rattle.fc_course.proofs.ArrivalLemmas.{name_is as name_same}
 use Rattle.fc_course.proofs.EnteredLemmas.{HasRoomMore, entries_entered, form_entered, size_entered}
 use Rattle.fc_course.proofs.HolderLemmas.{HaveForms}
 use Rattle.fc_course.proofs.HolderLemmas as holder_of
-use Rattle.fc_course.proofs.NodeLemmas.{says_it, size_of_form}
+use Rattle.fc_course.proofs.NodeLemmas.{size_of_form}
 use Rattle.fc_course.proofs.NodeLemmas as its
 use Rattle.fc_course.proofs.VacantLemmas.{at_path}
 
 -- ---- lists
 
-map_insert : {X Y : Type 0} (f : X → Y) (xs : List X) (i : ℕ) (x : X) → map f (insert xs i x) ≡ insert (map f xs) i (f x)
+pub map_insert : {X Y : Type 0} (f : X → Y) (xs : List X) (i : ℕ) (x : X) → map f (insert xs i x) ≡ insert (map f xs) i (f x)
 map_insert f [] zero x = refl
 map_insert f [] (suc i) x = refl
 map_insert f (y ∷ xs) zero x = refl
 map_insert {Y = Y} f (y ∷ xs) (suc i) x = ap (λ (ys : List Y). f y ∷ ys) (map_insert f xs i x)
 
-no_entries : (form : NameForm) (parent : ℕ) (name : List ℕ) → entries_of (new_directory form parent name) ≡ []
+pub no_entries : (form : NameForm) (parent : ℕ) (name : List ℕ) → entries_of (new_directory form parent name) ≡ []
 no_entries forms.Seven parent name = refl
 no_entries forms.Ten parent name = refl
 no_entries forms.Long parent name = refl

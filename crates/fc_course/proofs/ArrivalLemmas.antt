@@ -133,7 +133,7 @@ again nodes listings path c dir (Arrival.Saves words) name bytes (inr brings) is
 
 -- ---- its name can be written
 
-bad_first : (b : Bool) (rest : List (Option Refusal)) → first_of (when b refusals.BadName ∷ rest) ≡ None → b ≡ false
+pub bad_first : (b : Bool) (rest : List (Option Refusal)) → first_of (when b refusals.BadName ∷ rest) ≡ None → b ≡ false
 bad_first true rest e = absurd (cc)
 bad_first false rest e = refl
 
@@ -174,7 +174,7 @@ gain_same x path bytes c brings v = of_each (λ (k : Command). gain_in v (Comman
 
 -- ---- its bytes
 
-directory_long : (form : NameForm) → directory_size form (new_dir_size form) ≡ new_dir_size form
+pub directory_long : (form : NameForm) → directory_size form (new_dir_size form) ≡ new_dir_size form
 directory_long forms.Seven = refl
 directory_long forms.Ten = refl
 directory_long forms.Long = refl

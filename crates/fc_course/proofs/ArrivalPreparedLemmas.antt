@@ -31,7 +31,7 @@ use Rattle.fc_course.proofs.TwoPieceLemmas.{IsTwoPieces}
 
 -- ---- what it says itself
 
-new_size : (form : NameForm) (parent : ℕ) (name : List ℕ) → size_of (new_directory form parent name) ≡ new_dir_size form
+pub new_size : (form : NameForm) (parent : ℕ) (name : List ℕ) → size_of (new_directory form parent name) ≡ new_dir_size form
 new_size forms.Seven parent name = refl
 new_size forms.Ten parent name = refl
 new_size forms.Long parent name = refl

@@ -18,7 +18,7 @@ use Rattle.fc_outcomes.specs.Puts.{AreContents, ArePutOut, Put}
 use Rattle.fc_outcomes.proofs.lemmas.PutLemmas.{puts_law}
 use Rattle.fc_tree.specs.Counts.{address_in}
 use Rattle.fc_tree.specs.Parts.{Parts}
-use Rattle.fc_tree.proofs.MemberLemmas.{contains_cases, contains_here, contains_later}
+use Rattle.fc_tree.proofs.MemberLemmas.{contains_here}
 use Rattle.fc_change.specs.declared.change.Change.{Change}
 use Rattle.fc_change.specs.declared.change.Says.{Says}
 use Rattle.fc_change.specs.declared.change.Turned.{Turned}
@@ -43,6 +43,7 @@ use Rattle.fc_course.proofs.ArrivalStageLemmas.{IsArrivalChange, OwnsDraft}
 use Rattle.fc_course.proofs.EmptySpaceLemmas.{one_piece}
 use Rattle.fc_course.proofs.FilledLemmas.{filled, stored_filled}
 use Rattle.fc_course.proofs.PutLemmas.{CopiesNone, are_contents, contents_of, put_of}
+use Rattle.fc_image.proofs.EntriesLemmas.{later as contains_later, cases as contains_cases}
 
 -- ---- the object's side
 

@@ -3,7 +3,7 @@ use Rattle.std.proofs.Common.{◌≡◌, ◌||◌, inl, inr, ℕ, Bool, true, fa
 use Rattle.std.specs.Prelude.{Contains, IsPermutation}
 use Rattle.std.specs.FinMap.{get, insert as put}
 use Rattle.std.specs.Option.{option_map_or}
-use Rattle.std.proofs.lemmas.Bool.{ne_eqb}
+use Rattle.std.proofs.lemmas.Bool.{ne_eqb, or_right as or_second}
 use Rattle.std.proofs.lemmas.List.Sorted.{IsPermutation-refl}
 use Rattle.fc_names.specs.Names.{Path, is_same_path}
 use Rattle.fc_model.specs.Command.{Command}
@@ -18,9 +18,8 @@ use Rattle.fc_image.specs.Layout.{Layout, dir_form}
 use Rattle.fc_image.specs.Report.{holder_address}
 use Rattle.fc_image.specs.Walk.{Listing, Object, is_directory_object, object_size}
 use Rattle.fc_image.specs.effects.Steady.{IsRewritten, holds_named, is_renamed_by, with_made, without_name}
-use Rattle.fc_changes.proofs.BasicLemmas.{or_second}
 use Rattle.fc_tree.specs.declared.node.Node.{Node}
-use Rattle.fc_tree.proofs.MemberLemmas.{contains_cases, contains_here, contains_later, no_element}
+use Rattle.fc_tree.proofs.MemberLemmas.{contains_here, no_element}
 use Rattle.fc_tree.proofs.SoundLemmas.{children_stored}
 use Rattle.fc_tree.proofs.WalkedLemmas.{listed_directory}
 use Rattle.fc_laws.specs.nodes.Edits.{Nodes, with_edited}
@@ -40,14 +39,17 @@ use Rattle.fc_change.specs.declared.job.Job.TheVariants as jobs
 use Rattle.fc_change.specs.After.{gone_in, nodes_after, with_regrown, with_said, with_turned, without_gone}
 use Rattle.fc_change.specs.Directories.{Rewriting, TellAll}
 use Rattle.fc_change.specs.Drafts.{told}
-use Rattle.fc_course.proofs.MoveDirectoryLemmas.{FitsName, entries_entered, form_entered, size_entered}
+use Rattle.fc_course.proofs.MoveDirectoryLemmas.{entries_entered, form_entered, size_entered}
 use Rattle.fc_course.proofs.MoveEditLemmas.{AreSayable, lies_there, map_insert}
 use Rattle.fc_course.proofs.MoveLemmas.{IsSeen, absent, both, entry_there, k, k_stays, l, l_stays, lies_from, named_from, node_kind, o, others_unlike}
 use Rattle.fc_course.proofs.MoveSaidLemmas.{AreSaid, last_first, nodes_said}
 use Rattle.fc_course.proofs.MoveTellLemmas.{IsFirstTold, first_told, none_told, own_told, rewritten_here, told_is}
-use Rattle.fc_course.proofs.NodeLemmas.{says_it, size_of_form}
+use Rattle.fc_course.proofs.NodeLemmas.{size_of_form}
 use Rattle.fc_course.proofs.RemovalLemmas.{entries_left, form_left}
 use Rattle.fc_course.proofs.TargetLemmas as target_of
+use Rattle.fc_course.proofs.EnteredLemmas.{HasRoomMore as FitsName}
+use Rattle.fc_laws.proofs.lemmas.agree.SayLemmas.{as_directory as says_it}
+use Rattle.fc_image.proofs.EntriesLemmas.{later as contains_later, cases as contains_cases}
 
 -- What is known of the edit, of what the directory says that the file joins, and then of the one that it leaves.
 pub record IsCopy (layout : Layout) (nodes : Nodes) (listings : List Listing) (from to : Path) (r : Renaming) (name : List ℕ) (it : Object) (c : Copying) (ss : List Says) : Type 0 where

@@ -12,7 +12,6 @@ use Rattle.fc_image.specs.Objects.{objects_of}
 use Rattle.fc_image.specs.Sound.{AreSound}
 use Rattle.fc_image.specs.Walk.{Listing, Object, is_directory_object, object_size}
 use Rattle.fc_image.specs.effects.Short.{is_copied, is_sharing}
-use Rattle.fc_image.proofs.MoveLemmas.{not_true}
 use Rattle.fc_changes.proofs.BasicLemmas.{clash}
 use Rattle.fc_changes.proofs.BesideLemmas.{three}
 use Rattle.fc_changes.proofs.ReadsLemmas.{lies_in}
@@ -23,12 +22,14 @@ use Rattle.fc_tree.specs.declared.node.Node.{Node}
 use Rattle.fc_tree.specs.Nodes.{HoldObjects}
 use Rattle.fc_tree.specs.Parts.{AreOwners}
 use Rattle.fc_tree.proofs.PlaceLemmas.{one_path}
-use Rattle.fc_tree.proofs.SoundLemmas.{folds_alike, same_by_folds}
+use Rattle.fc_tree.proofs.SoundLemmas.{folds_alike}
 use Rattle.fc_tree.proofs.WalkedLemmas.{child_path}
 use Rattle.fc_laws.specs.nodes.Edits.{Nodes}
 use Rattle.fc_laws.specs.agree.Agreed.{parts_with}
 use Rattle.fc_change.specs.Needs.{is_copied as is_copied_job, len_at}
 use Rattle.fc_course.proofs.TargetLemmas as target_of
+use Rattle.std.proofs.lemmas.Bool.{not-true as not_true}
+use Rattle.fc_image.proofs.CommandLemmas.{same_by_folds}
 
 pub record IsCopiedFile (m : Map) (nodes : Nodes) (listings : List Listing) (from to : Path) (r : Renaming) (it : Object) : Type 0 where
   pub file : is_directory_object it ≡ false

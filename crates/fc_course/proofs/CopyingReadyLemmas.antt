@@ -15,7 +15,7 @@ use Rattle.fc_objects.proofs.WriteLemmas.{reads_back}
 use Rattle.fc_laws.specs.nodes.Edits.{Nodes}
 use Rattle.fc_laws.specs.takeover.Copied.{AreCopied}
 use Rattle.fc_tree.specs.Parts.{Parts}
-use Rattle.fc_tree.proofs.MemberLemmas.{contains_cases, contains_here, contains_later, no_element}
+use Rattle.fc_tree.proofs.MemberLemmas.{contains_here, no_element}
 use Rattle.fc_writing.specs.declared.ready.Piece.{Piece}
 use Rattle.fc_writing.specs.declared.ready.Ready.{Ready}
 use Rattle.fc_writing.specs.declared.ready.Source.TheVariants as sources
@@ -32,6 +32,7 @@ use Rattle.fc_change.specs.declared.spaces.Place.{Place}
 use Rattle.fc_change.specs.declared.spaces.Spaces.{Spaces}
 use Rattle.fc_change.specs.Prepared.{ArePiecesOf, IsGrownPiece, IsNewPiece, IsReadyFor, IsSourceOf, PiecesMatch}
 use Rattle.fc_course.proofs.MoveReadyLemmas.{all_kept}
+use Rattle.fc_image.proofs.EntriesLemmas.{later as contains_later, cases as contains_cases}
 
 -- Sectors are copied to others, and what is said is written over.
 pub record IsCopyReady (layout : Layout) (nodes : Nodes) (says : List Says) (s : Spaces) (from to : List ℕ) (r : Ready) : Type 0 where

@@ -11,11 +11,12 @@ use Rattle.fc_image.specs.Sound.{AreSound}
 use Rattle.fc_image.specs.Walk.{Listing, Object, is_directory_object}
 use Rattle.fc_image.specs.effects.Sharing.{Holding, holding_of, holdings_in, is_shareable, is_spare, may_share_with, shares, slack, slack_among}
 use Rattle.fc_image.proofs.EntriesLemmas.{from_filter}
-use Rattle.fc_changes.proofs.BasicLemmas.{and_false, clash, holder_pushed, unless}
+use Rattle.fc_changes.proofs.BasicLemmas.{and_false, clash, holder_pushed}
 use Rattle.fc_tree.proofs.MemberLemmas.{contains_here, found_passes, from_map}
 use Rattle.fc_image.proofs.PathsLemmas.{itself}
 use Rattle.fc_tree.proofs.SoundLemmas.{root_or_child, same_object}
 use Rattle.fc_tree.proofs.WalkedLemmas.{child_path, listed_directory, root_is_directory}
+use Rattle.std.proofs.lemmas.Bool.{false_from_ne_true as unless}
 
 -- holdings of which none may be shared with
 none_shared : (path : Path) (hs : List (Holding Path)) → ((h : Holding Path) → Contains hs h → may_share_with is_same_path path h ≡ false) → is_shareable is_same_path path hs ≡ false

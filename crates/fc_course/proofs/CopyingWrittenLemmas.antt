@@ -20,7 +20,7 @@ use Rattle.fc_placing.proofs.SpaceLemmas.{after}
 use Rattle.fc_space.specs.Space.{PlacesSuffice}
 use Rattle.fc_tree.specs.declared.node.Node.{Node}
 use Rattle.fc_tree.proofs.LengthLemmas.{object_long}
-use Rattle.fc_tree.proofs.MemberLemmas.{contains_cases, contains_here, contains_later, no_element}
+use Rattle.fc_tree.proofs.MemberLemmas.{contains_here, no_element}
 use Rattle.fc_laws.specs.agree.Agreed.{AgreeOn, parts_with}
 use Rattle.fc_laws.specs.nodes.Edits.{Nodes}
 use Rattle.fc_laws.specs.takeover.Copied.{AreCopied}
@@ -49,6 +49,7 @@ use Rattle.fc_course.proofs.MovePieceLemmas.{IsFor, lies, piece_of, said_listed,
 use Rattle.fc_course.proofs.NewCopyingLemmas.{from_is}
 use Rattle.fc_course.proofs.CopyingLengthLemmas.{image_long}
 use Rattle.fc_course.proofs.TargetLemmas as target_of
+use Rattle.fc_image.proofs.EntriesLemmas.{later as contains_later, cases as contains_cases}
 
 module _ (m : Map) (nodes : Nodes) (owners : List Owner) (r : Renaming) (name : List ℕ) (p : Prepared) (q : IsCopyAsked m nodes owners r name p) (kind : Kind) (root : Node) (listings : List Listing)
     (agreed : AgreeOn kind m nodes owners root listings) (from to : Path) (x : IsSeen (Layout.New m) nodes listings from to r name) (m' : Map) (given : IsGiven m p.ready m') (was bytes image : List ℕ)

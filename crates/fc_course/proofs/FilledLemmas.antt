@@ -11,6 +11,7 @@ use Rattle.fc_objects.proofs.BlockLemmas.{take_both}
 use Rattle.fc_writing.specs.Content.{Content, numbered, stored}
 use Rattle.fc_change.specs.declared.job.FileWords.{FileWords}
 use Rattle.fc_course.proofs.ArrivalLemmas.{Arrival, Brings}
+use Rattle.fc_objects.proofs.WriteLemmas.{zeros_front}
 
 -- all bytes of a file of so many, by those that are given
 abbrev pub filled : ℕ → List ℕ → List ℕ
@@ -41,9 +42,6 @@ makes_file words path bytes c (inr is) =
     subst (λ (bs : List ℕ). MakesFile c path words.load words.exec (filled words.len bs)) (sym is.1) (inr (is.0 ∙ ap (Command.Create path words.load words.exec) (sym long), zeros))
 
 -- ---- a part of the bytes
-
-zeros_front : (m n : ℕ) → m ≤ n → take {A = ℕ} m (replicate n 0) ≡ replicate m 0
-zeros_front m n le = take-replicate m n 0 le
 
 drop_both : (n : ℕ) (xs ys : List ℕ) → drop n (xs ++ ys) ≡ drop n xs ++ drop (n - length xs) ys
 drop_both n xs ys = elim (cases_lt n (length xs)) [

@@ -35,7 +35,7 @@ use Rattle.fc_plan.specs.Giving.{is_one_of}
 use Rattle.fc_tree.specs.declared.node.Node.{Node}
 use Rattle.fc_tree.specs.Nodes.{HoldObjects, number_of}
 use Rattle.fc_tree.proofs.SoundLemmas.{children_stored}
-use Rattle.fc_tree.proofs.WalkedLemmas.{apart_names, same_some}
+use Rattle.fc_tree.proofs.WalkedLemmas.{same_some}
 use Rattle.fc_edits.specs.Addition.{Addition, Comes, ComesAlone}
 use Rattle.fc_edits.specs.Edit.{AreEdited}
 use Rattle.fc_edits.specs.Growing.{Growing, up_of}
@@ -64,12 +64,8 @@ use Rattle.fc_course.proofs.GrownSpaceLemmas.{IsToGrow, alone, growing_of}
 use Rattle.fc_course.proofs.GrownSpaceLemmas as space_of
 use Rattle.fc_course.proofs.NodeLemmas as its_node
 use Rattle.fc_course.proofs.GrownBackLemmas as back_of
-
-map_insert : {X Y : Type 0} (f : X → Y) (xs : List X) (i : ℕ) (x : X) → map f (insert xs i x) ≡ insert (map f xs) i (f x)
-map_insert f [] zero x = refl
-map_insert f [] (suc i) x = refl
-map_insert f (y ∷ xs) zero x = refl
-map_insert {Y = Y} f (y ∷ xs) (suc i) x = ap (λ (ys : List Y). f y ∷ ys) (map_insert f xs i x)
+use Rattle.fc_course.proofs.ArrivalEditLemmas.{map_insert}
+use Rattle.fc_tree.proofs.EndLemmas.{no_twin as apart_names}
 
 -- ---- the edit
 

@@ -2,7 +2,7 @@
 use Rattle.std.proofs.Common.{◌≡◌, ◌⊎◌, inl, inr, ⊎_elim, ◌*◌, ◌==◌, ◌||◌, ◌&&◌, not, Bool, true, false, cond, List, [], ◌∷◌, refl, sym, ap, ap₂, subst, ◌∙◌, arith, eq-eqb, Option, Some, None}
 use Rattle.std.specs.Prelude.{Contains}
 use Rattle.std.specs.Option.{option_and_then, option_map_or}
-use Rattle.std.proofs.lemmas.Bool.{eqb-true}
+use Rattle.std.proofs.lemmas.Bool.{eqb-true, false_from_ne_true as unless}
 use Rattle.fc_names.specs.Names.{Path, is_same_path}
 use Rattle.fc_record.specs.declared.Kind.{Kind}
 use Rattle.fc_newmap.specs.Map.{Map, is_used}
@@ -15,11 +15,11 @@ use Rattle.fc_image.specs.Sound.{AreSound}
 use Rattle.fc_image.specs.Walk.{Listing, Object, is_directory_object}
 use Rattle.fc_image.specs.effects.Short.{Growth, growth_in, has_room, is_alone, moved_growth}
 use Rattle.fc_image.specs.effects.Steady.{has_grown, has_new_holder}
-use Rattle.fc_image.proofs.PathsLemmas.{itself, unless}
+use Rattle.fc_image.proofs.PathsLemmas.{itself}
 use Rattle.fc_changes.proofs.BasicLemmas.{clash, holder_pushed}
 use Rattle.fc_laws.specs.nodes.Edits.{Nodes}
 use Rattle.fc_tree.specs.Nodes.{HoldObjects}
-use Rattle.fc_tree.proofs.MemberLemmas.{contains_cases, in_map, no_element}
+use Rattle.fc_tree.proofs.MemberLemmas.{in_map, no_element}
 use Rattle.fc_tree.proofs.WalkedLemmas.{child_path}
 use Rattle.fc_edits.specs.Edit.{Amended}
 use Rattle.fc_edits.specs.Growing.{Holder, Told}
@@ -30,6 +30,7 @@ use Rattle.fc_outcomes.specs.Growth.{Grows}
 use Rattle.fc_change.specs.declared.spaces.GrownPlace.{GrownPlace}
 use Rattle.fc_course.proofs.GrownAroundLemmas.{IsCutAround, in_filtered, none_lies}
 use Rattle.fc_course.proofs.GrownSpaceLemmas.{growing_of}
+use Rattle.fc_image.proofs.EntriesLemmas.{cases as contains_cases}
 
 -- the image as it opens
 abbrev pub view_with : Kind → Map → List Listing → Opened

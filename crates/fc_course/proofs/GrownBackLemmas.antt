@@ -15,7 +15,6 @@ use Rattle.fc_image.specs.Layout.{Layout, dir_form, id_of, is_object_id, sectors
 use Rattle.fc_image.specs.Walk.{Listing, Object, object_size}
 use Rattle.fc_image.specs.Objects.{has_sectors, is_owned, is_owner_of, objects_of}
 use Rattle.fc_image.specs.Edits.{IsAt}
-use Rattle.fc_image.proofs.OneZoneLemmas.{and_first, and_second}
 use Rattle.fc_image.specs.effects.Placed.{holes_left}
 use Rattle.fc_image.specs.effects.Sharing.{new_ids, units}
 use Rattle.fc_image.specs.effects.Steady.{is_given_back}
@@ -46,8 +45,10 @@ use Rattle.fc_change.specs.Shortage.{is_alone_by}
 use Rattle.fc_course.proofs.GrownStepLemmas.{PlansFit}
 use Rattle.fc_course.proofs.GrownChangeLemmas.{IsGrownStepped, takings, taking_of}
 use Rattle.fc_writing.specs.declared.ready.RootPlace.{RootPlace}
-use Rattle.fc_course.proofs.GrownSpaceLemmas.{IsToGrow, long, placed_at, some_listed}
+use Rattle.fc_course.proofs.GrownSpaceLemmas.{IsToGrow, long, placed_at}
 use Rattle.fc_course.proofs.GrownSpaceLemmas as place_of
+use Rattle.fc_changes.proofs.NewPlaceLemmas.{some_there as some_listed}
+use Rattle.fc_record.proofs.KindLemmas.{and_first, and_second}
 
 module _ (m : Map) (nodes : Nodes) (owners : List Owner) (listings : List Listing) (o : Object) (stay : List Object) (g : Growth) (object dir : Option Plan) (p : GrownPlace)
     (to : IsToGrow m nodes owners listings o stay g object dir p) where

@@ -12,7 +12,7 @@ use Rattle.fc_newmap.specs.Map.{Map, ZoneRun, hole_runs, zone_numbers}
 use Rattle.fc_newmap.specs.NewMap.{IsNewMap}
 use Rattle.fc_newmap.proofs.HeldLemmas.{geometry_facts}
 use Rattle.fc_image.specs.effects.Placed.{BeginsBefore, holes_left}
-use Rattle.fc_image.proofs.EntriesLemmas.{from_filter}
+use Rattle.fc_image.proofs.EntriesLemmas.{from_filter, cases as contains_cases}
 use Rattle.fc_changes.proofs.BasicLemmas.{clash, first_in, next_in}
 use Rattle.fc_plan.specs.declared.plan.Part.{Part}
 use Rattle.fc_plan.specs.declared.plan.Plan.{Plan}
@@ -22,8 +22,8 @@ use Rattle.fc_plan.specs.Parts.{fronts}
 use Rattle.fc_plan.proofs.Changes.{not_listed}
 use Rattle.fc_plan.proofs.Left.{left_of_none}
 use Rattle.fc_placing.specs.Space.{zones_changed}
-use Rattle.fc_placing.proofs.SpaceLemmas.{low_in_range}
-use Rattle.fc_tree.proofs.MemberLemmas.{contains_cases, no_element}
+use Rattle.fc_placing.proofs.SpaceLemmas.{low_in_range, range_rises}
+use Rattle.fc_tree.proofs.MemberLemmas.{no_element}
 use Rattle.fc_edits.proofs.lemmas.ShapeLemmas.{of_one}
 use Rattle.fc_writing.specs.declared.ready.MapStep.{MapStep}
 use Rattle.fc_writing.specs.declared.ready.MapStep.TheVariants as steps
@@ -36,11 +36,6 @@ use Rattle.fc_course.proofs.GrownStepLemmas.{PlansFit, with_some}
 use Rattle.fc_course.proofs.SpaceLemmas.{can_edit, zones_same}
 
 -- ---- the zones that are listed
-
-range_rises : (from n : ℕ) → IsStrictlyIncreasing (range_with_len from n)
-range_rises from n k lt =
-    let size = length-range_with_len from n in
-    omega (arith, get_or-range_with_len from n k 0 (omega (arith, lt, size)), get_or-range_with_len from n (k + 1) 0 (omega (arith, lt, size)))
 
 module _ (m : Map) (plans : List Plan) (gone : List ℕ) where
   abbrev changed : ℕ → Bool
@@ -97,65 +92,3 @@ module _ (m : Map) (plans : List Plan) (gone : List ℕ) where
   pub are_zones : 1 ≤ m.geometry.zones → (root : Option RootPlace) → AreZones root (zones_of m plans gone root)
   are_zones some None = record { rising = listed_rise; low = listed_low; all = unlisted; first = λ e. absurd (let no : IsSome {T = RootPlace} None = e in cc) }
   are_zones some (Some p) = with_first p some listed listed_rise listed_low unlisted
-
--- ---- the first step
-
-take_both : (m : Map) (object dir : Option Plan) → IfSome object (CanTakePlan m.geometry (hole_runs m)) → IfSome dir (CanTakePlan m.geometry (holes_left (hole_runs m) (parts_in object)))
-    → CanTakeAll m.geometry (hole_runs m) (plans_of object dir)
-take_both m None None a b = tt
-take_both m (Some p) None a b = (a, tt)
-take_both m None (Some q) a b = (subst (λ (hs : List ZoneRun). CanTakePlan m.geometry hs q) (left_of_none (hole_runs m)) b, tt)
-take_both m (Some p) (Some q) a b = (a, (b, tt))
-
-kept_rise : (g : Geometry) (holes : List ZoneRun) (dir : Option Plan) (alone : Bool) → IfSome dir (CanTakePlan g holes) → AllPairs BeginsBefore (fronts (kept_parts dir alone))
-kept_rise g holes None alone can = λ i j d less low. absurd (omega (arith, low, less))
-kept_rise g holes (Some q) true can = can.rising
-kept_rise g holes (Some q) false can = λ i j d less low. absurd (omega (arith, low, less))
-
-pub can_take_grown : (m : Map) (object dir : Option Plan) (alone : Bool) (root : Option RootPlace) (back : List ℕ) (take : MapStep) → IsNewMap m → PlansFit m object dir alone back → IfSome root (CanRoot m)
-    → IsStep m (plans_of object dir) (gone_at_once dir alone) (kept_parts dir alone) root take → CanStep m take
-can_take_grown m object dir alone root back (steps.New s) is fit rooted at =
-    let plans = plans_of object dir in
-    let once = gone_at_once dir alone in
-    let zones = subst (AreZones m plans once root) (sym at.zones) (are_zones m plans once (geometry_facts m.geometry is.of_record).zones root) in
-    record {
-      plans = subst (λ (ps : List Plan). CanTakeAll m.geometry (hole_runs m) ps) (sym at.plans_are) (take_both m object dir fit.object_can fit.dir_can);
-      kept = subst (λ (ks : List Part). AllPairs BeginsBefore (fronts ks)) (sym at.kept_are) (kept_rise m.geometry (holes_left (hole_runs m) (parts_in object)) dir alone fit.dir_can);
-      root = subst (λ (o : Option RootPlace). IfSome o (CanRoot m)) (sym at.root_is) rooted;
-      rising = zones.rising;
-      low = zones.low;
-      all = λ z low none.
-          subst (λ (ps : List Plan). is_changed m ps s.gone.items z ≡ false) (sym at.plans_are)
-          (subst (λ (gs : List ℕ). is_changed m plans gs z ≡ false) (sym at.gone_are) (zones.all z low none));
-      first = λ some. zones.first (subst (λ (o : Option RootPlace). IsSome o) at.root_is some);
-    }
-can_take_grown m object dir alone root back (steps.Old space) is fit rooted at = absurd at
-can_take_grown m object dir alone root back steps.Nothing is fit rooted at = tt
-
--- ---- the second, of the map between
-
-others_back : (object dir : Option Plan) (alone : Bool) (back : List ℕ) → IfSome object (λ (p : Plan). is_one_of back p.id ≡ false) → IfSome dir (λ (p : Plan). is_one_of back p.id ≡ false)
-    → (p : Plan) → Contains (plans_of object dir) p → is_one_of back p.id ≡ false
-others_back None None alone back a b p at = absurd (no_element p at)
-others_back (Some q) None alone back a b p at = of_one (λ (x : Plan). is_one_of back x.id ≡ false) q a p at
-others_back None (Some q) alone back a b p at = of_one (λ (x : Plan). is_one_of back x.id ≡ false) q b p at
-others_back (Some q) (Some r) alone back a b p at =
-    ⊎_elim (λ same. subst (λ (x : Plan). is_one_of back x.id ≡ false) same a) (λ later. of_one (λ (x : Plan). is_one_of back x.id ≡ false) r b p later) (contains_cases q p (r ∷ []) at)
-
-pub can_give_grown : (m mid : Map) (object dir : Option Plan) (alone : Bool) (root : Option RootPlace) (back : List ℕ) (take give : MapStep) → IsNewMap m → PlansFit m object dir alone back
-    → IsStep m (plans_of object dir) (gone_at_once dir alone) (kept_parts dir alone) root take → IsStep m [] back [] None give → HasStepped m mid take → CanStep mid give
-can_give_grown m mid object dir alone root back (steps.New first) (steps.New later) is fit takes gives done =
-    later_law m mid first later is done
-    (record {
-      nothing = gives.plans_are;
-      none_kept = gives.kept_are;
-      no_root = gives.root_is;
-      zones = gives.zones ∙ zones_same m None back ∙ ap (λ (gs : List ℕ). zones_changed m None gs) (sym gives.gone_are);
-      others = λ p at.
-          subst (λ (gs : List ℕ). is_one_of gs p.id ≡ false) (sym gives.gone_are)
-          (others_back object dir alone back (with_some object (λ q h. h.1) fit.object_stays) fit.dir_stays p (subst (λ (ps : List Plan). Contains ps p) takes.plans_are at));
-    })
-can_give_grown m mid object dir alone root back steps.Nothing (steps.New later) is fit takes gives done = subst (λ (x : Map). CanEdit x later) (sym done) (can_edit m None back later gives tt)
-can_give_grown m mid object dir alone root back (steps.Old space) (steps.New later) is fit takes gives done = absurd takes
-can_give_grown m mid object dir alone root back take (steps.Old space) is fit takes gives done = absurd gives
-can_give_grown m mid object dir alone root back take steps.Nothing is fit takes gives done = tt

@@ -44,13 +44,13 @@ use Rattle.fc_course.specs.Stages.{IsPreparedFor}
 use Rattle.fc_course.proofs.GrownCdirLemmas as cdir
 use Rattle.fc_course.proofs.GrownShortLemmas.{GrowsTo, grown_short}
 use Rattle.fc_course.proofs.GrownSpaceLemmas as space_of
-use Rattle.fc_course.proofs.GrownSpaceLemmas.{some_listed}
 use Rattle.fc_course.proofs.GrownTakenLemmas.{can_take_over}
 use Rattle.fc_course.proofs.GrownVacantLemmas.{gains}
 use Rattle.fc_course.proofs.GrownWalkLemmas.{IsBigOne, big_one}
 use Rattle.fc_course.proofs.NodeLemmas.{each_at, size_of_form}
 use Rattle.fc_course.proofs.NodeLemmas as its_node
 use Rattle.fc_dirs.specs.Directory.{directory_size}
+use Rattle.fc_changes.proofs.NewPlaceLemmas.{some_there as some_listed}
 
 -- ---- taken over
 

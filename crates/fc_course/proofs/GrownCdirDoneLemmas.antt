@@ -36,7 +36,7 @@ use Rattle.fc_refusals.specs.Targets.{IsVacant}
 use Rattle.fc_tree.specs.declared.node.Node.{Node}
 use Rattle.fc_tree.specs.Agree.{HasForm, IsDirectory}
 use Rattle.fc_tree.specs.Nodes.{number_of, HoldObjects}
-use Rattle.fc_tree.proofs.MemberLemmas.{contains_cases, contains_here, no_element}
+use Rattle.fc_tree.proofs.MemberLemmas.{contains_here, no_element}
 use Rattle.fc_tree.proofs.WalkedLemmas.{listed_directory, same_some, root_path}
 use Rattle.fc_edits.specs.Growing.{Growing}
 use Rattle.fc_outcomes.specs.GrownAddition.{GrownAdded, NewGrownAdditionWritten}
@@ -84,16 +84,14 @@ use Rattle.fc_laws.proofs.lemmas.nodes.FitsLemmas.{kid_lower}
 use Rattle.fc_drafts.specs.declared.room.Room.TheVariants as rooms
 use Rattle.fc_tree.proofs.SoundLemmas.{root_or_child}
 use Rattle.fc_dirs.specs.Entries.{with_entry}
-use Rattle.fc_course.proofs.GrownCdirLemmas.{directory_long}
 use Rattle.fc_device.specs.declared.disk.Extent.{Extent}
 use Rattle.fc_plan.specs.declared.plan.Plan.{Plan}
+use Rattle.fc_course.proofs.ArrivalPreparedLemmas.{new_size}
+use Rattle.fc_laws.proofs.lemmas.nodes.MovingLemmas.{some_long as longer}
+use Rattle.fc_course.proofs.ArrivalLemmas.{directory_long}
+use Rattle.fc_image.proofs.EntriesLemmas.{cases as contains_cases}
 
 -- ---- small facts
-
-new_size : (form : NameForm) (parent : ℕ) (name : List ℕ) → size_of (new_directory form parent name) ≡ new_dir_size form
-new_size forms.Seven parent name = refl
-new_size forms.Ten parent name = refl
-new_size forms.Long parent name = refl
 
 -- a big directory's length is one that is allowed
 big_length : (len : ℕ) (content : Directory) → HasForm forms.Long len content → IsDirectory content → is_big_size len ≡ true
@@ -104,10 +102,6 @@ big_short : (n : ℕ) → is_big_size n ≡ true → n < 2 ^ 32
 big_short n e =
     let range = and_parts (nat_le 2048 n) (nat_le n 4194304) (and_parts (is_in_range 2048 4194304 n) (n % 2048 == 0) e).0 in
     let high = leb-true n 4194304 range.1 in omega (arith, high)
-
-longer : (path : Path) → (path ≡ [] → ⊥) → 0 < length path
-longer [] some = absurd (some refl)
-longer (x ∷ path) some = omega arith
 
 -- node 0 is the root's
 at_zero : (nodes : Nodes) (listings : List Listing) (layout : Layout) (sound : AreSound layout listings) (held : HoldObjects nodes listings) (l : Listing) → Contains listings l → number_of nodes l.object.path ≡ Some 0 → l.object.path ≡ []

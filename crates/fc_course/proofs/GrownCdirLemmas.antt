@@ -86,17 +86,8 @@ use Rattle.fc_placing.specs.Extents.{IsOwnPlace}
 use Rattle.fc_placing.specs.Space.{HasTaken}
 use Rattle.fc_plan.specs.Taking.{as_runs}
 use Rattle.fc_course.proofs.GrownBackLemmas as back_of
-
--- a new directory lists nothing
-no_entries : (form : NameForm) (parent : ℕ) (name : List ℕ) → entries_of (new_directory form parent name) ≡ []
-no_entries forms.Seven parent name = refl
-no_entries forms.Ten parent name = refl
-no_entries forms.Long parent name = refl
-
-pub directory_long : (form : NameForm) → directory_size form (new_dir_size form) ≡ new_dir_size form
-directory_long forms.Seven = refl
-directory_long forms.Ten = refl
-directory_long forms.Long = refl
+use Rattle.fc_course.proofs.ArrivalEditLemmas.{no_entries}
+use Rattle.fc_course.proofs.ArrivalLemmas.{directory_long}
 
 -- ---- the change
 

@@ -16,7 +16,7 @@ use Rattle.fc_image.specs.Sound.{AreSound}
 use Rattle.fc_image.specs.Stays.{OpensAs}
 use Rattle.fc_image.specs.Walk.{Listing, Object}
 use Rattle.fc_image.specs.effects.Steady.{has_grown, has_new_holder, holds_named, is_renamed_by, may_be_rewritten}
-use Rattle.fc_changes.proofs.BasicLemmas.{any_in, or_left, or_second}
+use Rattle.fc_changes.proofs.BasicLemmas.{any_in}
 use Rattle.fc_oldchanges.proofs.BeforeLemmas.{opened_as}
 use Rattle.fc_laws.specs.nodes.Edits.{Nodes}
 use Rattle.fc_laws.specs.agree.Agreed.{AgreeOn, parts_with}
@@ -28,7 +28,7 @@ use Rattle.fc_plan.specs.declared.plan.Plan.{Plan}
 use Rattle.fc_refusals.specs.Targets.{IsVacant}
 use Rattle.fc_tree.specs.declared.node.Node.{Node}
 use Rattle.fc_tree.specs.Parts.{ArePartsOf}
-use Rattle.fc_tree.proofs.MemberLemmas.{contains_cases, contains_here, contains_later, no_element}
+use Rattle.fc_tree.proofs.MemberLemmas.{contains_here, no_element}
 use Rattle.fc_tree.proofs.WalkedLemmas.{listed_directory}
 use Rattle.fc_change.specs.declared.change.Says.{Says}
 use Rattle.fc_change.specs.declared.job.Growth.{Growth}
@@ -63,10 +63,9 @@ use Rattle.std.specs.Option.{option_and_then}
 use Rattle.fc_course.proofs.GrownChangeLemmas.{taking_of}
 use Rattle.fc_edits.specs.Placing.{takings_of}
 use Rattle.fc_device.specs.declared.disk.Extent.{Extent}
-
-or_true : (b : Bool) → (b || true) ≡ true
-or_true true = refl
-or_true false = refl
+use Rattle.std.proofs.lemmas.Bool.{or_left, or_right as or_second}
+use Rattle.fc_slack.proofs.LowLemmas.{or_true}
+use Rattle.fc_image.proofs.EntriesLemmas.{later as contains_later, cases as contains_cases}
 
 -- pieces that may all be written
 may_all : (kind : Kind) (view : Opened) (m : Map) (c : Command) (ps : List Piece) → ((q : Piece) → Contains ps q → MayBeWritten kind view m c (place_of q)) → MayBeWritten kind view m c (flat_map place_of ps)
@@ -240,17 +239,3 @@ module _ (m : Map) (nodes : Nodes) (owners : List Owner) (dir : ℕ) (path : Pat
       (λ q there. any_may q (early_back (Layout.New m) nodes P ch.said ch.others prep.ready.made pr.ready rd [] P.moves q (subst (λ (ps : List Piece). Contains ps q) rd.early there)))))
       (may_all kind view m c pr.ready.late.items
       (λ q there. any_may q (late_back (Layout.New m) nodes P ch.said ch.others prep.ready.made pr.ready rd [] P.moves q (subst (λ (ps : List Piece). Contains ps q) rd.late there))))
-
--- So at any moment nothing else was written, by each view.
-pub places : (m : Map) (nodes : Nodes) (owners : List Owner) (dir : ℕ) (path : Path) (pr : Prepared) (prep : IsPreparedFor (parts_with m nodes owners) (jobs.Directory dir) (last_name path) pr) (growth : Growth)
-    (some : prep.wants.grows ≡ Some growth) (is_map : IsNewMap m) → AreFree m (cdir.sectors m nodes owners dir path pr prep growth some is_map) → (kind : Kind) (was image : List ℕ) (view : Opened) → OpensAs was kind view
-    → ArePartsOf (parts_with m nodes owners) view → (root : Node) → AgreeOn kind m nodes owners root view.listings → IsVacant nodes view.listings path dir
-    → ChangesOnly m.geometry.sector (written_place pr.ready ++ map_sectors m.geometry) was image → WritesPlaces (Layout.New m) kind view (Command.Cdir path) was image
-places m nodes owners dir path pr prep growth some is_map free kind was image view opens held root agreed spot only =
-    let same = opened_as kind was view (Layout.New m) opens (sym held.layout) in
-    record {
-      sectors = written_place pr.ready;
-      only = only;
-      may = subst (λ (v : Opened). MayBeWritten kind v m (Command.Cdir path) (written_place pr.ready)) same
-          (all_may m nodes owners dir path pr prep growth some is_map free kind was view.listings (subst (OpensAs was kind) (sym same) opens) root agreed spot);
-    }

@@ -24,7 +24,7 @@ use Rattle.fc_refusals.specs.Targets.{IsVacant}
 use Rattle.fc_tree.specs.declared.node.Node.{Node}
 use Rattle.fc_tree.specs.Nodes.{number_of}
 use Rattle.fc_tree.specs.Parts.{Parts}
-use Rattle.fc_tree.proofs.MemberLemmas.{contains_cases, contains_here, no_element}
+use Rattle.fc_tree.proofs.MemberLemmas.{contains_here, no_element}
 use Rattle.fc_tree.proofs.WalkedLemmas.{same_some}
 use Rattle.fc_change.specs.declared.change.Change.{Change}
 use Rattle.fc_change.specs.declared.change.Regrowth.{Regrowth}
@@ -47,28 +47,12 @@ use Rattle.fc_course.proofs.GrownWalkLemmas as walk
 use Rattle.fc_course.proofs.GrownWantLemmas.{IsGrownWanted}
 use Rattle.fc_course.proofs.GrownWantLemmas as wanted
 use Rattle.fc_course.proofs.NodeLemmas as its
-
-few_new : (form : NameForm) → new_dir_size form < 2 ^ 32
-few_new forms.Seven = omega arith
-few_new forms.Ten = omega arith
-few_new forms.Long = omega arith
+use Rattle.fc_image.proofs.EntriesLemmas.{cases as contains_cases}
 
 begins : (form : NameForm) (address : ℕ) (name : List ℕ) → form ≡ forms.Long → CanAddress (new_directory form address name) address × CanBeCalled (new_directory form address name) name
 begins forms.Seven address name is = absurd (cc)
 begins forms.Ten address name is = absurd (cc)
 begins forms.Long address name is = (tt, tt)
-
--- What is wanted can be placed, if a directory is to grow to some bytes.
-pub can_place : (m : Map) (nodes : Nodes) (owners : List Owner) (dir : ℕ) (name : List ℕ) (w : Wants) → AreWants (parts_with m nodes owners) (jobs.Directory dir) name w → ((g : Growth) → w.grows ≡ Some g → 0 < g.len)
-    → CanPlace (parts_with m nodes owners) w
-can_place m nodes owners dir name w are longer = record {
-  few = subst (λ (n : ℕ). n < 2 ^ 32) (sym are.bytes) (few_new (dir_form (Layout.New m)));
-  grows = longer;
-  copied = λ n some. absurd (let none = are.copy in cc);
-  no_growth = λ space at. absurd (cc);
-  behind = λ space at. absurd (cc);
-  free = λ space n at some. absurd (cc);
-}
 
 module _ (m : Map) (nodes : Nodes) (owners : List Owner) (dir : ℕ) (path : Path) (w : Wants) (s : Spaces) (spaced : IsSpaced (parts_with m nodes owners) (jobs.Directory dir) (last_name path) w s)
     (growth : Growth) (some : w.grows ≡ Some growth) (kind : Kind) (root : Node) (listings : List Listing) (agreed : AgreeOn kind m nodes owners root listings) (spot : IsVacant nodes listings path dir) where

@@ -17,7 +17,7 @@ use Rattle.fc_image.specs.Layout.{Layout, dir_form}
 use Rattle.fc_image.specs.Sound.{AreSound}
 use Rattle.fc_image.specs.Walk.{Listing, Object, is_directory_object, object_size}
 use Rattle.fc_image.specs.effects.Steady.{AreWritten, IsRewritten, is_renamed_by}
-use Rattle.fc_image.proofs.PathsLemmas.{itself, unless}
+use Rattle.fc_image.proofs.PathsLemmas.{itself}
 use Rattle.fc_changes.proofs.BasicLemmas.{clash, holder_pushed}
 use Rattle.fc_laws.specs.agree.Agreed.{CanSay}
 use Rattle.fc_laws.specs.nodes.Edits.{Nodes, with_body}
@@ -27,7 +27,7 @@ use Rattle.fc_tree.specs.declared.node.Body.TheVariants as bodies
 use Rattle.fc_tree.specs.declared.node.Node.{Node}
 use Rattle.fc_tree.specs.Agree.{HasForm}
 use Rattle.fc_tree.specs.Nodes.{HoldObjects, body_in, number_of}
-use Rattle.fc_tree.proofs.MemberLemmas.{contains_cases, contains_here, contains_later, in_map, no_element}
+use Rattle.fc_tree.proofs.MemberLemmas.{contains_here, in_map, no_element}
 use Rattle.fc_tree.proofs.WalkedLemmas.{child_path, same_some}
 use Rattle.fc_edits.specs.Addition.{Addition, amended, edit}
 use Rattle.fc_edits.specs.Edit.{Amended, objects}
@@ -48,6 +48,8 @@ use Rattle.fc_course.proofs.NodeLemmas as node_of
 use Rattle.fc_course.proofs.GrownToldLemmas.{num, num_is, other_long, parent_now}
 use Rattle.fc_course.proofs.GrownSaidLemmas.{IsOwnListing, comes_to}
 use Rattle.fc_course.proofs.GrownSaidLemmas as said_of
+use Rattle.std.proofs.lemmas.Bool.{false_from_ne_true as unless}
+use Rattle.fc_image.proofs.EntriesLemmas.{later as contains_later, cases as contains_cases}
 
 module _ (layout : Layout) (nodes : Nodes) (listings : List Listing) (sound : AreSound layout listings) (held : HoldObjects nodes listings) (l : Listing) (listed : Contains listings l)
     (p : GrownPlace) (number : number_of nodes l.object.path ≡ Some p.directory.node) (fits : (k : Listing) → Contains listings k → HasForm (dir_form layout) k.object.entry.len k.content)

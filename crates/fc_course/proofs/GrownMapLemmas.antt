@@ -29,7 +29,7 @@ use Rattle.fc_image.specs.Walk.{Object}
 use Rattle.fc_image.specs.effects.Steady.{KeepsOrWritesLinks, ZoneSteady}
 use Rattle.fc_changes.specs.Owed.{IsBefore}
 use Rattle.fc_changes.proofs.BasicLemmas.{clash}
-use Rattle.fc_changes.proofs.CommittedLemmas.{index_part, same_part}
+use Rattle.fc_changes.proofs.CommittedLemmas.{index_part, same_part, part_behind}
 use Rattle.fc_placing.specs.Space.{IsMapEdited}
 use Rattle.fc_placing.proofs.SpaceLemmas.{after}
 use Rattle.fc_edits.specs.Growing.{Growing}
@@ -41,12 +41,6 @@ use Rattle.fc_writing.specs.declared.ready.RootPlace.{RootPlace}
 use Rattle.fc_writing.specs.Steps.{CanRoot, rooted_map}
 
 -- ---- a sector with another root
-
-part_behind : (a from n : ℕ) (xs ys : List ℕ) → a ≤ from → drop a ys ≡ drop a xs → take n (drop from ys) ≡ take n (drop from xs)
-part_behind a from n xs ys low same =
-    let at : a + (from - a) ≡ from = omega (arith, low) in
-    ap (λ (k : ℕ). take n (drop k ys)) (sym at) ∙ ap (take n) (sym (drop-drop (from - a) a ys)) ∙ ap (λ (zs : List ℕ). take n (drop (from - a) zs)) same ∙ ap (take n) (drop-drop (from - a) a xs)
-    ∙ ap (λ (k : ℕ). take n (drop k xs)) at
 
 -- holes begin in the zone's bits
 starts_high : (s : ZoneShape) (bs : List ℕ) (at : ℕ) (runs : List Run) (end : ℕ) → Spells s bs at runs end → AllByRecursion (λ p. at ≤ p) (hole_starts runs)

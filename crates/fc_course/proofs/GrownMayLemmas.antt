@@ -18,7 +18,6 @@ use Rattle.fc_image.specs.Walk.{Listing, Object, is_directory_object}
 use Rattle.fc_image.specs.effects.Short.{has_room, sectors_of_others}
 use Rattle.fc_image.specs.effects.Steady.{may_be_rewritten}
 use Rattle.fc_image.proofs.HolesLemmas.{apart_at, apart_from, in_id, loose_sectors, none_loose}
-use Rattle.fc_image.proofs.OneZoneLemmas.{and_first, and_second}
 use Rattle.fc_changes.proofs.BasicLemmas.{clash}
 use Rattle.fc_changes.proofs.OutsideLemmas.{AreBusy, owned_busy}
 use Rattle.fc_laws.specs.nodes.Edits.{Nodes}
@@ -38,6 +37,7 @@ use Rattle.fc_image.proofs.EntriesLemmas.{in_filter}
 use Rattle.fc_image.specs.Sound.{AreSound}
 use Rattle.fc_newmap.proofs.CoverLemmas.{run_on_disc}
 use Rattle.fc_changes.proofs.BeforeLemmas.{opened_as}
+use Rattle.fc_record.proofs.KindLemmas.{and_first, and_second}
 
 other_two : (n : ℕ) → 2 ≤ n → (n ≡ 2 → ⊥) → 3 ≤ n
 other_two zero low other = absurd (omega (arith, low))

@@ -15,7 +15,8 @@ use Rattle.fc_tree.specs.Nodes.{body_in}
 use Rattle.fc_change.specs.declared.change.Regrowth.{Regrowth}
 use Rattle.fc_change.specs.declared.change.Says.{Says}
 use Rattle.fc_change.specs.After.{with_regrown, with_said}
-use Rattle.fc_tree.proofs.MemberLemmas.{contains_here, contains_later}
+use Rattle.fc_tree.proofs.MemberLemmas.{contains_here}
+use Rattle.fc_image.proofs.EntriesLemmas.{later as contains_later}
 
 same_nodes : (a b : Nodes) → ((q : ℕ) → get a q ≡ get b q) → a ≡ b
 same_nodes a b each = same_map nat_cmp_total nat_cmp-IsAntisymmetric a b each

@@ -15,7 +15,7 @@ use Rattle.fc_laws.specs.nodes.Edits.{Nodes}
 use Rattle.fc_objects.specs.Extents.{sectors_in}
 use Rattle.fc_tree.specs.Agree.{HasForm}
 use Rattle.fc_tree.specs.Nodes.{HoldObjects, number_of}
-use Rattle.fc_tree.proofs.MemberLemmas.{contains_cases, contains_here, contains_later, no_element}
+use Rattle.fc_tree.proofs.MemberLemmas.{contains_here, no_element}
 use Rattle.fc_edits.specs.Addition.{Addition, edit}
 use Rattle.fc_edits.specs.Edit.{Amended}
 use Rattle.fc_edits.specs.Growing.{Growing, amended_by, at_place, regrown}
@@ -30,6 +30,7 @@ use Rattle.fc_course.proofs.GrownSaidLemmas.{AllSaid, GrownEdit, IsSaid, comes_t
 use Rattle.fc_course.proofs.GrownPieceLemmas.{IsGrownReady, piece_put, put_back}
 use Rattle.fc_course.proofs.GrownSpaceLemmas.{growing_of}
 use Rattle.fc_course.proofs.PutLemmas.{AreLong, puts_of, source_puts}
+use Rattle.fc_image.proofs.EntriesLemmas.{later as contains_later, cases as contains_cases}
 
 module _ (layout : Layout) (nodes : Nodes) (listings : List Listing) (sound : AreSound layout listings) (held : HoldObjects nodes listings) (l : Listing) (listed : Contains listings l)
     (p : GrownPlace) (number : number_of nodes l.object.path ≡ Some p.directory.node) (fits : (k : Listing) → Contains listings k → HasForm (dir_form layout) k.object.entry.len k.content)

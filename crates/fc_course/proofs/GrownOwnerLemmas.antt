@@ -4,7 +4,7 @@ use Rattle.std.specs.Prelude.{Contains, IsPermutation}
 use Rattle.std.specs.List.{list_any}
 use Rattle.std.specs.Option.{unwrap_or}
 use Rattle.std.specs.FinMap.{get}
-use Rattle.std.proofs.lemmas.Bool.{ne_eqb}
+use Rattle.std.proofs.lemmas.Bool.{ne_eqb, false_from_ne_true as unless}
 use Rattle.std.proofs.lemmas.List.{append-nil}
 use Rattle.std.proofs.lemmas.List.Sorted.{Contains-permutation, IsPermutation-append_comm, IsPermutation-append_left, IsPermutation-cons, IsPermutation-map, IsPermutation-sym, IsPermutation-trans, list_any-IsPermutation}
 use Rattle.fc_names.specs.Names.{is_same_path}
@@ -20,19 +20,18 @@ use Rattle.fc_image.specs.Objects.{has_sectors, listing_at, objects_of}
 use Rattle.fc_image.specs.Sound.{AreSound}
 use Rattle.fc_image.specs.Walk.{Listing, Object}
 use Rattle.fc_image.proofs.EntriesLemmas.{from_filter}
-use Rattle.fc_image.proofs.PathsLemmas.{unless}
 use Rattle.fc_image.proofs.ShuffleLemmas.{IsPermutation-filter}
 use Rattle.fc_changes.proofs.BasicLemmas.{clash, first_in, next_in}
 use Rattle.fc_laws.specs.nodes.Edits.{Nodes, OwnersEdited, owner_with, owners_with}
 use Rattle.fc_laws.proofs.lemmas.agree.KeptLemmas.{alone}
-use Rattle.fc_laws.proofs.lemmas.nodes.ListLemmas.{map_append, map_fixed}
+use Rattle.fc_laws.proofs.lemmas.nodes.ListLemmas.{map_fixed}
 use Rattle.fc_laws.proofs.lemmas.nodes.OwnerLemmas.{owner_known}
 use Rattle.fc_placing.proofs.CopyingLemmas.{dirs_same}
 use Rattle.fc_tree.specs.declared.node.Node.{Node}
 use Rattle.fc_tree.specs.Nodes.{HoldObjects, body_of, number_of}
 use Rattle.fc_tree.specs.Parts.{AreOwners, owner_of}
 use Rattle.fc_tree.proofs.MemberLemmas.{from_map}
-use Rattle.fc_tree.proofs.SoundLemmas.{folds_alike, same_by_folds}
+use Rattle.fc_tree.proofs.SoundLemmas.{folds_alike}
 use Rattle.fc_change.specs.declared.change.Change.{Change}
 use Rattle.fc_change.specs.declared.change.Regrowth.{Regrowth}
 use Rattle.fc_change.specs.declared.change.Turned.{Turned}
@@ -42,6 +41,8 @@ use Rattle.fc_drafts.specs.Entries.{regrown}
 use Rattle.fc_change.specs.After.{AreOwnersAfter, IsRegrownOwner, IsTurnedOwner, owners_admitted}
 use Rattle.fc_change.specs.Owned.{entry_owner, owner_if, owners_with_room}
 use Rattle.fc_course.proofs.StayingLemmas.{owner_if_is, owner_same}
+use Rattle.fc_image.proofs.TreeLemmas.{map_both as map_append}
+use Rattle.fc_image.proofs.CommandLemmas.{same_by_folds}
 
 -- no owner has a number that no node has
 pub unowned : (nodes : Nodes) (layout : Layout) (listings : List Listing) (owners : List Owner) (n : ℕ) → HoldObjects nodes listings → AreOwners owners nodes layout (objects_of listings) → get nodes n ≡ None

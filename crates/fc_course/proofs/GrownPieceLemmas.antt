@@ -9,7 +9,7 @@ use Rattle.fc_image.specs.Layout.{Layout}
 use Rattle.fc_laws.specs.nodes.Edits.{Nodes}
 use Rattle.fc_objects.specs.Extents.{sectors_in}
 use Rattle.fc_tree.specs.Parts.{Parts}
-use Rattle.fc_tree.proofs.MemberLemmas.{contains_cases, contains_here, contains_later, from_map, in_map, no_element}
+use Rattle.fc_tree.proofs.MemberLemmas.{contains_here, from_map, in_map, no_element}
 use Rattle.fc_outcomes.specs.Puts.{Put}
 use Rattle.fc_writing.specs.declared.ready.Piece.{Piece}
 use Rattle.fc_writing.specs.declared.ready.Ready.{Ready}
@@ -21,6 +21,7 @@ use Rattle.fc_change.specs.declared.spaces.Spaces.{Spaces}
 use Rattle.fc_change.specs.Prepared.{ArePiecesOf, IsDrafted, IsGrownPiece, IsMovedPiece, IsPieceIn, IsPieceOf, IsReadyFor, PiecesMatch, is_moved}
 use Rattle.fc_course.proofs.PutLemmas.{put_of, puts_of, source_puts}
 use Rattle.fc_course.proofs.GrownToldLemmas.{all_pass}
+use Rattle.fc_image.proofs.EntriesLemmas.{later as contains_later, cases as contains_cases}
 
 -- a piece for each, that goes to the place of its directory
 abbrev pub AllPieces : Layout → Nodes → List Says → List Piece → Type 0

@@ -29,7 +29,7 @@ use Rattle.fc_placing.proofs.CopyingLemmas.{dirs_same}
 use Rattle.fc_tree.specs.Agree.{HasForm}
 use Rattle.fc_tree.specs.Nodes.{HoldObjects, number_of}
 use Rattle.fc_tree.specs.Parts.{Parts}
-use Rattle.fc_tree.proofs.MemberLemmas.{contains_cases, contains_here, contains_later, from_map, in_map, no_element}
+use Rattle.fc_tree.proofs.MemberLemmas.{contains_here, from_map, in_map, no_element}
 use Rattle.fc_tree.proofs.WalkedLemmas.{child_path, listed_directory, same_some}
 use Rattle.fc_change.specs.declared.change.Change.{Change}
 use Rattle.fc_change.specs.declared.change.Regrowth.{Regrowth}
@@ -52,7 +52,9 @@ use Rattle.fc_course.proofs.GrownPieceLemmas.{AllPieces, IsGrownReady}
 use Rattle.fc_course.proofs.GrownReadyLemmas.{AreReady, are_ready, own_middle, regrown_at}
 use Rattle.fc_course.proofs.GrownToldLemmas as of
 use Rattle.fc_course.proofs.GrownToldLemmas.{all_pass, num, num_is, other_long, parent_now}
-use Rattle.fc_course.proofs.NodeLemmas.{says_it, size_of_form}
+use Rattle.fc_course.proofs.NodeLemmas.{size_of_form}
+use Rattle.fc_laws.proofs.lemmas.agree.SayLemmas.{as_directory as says_it}
+use Rattle.fc_image.proofs.EntriesLemmas.{later as contains_later, cases as contains_cases}
 
 -- ---- jobs by which an entry comes
 
@@ -67,9 +69,6 @@ pub record IsEntering (h : Parts) (job : Job) (dir : ℕ) (name : List ℕ) : Ty
 
 pub directory_enters : (h : Parts) (dir : ℕ) (name : List ℕ) → IsEntering h (jobs.Directory dir) dir name
 directory_enters h dir name = record { first = λ e. refl; last = refl; room = λ r has. has; named = refl; left = refl; copy = refl }
-
-pub file_enters : (h : Parts) (dir : ℕ) (words : FileWords) (name : List ℕ) → IsEntering h (jobs.File (slots.New dir) words) dir name
-file_enters h dir words name = record { first = λ e. refl; last = refl; room = λ r has. has; named = refl; left = refl; copy = refl }
 
 -- ---- the change
 

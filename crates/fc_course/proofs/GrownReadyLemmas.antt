@@ -23,7 +23,7 @@ use Rattle.fc_laws.proofs.lemmas.nodes.ListLemmas.{map_fixed}
 use Rattle.fc_tree.specs.declared.node.Node.{Node}
 use Rattle.fc_tree.specs.Agree.{HasForm}
 use Rattle.fc_tree.specs.Nodes.{HoldObjects, number_of}
-use Rattle.fc_tree.proofs.MemberLemmas.{contains_here, contains_later}
+use Rattle.fc_tree.proofs.MemberLemmas.{contains_here}
 use Rattle.fc_tree.proofs.WalkedLemmas.{child_path, holder-push, listed_directory, same_some}
 use Rattle.fc_change.specs.declared.change.Regrowth.{Regrowth}
 use Rattle.fc_change.specs.declared.change.Says.{Says}
@@ -34,8 +34,10 @@ use Rattle.fc_writing.specs.Ready.{place_of}
 use Rattle.fc_course.proofs.GrownPieceLemmas.{AllPieces}
 use Rattle.fc_course.proofs.GrownToldLemmas as of
 use Rattle.fc_course.proofs.GrownToldLemmas.{amended_form, head_form, holder_short, num, other_long, parent_now}
-use Rattle.fc_course.proofs.NodeLemmas.{says_it, size_of_form}
+use Rattle.fc_course.proofs.NodeLemmas.{size_of_form}
 use Rattle.fc_course.proofs.NodeLemmas as its
+use Rattle.fc_laws.proofs.lemmas.agree.SayLemmas.{as_directory as says_it}
+use Rattle.fc_image.proofs.EntriesLemmas.{later as contains_later}
 
 -- the directory of this object at its new place
 abbrev pub regrown_at : Regrowth → List ℕ → Object → Object

@@ -36,6 +36,7 @@ use Rattle.fc_laws.specs.nodes.Edits.{Nodes}
 use Rattle.fc_change.specs.Shortage.{has_room_by, is_alone_by, leaves_free_for, others_leave_free}
 use Rattle.fc_image.specs.Sound.{AreSound}
 use Rattle.fc_newmap.specs.NewMap.{IsNewMap}
+use Rattle.fc_slack.proofs.LowLemmas.{or_true}
 
 -- ---- tests of lists
 
@@ -64,10 +65,6 @@ all_apart row t (p ∷ objects) = by (t p) (all_apart row t objects)
         ≡ ((b || is_apart row p.sectors) && list_all (λ p. t p || is_apart row p.sectors) objects)
     by true h = h
     by false h = apart-append row p.sectors (flat_map (λ p. p.sectors) (filter (λ p. not (t p)) objects)) ∙ ap (λ (b : Bool). is_apart row p.sectors && b) h
-
-or_true : (b : Bool) → (b || true) ≡ true
-or_true true = refl
-or_true false = refl
 
 none_in : (xs : List ℕ) → nat_lt 0 (length xs) ≡ false → xs ≡ []
 none_in [] e = refl

@@ -18,20 +18,18 @@ use Rattle.fc_image.specs.Layout.{Layout, dir_form, id_of, is_object_id}
 use Rattle.fc_image.specs.Opening.{Opened, agreement, difference}
 use Rattle.fc_image.specs.Stays.{IsNewKind}
 use Rattle.fc_image.proofs.MoveLemmas.{open_by}
-use Rattle.fc_image.proofs.OneZoneLemmas.{and_first, and_second}
 use Rattle.fc_image.proofs.OpenedLemmas.{edited_image_law}
 use Rattle.fc_image.proofs.RecordLemmas.{agree}
 use Rattle.fc_changes.specs.Owed.{IsBefore}
 use Rattle.fc_writing.specs.declared.ready.RootPlace.{RootPlace}
 use Rattle.fc_writing.specs.Steps.{CanRoot}
+use Rattle.fc_slack.proofs.LowLemmas.{or_true}
+use Rattle.fc_growths.proofs.RootLemmas.{no_difference, raw_of}
+use Rattle.fc_record.proofs.KindLemmas.{and_first, and_second}
 
 -- The map's own record has a version above 0, as it is on a disc with big directories.
 abbrev pub HasVersion : Map → Type 0
 HasVersion m = 0 < (map_record (sector_of m 0)).version
-
-or_true : (b : Bool) → (b || true) ≡ true
-or_true true = refl
-or_true false = refl
 
 pub can_root : (m : Map) (p : RootPlace) → HasVersion m → 2 ≤ p.address / 256 → is_big_size p.len ≡ true → CanRoot m p
 can_root m p version high big = record {
@@ -40,16 +38,6 @@ can_root m p version high big = record {
 }
 
 -- ---- an opened image
-
-no_difference : (r s own : DiscRecord) (d : Option ℕ) → agreement r s d ≡ Ok own → d ≡ None
-no_difference r s own (Some at) e = absurd (cc)
-no_difference r s own None e = refl
-
-raw_of : (kind : Kind) (r : DiscRecord) → IsNewKind kind r → IsKind kind → r ≡ record_of r.raw
-raw_of (Boot s) r new is = subst (λ (t : DiscRecord). t ≡ record_of t.raw) new is.from_raw
-raw_of (OneZone s) r new is = subst (λ (t : DiscRecord). t ≡ record_of t.raw) new is.0.from_raw
-raw_of DiscD r new is = absurd new
-raw_of (DiscL units) r new is = absurd new
 
 some_version : (v : ℕ) → (let f : NameForm = cond (v == 0) forms.Ten forms.Long in f) ≡ forms.Long → 0 < v
 some_version zero e = absurd (cc)

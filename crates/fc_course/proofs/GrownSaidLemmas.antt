@@ -16,7 +16,7 @@ use Rattle.fc_laws.specs.agree.Agreed.{CanSay}
 use Rattle.fc_laws.specs.nodes.Edits.{Nodes}
 use Rattle.fc_tree.specs.Agree.{HasForm}
 use Rattle.fc_tree.specs.Nodes.{HoldObjects, number_of}
-use Rattle.fc_tree.proofs.MemberLemmas.{contains_cases, contains_here, contains_later, no_element, in_map}
+use Rattle.fc_tree.proofs.MemberLemmas.{contains_here, no_element, in_map}
 use Rattle.fc_edits.specs.Addition.{Addition, edit}
 use Rattle.fc_edits.specs.Edit.{Amended, joining, leaving, objects}
 use Rattle.fc_edits.specs.Growing.{Holder, IsGrowing, Told, amended_by, grown_by, regrown, up_of, IsTold}
@@ -33,9 +33,10 @@ use Rattle.fc_course.proofs.GrownSpaceLemmas.{growing_of}
 use Rattle.fc_course.proofs.GrownToldLemmas.{num, parent_now, num_is, other_long}
 use Rattle.std.proofs.lemmas.List.{length_push}
 use Rattle.std.proofs.lemmas.List.Elements.{Contains-append_cases, Contains-append_left}
-use Rattle.fc_image.proofs.PathsLemmas.{unless}
 use Rattle.fc_tree.proofs.WalkedLemmas.{child_path}
 use Rattle.fc_course.proofs.GrownAroundLemmas.{IsCutAround, in_filtered, none_holds}
+use Rattle.std.proofs.lemmas.Bool.{false_from_ne_true as unless}
+use Rattle.fc_image.proofs.EntriesLemmas.{later as contains_later, cases as contains_cases}
 
 -- A new directory comes with its own listing, and a file with none.
 abbrev pub IsOwnListing : ℕ → Option Draft → List Listing → Type 0

@@ -19,7 +19,6 @@ use Rattle.fc_image.specs.Walk.{Listing, Object, is_directory_object, object_siz
 use Rattle.fc_image.specs.Objects.{has_sectors, objects_of}
 use Rattle.fc_image.specs.Edits.{IsAt}
 use Rattle.fc_image.proofs.EntriesLemmas.{from_filter}
-use Rattle.fc_image.proofs.OneZoneLemmas.{and_second}
 use Rattle.fc_image.specs.effects.Placed.{IsPlan, holes_left}
 use Rattle.fc_image.specs.effects.Sharing.{new_ids, units}
 use Rattle.fc_image.specs.effects.Short.{has_room, is_alone}
@@ -59,6 +58,9 @@ use Rattle.fc_course.proofs.GrownChangeLemmas.{taking_of}
 use Rattle.fc_image.proofs.HolesLemmas.{in_id}
 use Rattle.fc_newmap.proofs.PlaceLemmas.{holder_of, id_run_in}
 use Rattle.fc_course.proofs.NodeLemmas.{each_at}
+use Rattle.fc_changes.proofs.NewPlaceLemmas.{some_there as some_listed}
+use Rattle.fc_outcomes.proofs.lemmas.AddedLemmas.{untaken_one as untaken_is}
+use Rattle.fc_record.proofs.KindLemmas.{and_second}
 
 -- ---- small facts
 
@@ -73,14 +75,6 @@ new_id_high m id at =
 pub long : (parts : List ZoneRun) (bits : ℕ) → 0 < bits → bits ≤ bits_in parts → 0 < length parts
 long [] bits some enough = absurd (omega (arith, some, enough))
 long (x ∷ parts) bits some enough = omega arith
-
-pub some_listed : (xs : List ℕ) (t : ℕ) → is_among xs t ≡ true → nat_lt 0 (length xs) ≡ true
-some_listed [] t h = absurd (cc)
-some_listed (x ∷ xs) t h = lt-ltb 0 (length (x ∷ xs)) (omega arith)
-
-untaken_is : (hs : List ZoneRun) (id : ℕ) (parts : List ZoneRun) → untaken hs (takings_of id parts) ≡ holes_left hs parts
-untaken_is hs id [] = sym (left_of_none hs)
-untaken_is hs id (p ∷ parts) = refl
 
 -- the owners of other nodes that keep an identifier, if no file is copied
 rest_is : (owners : List Owner) (node id : ℕ) → has_rest owners node None id ≡ has_other owners node id

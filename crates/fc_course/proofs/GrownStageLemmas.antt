@@ -19,7 +19,7 @@ use Rattle.fc_laws.specs.nodes.Edits.{Nodes}
 use Rattle.fc_tree.specs.Agree.{HasForm}
 use Rattle.fc_tree.specs.Nodes.{HoldObjects, number_of}
 use Rattle.fc_tree.specs.Parts.{Parts}
-use Rattle.fc_tree.proofs.MemberLemmas.{contains_cases, contains_later, from_map, in_map, no_element}
+use Rattle.fc_tree.proofs.MemberLemmas.{from_map, in_map, no_element}
 use Rattle.fc_tree.proofs.SoundLemmas.{children_stored}
 use Rattle.fc_tree.proofs.WalkedLemmas.{same_some}
 use Rattle.fc_change.specs.declared.change.Regrowth.{Regrowth}
@@ -30,10 +30,8 @@ use Rattle.fc_course.proofs.GrownToldLemmas as of
 use Rattle.fc_course.proofs.GrownToldLemmas.{num, num_is}
 use Rattle.fc_course.proofs.NodeLemmas as its
 use Rattle.fc_laws.proofs.lemmas.nodes.OtherLemmas.{name_there}
-
-not_false : (b : Bool) → (b ≡ false → ⊥) → b ≡ true
-not_false true never = refl
-not_false false never = absurd (never refl)
+use Rattle.std.proofs.lemmas.Bool.{true_from_ne_false as not_false}
+use Rattle.fc_image.proofs.EntriesLemmas.{later as contains_later, cases as contains_cases}
 
 -- ---- big directories
 

@@ -33,6 +33,8 @@ use Rattle.fc_change.specs.GrownSpace.{gone_at_once, kept_parts, plans_of}
 use Rattle.fc_change.specs.Steps.{IsSpaceStep, IsStep}
 use Rattle.fc_course.proofs.RowLemmas.{same_runs}
 use Rattle.fc_course.proofs.StepLemmas.{edited_same, every_same, given_none, holes_same}
+use Rattle.fc_laws.proofs.lemmas.agree.MapLemmas.{no_id as none_goes}
+use Rattle.fc_changes.proofs.CommittedLemmas.{all_same as runs_same}
 
 -- ---- nothing is taken, or goes back
 
@@ -43,10 +45,6 @@ nothing_taken id z (r ∷ runs) = ap₂ (λ (a b : List Run). a ++ b) (by (is_ho
     by : (b : Bool) → (let rs : List Run = cond b (r ∷ []) (r ∷ []) in rs) ≡ r ∷ []
     by true = refl
     by false = refl
-
-none_goes : (k : RunKind) → has_id_that (is_one_of []) k ≡ false
-none_goes kinds.Hole = refl
-none_goes (kinds.Id id) = refl
 
 -- whatever is kept
 all_stay : (kept ps : List ZoneRun) → filter (stays_given [] kept) ps ≡ ps
@@ -109,10 +107,6 @@ two_taken m n (Some p) (Some q) is t =
     let u = t.3 in (t.0, one_taken m t.0 p t.1 t.2, subst (λ (x : Map). IsTakenOne t.0 x (Some q)) (sym u.3) (one_taken t.0 u.0 q u.1 u.2))
 
 -- ---- maps with the same runs
-
-runs_same : (m n : Map) → KeepsRuns m n → (zones : List ℕ) → runs_in n zones ≡ runs_in m zones
-runs_same m n kept [] = refl
-runs_same m n kept (z ∷ zones) = ap₂ (λ (runs : List Run) (others : List ZoneRun). placed z runs ++ others) (kept.runs z) (runs_same m n kept zones)
 
 -- What was taken of a map was taken of one that has the same runs.
 took_of : (m first n : Map) (id : ℕ) (parts : List ZoneRun) → KeepsRuns m first → HasTaken first n id parts → HasTaken m n id parts

@@ -11,7 +11,7 @@ use Rattle.fc_drafts.specs.declared.draft.Draft.{Draft}
 use Rattle.fc_image.specs.Layout.{Layout}
 use Rattle.fc_image.specs.Walk.{Listing, Object}
 use Rattle.fc_laws.specs.nodes.Edits.{Nodes}
-use Rattle.fc_tree.proofs.MemberLemmas.{contains_cases, no_element}
+use Rattle.fc_tree.proofs.MemberLemmas.{no_element}
 use Rattle.fc_change.specs.declared.change.Change.{Change}
 use Rattle.fc_change.specs.declared.change.Regrowth.{Regrowth}
 use Rattle.fc_change.specs.declared.change.Says.{Says}
@@ -24,6 +24,7 @@ use Rattle.fc_course.proofs.GrownOwnerLemmas.{IsOwned, cut}
 use Rattle.fc_course.proofs.GrownPreparedLemmas.{IsGrownChange}
 use Rattle.fc_tree.specs.Parts.{owner_of}
 use Rattle.fc_image.specs.Objects.{has_sectors}
+use Rattle.fc_image.proofs.EntriesLemmas.{cases as contains_cases}
 
 one_there : (g : Option Regrowth) (nodes : Nodes) (n : ℕ) (r : Rewriting) (s : Says) → Tells g nodes n r s → IsSome (get nodes s.node)
 one_there g nodes n r s is = ap (λ (k : ℕ). is_some (get nodes k)) is.number ∙ ap is_some is.there

@@ -3,7 +3,7 @@ use Rattle.std.proofs.Common.{◌≡◌, ◌≤◌, ◌⊎◌, inl, inr, ℕ, �
 use Rattle.std.specs.Prelude.{Contains, filter}
 use Rattle.std.specs.FinMap.{get}
 use Rattle.std.specs.Option.{option_map_or, option_to_list, unwrap_or}
-use Rattle.std.proofs.lemmas.Bool.{eqb-true, ne_eqb}
+use Rattle.std.proofs.lemmas.Bool.{eqb-true, ne_eqb, false_from_ne_true as unless}
 use Rattle.fc_names.specs.Names.{Path, is_same_path}
 use Rattle.fc_names.specs.declared.name.NameForm.{NameForm}
 use Rattle.fc_names.specs.declared.name.NameForm.TheVariants as forms
@@ -17,12 +17,11 @@ use Rattle.fc_image.specs.Objects.{listing_at}
 use Rattle.fc_image.specs.Report.{holder_address}
 use Rattle.fc_image.specs.Sound.{AreSound}
 use Rattle.fc_image.specs.Walk.{Listing, Object, is_directory_object}
-use Rattle.fc_image.proofs.PathsLemmas.{cut, unless}
+use Rattle.fc_image.proofs.PathsLemmas.{cut}
 use Rattle.fc_image.proofs.RelistLemmas.{folded_long}
 use Rattle.fc_changes.proofs.BasicLemmas.{clash}
 use Rattle.fc_laws.specs.nodes.Edits.{Nodes}
 use Rattle.fc_laws.proofs.lemmas.nodes.FitsLemmas.{kid_lower}
-use Rattle.fc_laws.proofs.lemmas.nodes.ListLemmas.{map_append}
 use Rattle.fc_placing.proofs.CopyingLemmas.{dirs_same}
 use Rattle.fc_refusals.specs.Places.{entries_at, entries_in}
 use Rattle.fc_refusals.proofs.TargetLemmas.{entries_body}
@@ -30,7 +29,7 @@ use Rattle.fc_tree.specs.declared.node.Node.{Node}
 use Rattle.fc_tree.specs.Agree.{HasForm}
 use Rattle.fc_tree.specs.Counts.{address_in}
 use Rattle.fc_tree.specs.Nodes.{HoldObjects, body_of, child, number_of}
-use Rattle.fc_tree.proofs.MemberLemmas.{contains_here, contains_later}
+use Rattle.fc_tree.proofs.MemberLemmas.{contains_here}
 use Rattle.fc_tree.proofs.PlaceLemmas.{last_step}
 use Rattle.fc_tree.proofs.SoundLemmas.{children_stored, folds_alike}
 use Rattle.fc_tree.proofs.WalkedLemmas.{child_is_object, child_path, holder-push, listed_directory, same_some}
@@ -42,8 +41,11 @@ use Rattle.fc_change.specs.Prepared.{IsPieceOf}
 use Rattle.fc_writing.specs.declared.ready.Piece.{Piece}
 use Rattle.fc_writing.specs.Ready.{place_of}
 use Rattle.fc_course.proofs.GrownAroundLemmas.{IsCutAround}
-use Rattle.fc_course.proofs.NodeLemmas.{content_is, entry_is, held_at, says_it, sectors_are, size_of_form}
+use Rattle.fc_course.proofs.NodeLemmas.{content_is, entry_is, held_at, sectors_are, size_of_form}
 use Rattle.fc_course.proofs.NodeLemmas as its
+use Rattle.fc_laws.proofs.lemmas.agree.SayLemmas.{as_directory as says_it}
+use Rattle.fc_image.proofs.TreeLemmas.{map_both as map_append}
+use Rattle.fc_image.proofs.EntriesLemmas.{later as contains_later}
 
 -- ---- paths
 

@@ -29,11 +29,7 @@ use Rattle.fc_change.specs.Places.{AreLeft, ArePlaced, IsPlaceFor, IsPlacingFor,
 use Rattle.fc_change.specs.Shortage.{is_grown_alone}
 use Rattle.fc_change.specs.Steps.{IsStep}
 use Rattle.fc_course.proofs.GrownSpaceLemmas.{left_is}
-
-dir_some : (form : NameForm) → 0 < new_dir_size form
-dir_some forms.Seven = omega arith
-dir_some forms.Ten = omega arith
-dir_some forms.Long = omega arith
+use Rattle.fc_course.proofs.ArrivalPlaceLemmas.{dir_some}
 
 -- the node of the grown directory is that of its growth
 grown_node : (m : Map) (h : Parts) (object : Option Plan) (g : Growth) (dir : Option Plan) (p : GrownPlace) → IsGrownPlace m h object g dir p → p.directory.node ≡ g.node

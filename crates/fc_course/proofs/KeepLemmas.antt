@@ -43,24 +43,9 @@ kept_same d disk was error stands quiet not_fault = record {
   cause = λ e. absurd (not_fault (same_error error DiskFault e));
 }
 
-no_fault : (h : Parts) (job : Job) (name : List ℕ) (error : CommandError) → RefusesJob h job name error → error ≡ DiskFault → ⊥
-no_fault h job name (Refused r) is e = cc
-no_fault h job name NoMemory is e = cc
-no_fault h job name DiskFault is e = absurd is
-
-pub kept_refused : {D : Type 0} (d : Ghosts D) (disk : D) (was now : Holdings) (job : Job) (name : List ℕ) (error : CommandError) → Stands d was disk → IsFalse (d.pending disk) → now ≡ was
-    → RefusesJob (parts_of was) job name error → ChangeKeeps d disk disk was now (Err error)
-kept_refused d disk was now job name error stands quiet same is =
-    subst (λ (h : Holdings). ChangeKeeps d disk disk was h (Err error)) (sym same) (kept_same d disk was error stands quiet (no_fault (parts_of was) job name error is))
-
 -- ---- done, or a fault of the disk
 
 pub kept_done : {D : Type 0} (d : Ghosts D) (old new : D) (was now : Holdings) → Stands d now new → IsFalse (d.pending new) → IsSameKind (layout_of was.places) (layout_of now.places)
     → dir_form (layout_of now.places) ≡ dir_form (layout_of was.places) → SameForm d old new → d.faults old ≤ d.faults new → ChangeKeeps d old new was now (Ok tt)
 kept_done d old new was now stands quiet map dirs form later =
     record { unchanged = tt; stands = stands; settled = quiet; map = map; dirs = dirs; form = form; faults = later; cause = λ e. absurd (cc) }
-
-pub kept_fault : {D : Type 0} (d : Ghosts D) (old new : D) (was now : Holdings) → IsSameKind (layout_of was.places) (layout_of now.places) → SameForm d old new → d.faults old ≤ d.faults new
-    → Rose (d.faults old) (d.faults new) → ChangeKeeps d old new was now (Err DiskFault)
-kept_fault d old new was now map form later rose =
-    record { unchanged = λ no. absurd (no refl); stands = tt; settled = tt; map = map; dirs = tt; form = form; faults = later; cause = λ e. rose }

@@ -3,7 +3,7 @@ use Rattle.std.proofs.Common.{◌≡◌, ◌<◌, ◌≤◌, ◌==◌, ◌||◌,
 use Rattle.std.specs.Prelude.{IsPermutation, nat_lt}
 use Rattle.std.specs.Int.{div_ceil}
 use Rattle.std.specs.List.{list_any}
-use Rattle.std.proofs.lemmas.Bool.{eq-eqb, lt-ltb}
+use Rattle.std.proofs.lemmas.Bool.{eq-eqb, lt-ltb, or_right as or_second}
 use Rattle.std.proofs.lemmas.Grind.{div_ceil_times}
 use Rattle.fc_alloc.specs.declared.owner.Owner.{Owner}
 use Rattle.fc_newmap.specs.Map.{Map, is_used}
@@ -13,7 +13,6 @@ use Rattle.fc_image.specs.Objects.{is_owner_of, objects_of}
 use Rattle.fc_image.specs.Sound.{AreSound}
 use Rattle.fc_image.specs.Walk.{Listing, Object}
 use Rattle.fc_changes.specs.Owed.{GivesBack}
-use Rattle.fc_changes.proofs.BasicLemmas.{or_second}
 use Rattle.fc_changes.proofs.SpaceLemmas.{still_owned}
 use Rattle.fc_laws.specs.nodes.Edits.{Nodes}
 use Rattle.fc_laws.proofs.lemmas.agree.BeforeLemmas.{new_shape}

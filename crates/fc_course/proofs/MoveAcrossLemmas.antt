@@ -16,10 +16,10 @@ use Rattle.fc_image.specs.Layout.{Layout, dir_form}
 use Rattle.fc_image.specs.Report.{holder_address}
 use Rattle.fc_image.specs.Walk.{Listing, Object, object_size}
 use Rattle.fc_image.specs.effects.Steady.{IsRewritten, edited, holds_named, is_renamed_by, with_made, without_name}
-use Rattle.fc_changes.proofs.BasicLemmas.{clash, or_second, unless}
+use Rattle.fc_changes.proofs.BasicLemmas.{clash}
 use Rattle.fc_tree.specs.Nodes.{is_directory_node}
-use Rattle.fc_tree.proofs.MemberLemmas.{contains_cases, contains_here, contains_later, from_map}
-use Rattle.fc_tree.proofs.SoundLemmas.{children_stored, folds_alike, same_by_folds}
+use Rattle.fc_tree.proofs.MemberLemmas.{contains_here, from_map}
+use Rattle.fc_tree.proofs.SoundLemmas.{children_stored, folds_alike}
 use Rattle.fc_tree.proofs.PlaceLemmas.{same_number}
 use Rattle.fc_tree.proofs.WalkedLemmas.{listed_directory, same_some}
 use Rattle.fc_laws.specs.agree.Agreed.{CanSay}
@@ -37,13 +37,18 @@ use Rattle.fc_outcomes.specs.Moving.{HasEntries}
 use Rattle.fc_refusals.specs.declared.target.Renaming.{Renaming}
 use Rattle.fc_change.specs.declared.change.Says.{Says}
 use Rattle.fc_change.specs.Directories.{Rewriting, TellAll}
-use Rattle.fc_course.proofs.MoveDirectoryLemmas.{FitsName, entries_entered, form_entered, size_entered}
+use Rattle.fc_course.proofs.MoveDirectoryLemmas.{entries_entered, form_entered, size_entered}
 use Rattle.fc_course.proofs.MoveEditLemmas.{AreSayable, IsMoved, entries_stay, lies_there, map_insert, own_can, own_entries, own_named, own_once, own_rewritten, own_said as own_are, own_size}
 use Rattle.fc_course.proofs.MoveLemmas.{AreOthers, IsSeen, absent, are_others, both, entry_there, h, holder_other, home_other, k, k_other, k_stays, l, l_other, l_stays, lies_from, named_from, not_into, o, others_unlike}
 use Rattle.fc_course.proofs.MoveSaidLemmas.{AreSaid, IsOwnTold, both_said, last_first, once_last, own_said}
 use Rattle.fc_course.proofs.MoveTellLemmas.{ArePartsTold, IsFirstTold, address_is, first_told, none_told, own_told, parts_told, rewritten_here}
-use Rattle.fc_course.proofs.NodeLemmas.{says_it, size_of_form}
+use Rattle.fc_course.proofs.NodeLemmas.{size_of_form}
 use Rattle.fc_course.proofs.RemovalLemmas.{entries_left, form_left}
+use Rattle.std.proofs.lemmas.Bool.{false_from_ne_true as unless, or_right as or_second}
+use Rattle.fc_course.proofs.EnteredLemmas.{HasRoomMore as FitsName}
+use Rattle.fc_laws.proofs.lemmas.agree.SayLemmas.{as_directory as says_it}
+use Rattle.fc_image.proofs.EntriesLemmas.{later as contains_later, cases as contains_cases}
+use Rattle.fc_image.proofs.CommandLemmas.{same_by_folds}
 
 module _ (layout : Layout) (nodes : Nodes) (listings : List Listing) (from to : Path) (r : Renaming) (name : List ℕ) (x : IsSeen layout nodes listings from to r name) (away : r.holder ≡ r.target.holder → ⊥) where
   abbrev it : Object

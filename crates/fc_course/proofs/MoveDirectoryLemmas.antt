@@ -26,12 +26,9 @@ use Rattle.fc_image.specs.effects.Short.{Gain, Growth}
 use Rattle.fc_image.specs.effects.Steady.{replaced_entry}
 use Rattle.fc_image.specs.Walk.{Listing}
 use Rattle.fc_tree.specs.Agree.{HasForm}
+use Rattle.fc_course.proofs.EnteredLemmas.{HasRoomMore as FitsName, can_name}
 
 -- ---- room for a name
-
--- The directory has room for a name more.
-abbrev pub FitsName : Directory → List ℕ → Type 0
-FitsName dir name = (gain : Gain) → GetsName dir name gain → HasRoom dir gain rooms.Fits
 
 -- It has room for a name in the place of another, if that is spelled otherwise.
 abbrev pub FitsInPlace : Directory → List ℕ → List ℕ → Type 0
@@ -139,13 +136,6 @@ alike_held forms.Seven a b (Directory.Big x) new e h k can = absurd h
 alike_held forms.Ten a b (Directory.Big x) new e h k can = absurd h
 alike_held forms.Long a b (Directory.Big x) (Directory.Small y) e h k can = absurd k
 alike_held forms.Long a b (Directory.Big x) (Directory.Big y) e h k can = can
-
--- a name that may be written,
-pub can_name : (form : NameForm) (content : Directory) (len : ℕ) (name : List ℕ) → HasForm form len content → is_writable form name ≡ true → CanName content name
-can_name forms.Seven (Directory.Small dir) len name has good = subst (λ (f : SmallForm). is_writable (names_of_form f) name ≡ true) (sym has) good
-can_name forms.Ten (Directory.Small dir) len name has good = subst (λ (f : SmallForm). is_writable (names_of_form f) name ≡ true) (sym has) good
-can_name forms.Long (Directory.Small dir) len name has good = absurd has
-can_name form (Directory.Big dir) len name has good = tt
 
 short : (limit : ℕ) (name : List ℕ) (rest : Bool) → (is_in_range 1 limit (length name) && rest) ≡ true → length name ≤ limit
 short limit name rest good = leb-true (length name) limit (and_parts (nat_le 1 (length name)) (nat_le (length name) limit) (and_parts (is_in_range 1 limit (length name)) rest good).0).1

@@ -1,7 +1,7 @@
 -- The edit that `rename` makes, if nothing is copied and no directory grows: what is known of it, within a directory and to another one.
 use Rattle.std.proofs.Common.{◌≡◌, ◌<◌, ◌&&◌, ◌||◌, inl, inr, ℕ, zero, suc, Bool, true, false, cond, List, [], ◌∷◌, ◌++◌, insert, length, map, refl, sym, ap, ap₂, subst, ◌∙◌, arith, Option, Some}
 use Rattle.std.specs.Prelude.{Contains}
-use Rattle.std.proofs.lemmas.Bool.{and_parts}
+use Rattle.std.proofs.lemmas.Bool.{and_parts, or_right as or_second}
 use Rattle.fc_names.specs.Names.{Path, is_same_name, is_same_path}
 use Rattle.fc_alloc.specs.declared.owner.Owner.{Owner}
 use Rattle.fc_model.specs.Command.{Command}
@@ -17,12 +17,12 @@ use Rattle.fc_image.specs.Walk.{Listing, Object, object_size}
 use Rattle.fc_image.specs.effects.Steady.{IsRewritten, holds_named, is_renamed_by}
 use Rattle.fc_image.proofs.PathsLemmas.{cut, itself, same_last}
 use Rattle.fc_image.proofs.RenameLemmas.{last_pushed}
-use Rattle.fc_changes.proofs.BasicLemmas.{holder_pushed, or_second}
+use Rattle.fc_changes.proofs.BasicLemmas.{holder_pushed}
 use Rattle.fc_tree.specs.Agree.{IsDirectory}
 use Rattle.fc_tree.specs.Counts.{address_in}
 use Rattle.fc_tree.specs.Nodes.{number_of}
-use Rattle.fc_tree.proofs.MemberLemmas.{contains_here, contains_later, from_map, no_element}
-use Rattle.fc_tree.proofs.SoundLemmas.{folds_alike, same_by_folds}
+use Rattle.fc_tree.proofs.MemberLemmas.{contains_here, from_map, no_element}
+use Rattle.fc_tree.proofs.SoundLemmas.{folds_alike}
 use Rattle.fc_tree.proofs.WalkedLemmas.{listed_directory}
 use Rattle.fc_laws.specs.agree.Agreed.{CanSay}
 use Rattle.fc_laws.specs.nodes.Edits.{Nodes, OwnersEdited, owners_with}
@@ -37,7 +37,10 @@ use Rattle.fc_change.specs.declared.change.Says.{Says}
 use Rattle.fc_course.proofs.MoveDirectoryLemmas.{form_moved}
 use Rattle.fc_course.proofs.MoveLemmas.{IsOwn, IsSeen, o}
 use Rattle.fc_course.proofs.MoveSaidLemmas.{AreOwnSaid, AreSaid, IsOwnTold, said_own}
-use Rattle.fc_course.proofs.NodeLemmas.{says_it, size_of_form}
+use Rattle.fc_course.proofs.NodeLemmas.{size_of_form}
+use Rattle.fc_laws.proofs.lemmas.agree.SayLemmas.{as_directory as says_it}
+use Rattle.fc_image.proofs.EntriesLemmas.{later as contains_later}
+use Rattle.fc_image.proofs.CommandLemmas.{same_by_folds}
 
 -- ---- what is known of it
 

@@ -1,7 +1,7 @@
 -- `rename`, by a walk whose objects the nodes hold: what moves, the directories that it leaves and joins, and its own if it is one.
 use Rattle.std.proofs.Common.{◌≡◌, ◌≤◌, inl, inr, ⊎_elim, ◌⊎◌, ℕ, Bool, true, false, List, [], ◌∷◌, ◌++◌, length, map, refl, sym, ap, subst, ◌∙◌, append_assoc, Option, Some}
 use Rattle.std.specs.Prelude.{Contains, IsPermutation, slice_get}
-use Rattle.std.proofs.lemmas.Bool.{cases_eq}
+use Rattle.std.proofs.lemmas.Bool.{cases_eq, false_from_ne_true as unless}
 use Rattle.std.proofs.lemmas.List.Elements.{Contains-append_cases, Contains-append_right}
 use Rattle.std.proofs.lemmas.List.Sorted.{IsPermutation-append_right, IsPermutation-trans}
 use Rattle.fc_names.specs.Names.{Path, folded_path, is_same_name, is_same_path, is_writable}
@@ -12,16 +12,16 @@ use Rattle.fc_image.specs.Layout.{Layout, dir_form}
 use Rattle.fc_image.specs.Objects.{objects_of}
 use Rattle.fc_image.specs.Sound.{AreSound}
 use Rattle.fc_image.specs.Walk.{Listing, Object, is_directory_object}
-use Rattle.fc_image.proofs.CommandLemmas.{other_path}
+use Rattle.fc_image.proofs.CommandLemmas.{other_path, same_by_folds}
 use Rattle.fc_image.proofs.PathsLemmas.{is_at, itself, many}
-use Rattle.fc_changes.proofs.BasicLemmas.{clash, unless}
+use Rattle.fc_changes.proofs.BasicLemmas.{clash}
 use Rattle.fc_changes.proofs.ReadsLemmas.{LiesIn, lies_in, same_name_turned}
 use Rattle.fc_tree.specs.Agree.{HasForm, IsDirectory}
 use Rattle.fc_tree.specs.Nodes.{HoldObjects, is_directory_node, number_of}
 use Rattle.fc_tree.proofs.FindLemmas.{directory_at}
 use Rattle.fc_tree.proofs.MemberLemmas.{contains_here, from_map, in_filter, many_permuted}
 use Rattle.fc_tree.proofs.PlaceLemmas.{one_path, same_number}
-use Rattle.fc_tree.proofs.SoundLemmas.{folds_alike, same_by_folds}
+use Rattle.fc_tree.proofs.SoundLemmas.{folds_alike}
 use Rattle.fc_tree.proofs.WalkedLemmas.{child_path, directories_listed, listed_directory, same_some}
 use Rattle.fc_laws.specs.nodes.Edits.{Nodes}
 use Rattle.fc_laws.specs.nodes.Laws.{IsHeld}

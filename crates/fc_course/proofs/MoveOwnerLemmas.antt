@@ -2,7 +2,7 @@
 use Rattle.std.proofs.Common.{◌≡◌, ◌++◌, ℕ, Bool, true, false, cond, List, [], ◌∷◌, filter, map, refl, sym, ap, ap₂, subst, ◌∙◌, Option, Some, None, eq-eqb, is_some}
 use Rattle.std.specs.Prelude.{◌==◌, Contains, IsPermutation}
 use Rattle.std.specs.Option.{unwrap_or}
-use Rattle.std.proofs.lemmas.Bool.{eqb-true}
+use Rattle.std.proofs.lemmas.Bool.{eqb-true, false_from_ne_true as unless}
 use Rattle.std.proofs.lemmas.List.Sorted.{IsPermutation-map, IsPermutation-refl, IsPermutation-trans}
 use Rattle.fc_names.specs.Names.{Path, is_same_path}
 use Rattle.fc_alloc.specs.declared.owner.Owner.{Owner}
@@ -12,18 +12,16 @@ use Rattle.fc_drafts.specs.Entries.{renamed_entry}
 use Rattle.fc_image.specs.Layout.{Layout}
 use Rattle.fc_image.specs.Objects.{has_sectors, objects_of}
 use Rattle.fc_image.specs.Walk.{Object}
-use Rattle.fc_image.proofs.EntriesLemmas.{from_filter}
-use Rattle.fc_changes.proofs.BasicLemmas.{clash, unless}
+use Rattle.fc_image.proofs.EntriesLemmas.{from_filter, later as contains_later}
+use Rattle.fc_changes.proofs.BasicLemmas.{clash}
 use Rattle.fc_tree.specs.Parts.{AreOwners, owner_of}
 use Rattle.fc_tree.proofs.MemberLemmas.{from_map}
 use Rattle.fc_tree.proofs.PlaceLemmas.{one_path}
-use Rattle.fc_tree.proofs.SoundLemmas.{same_by_folds}
 use Rattle.fc_laws.specs.nodes.Edits.{Nodes, OwnersEdited, owner_with, owners_with}
 use Rattle.fc_laws.proofs.lemmas.agree.CutLemmas.{cut_law}
 use Rattle.fc_laws.proofs.lemmas.agree.KeptLemmas.{alone}
 use Rattle.fc_laws.proofs.lemmas.nodes.ListLemmas.{in_first, map_fixed}
 use Rattle.fc_laws.proofs.lemmas.nodes.OwnerLemmas.{owner_law}
-use Rattle.fc_tree.proofs.MemberLemmas.{contains_later}
 use Rattle.fc_refusals.specs.declared.target.Renaming.{Renaming}
 use Rattle.fc_image.specs.Walk.{Listing}
 use Rattle.fc_image.proofs.ShuffleLemmas.{IsPermutation-filter}
@@ -37,6 +35,7 @@ use Rattle.fc_course.proofs.MoveLemmas.{IsSeen, among, h, k, o}
 use Rattle.fc_course.proofs.OwnerLemmas.{owner_is}
 use Rattle.fc_course.proofs.StayingLemmas.{owner_if_is}
 use Rattle.fc_course.proofs.TargetLemmas as target_of
+use Rattle.fc_image.proofs.CommandLemmas.{same_by_folds}
 
 -- ---- an owner that is there, if there is one
 

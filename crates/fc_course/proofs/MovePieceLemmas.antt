@@ -21,7 +21,7 @@ use Rattle.fc_space.specs.Space.{PlacesSuffice}
 use Rattle.fc_tree.specs.declared.node.Node.{Node}
 use Rattle.fc_tree.specs.Agree.{AreWalked}
 use Rattle.fc_tree.specs.Nodes.{HoldObjects, number_of}
-use Rattle.fc_tree.proofs.MemberLemmas.{contains_cases, contains_here, contains_later, from_map, in_map, no_element}
+use Rattle.fc_tree.proofs.MemberLemmas.{contains_here, from_map, in_map, no_element}
 use Rattle.fc_tree.proofs.WalkedLemmas.{listed_directory, same_some}
 use Rattle.fc_laws.specs.nodes.Edits.{Nodes}
 use Rattle.fc_laws.proofs.lemmas.agree.WalkedLemmas.{had, object_lies, sound}
@@ -42,6 +42,7 @@ use Rattle.fc_course.proofs.MoveSaidLemmas.{AreSaid, IsSaid}
 use Rattle.fc_course.proofs.NodeLemmas.{sectors_are}
 use Rattle.fc_course.proofs.PieceLemmas.{all_low}
 use Rattle.fc_course.proofs.PutLemmas.{AreLong, CopiesNone, put_of, put_out, puts_of, source_puts}
+use Rattle.fc_image.proofs.EntriesLemmas.{later as contains_later, cases as contains_cases}
 
 -- ---- sectors of one after another
 

@@ -4,7 +4,7 @@ use Rattle.std.specs.Prelude.{Contains, Vec}
 use Rattle.std.specs.declared.alloc.Global.{Global}
 use Rattle.std.specs.FinMap.{get, insert as put}
 use Rattle.std.specs.Option.{option_map, option_map_or}
-use Rattle.std.proofs.lemmas.Bool.{cases_eq, ne_eqb}
+use Rattle.std.proofs.lemmas.Bool.{cases_eq, ne_eqb, or_left}
 use Rattle.fc_alloc.specs.declared.owner.Owner.{Owner}
 use Rattle.fc_device.specs.declared.disk.Extent.{Extent}
 use Rattle.fc_names.specs.Names.{Path, is_same_path}
@@ -18,7 +18,6 @@ use Rattle.fc_image.specs.Opening.{Opened}
 use Rattle.fc_image.specs.Walk.{Listing, Object}
 use Rattle.fc_image.specs.effects.Short.{growth_in, is_copied}
 use Rattle.fc_image.specs.effects.Steady.{has_grown, has_new_holder, holds_named, is_renamed_by, may_be_rewritten}
-use Rattle.fc_changes.proofs.BasicLemmas.{or_left}
 use Rattle.fc_tree.specs.declared.node.Node.{Node}
 use Rattle.fc_tree.specs.Parts.{Parts}
 use Rattle.fc_laws.specs.nodes.Edits.{Nodes, with_edited}

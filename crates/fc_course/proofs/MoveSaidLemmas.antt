@@ -16,7 +16,7 @@ use Rattle.fc_tree.specs.declared.node.Node.{Node}
 use Rattle.fc_tree.specs.Counts.{address_in}
 use Rattle.fc_tree.specs.Nodes.{body_in, is_directory_node, number_of}
 use Rattle.fc_tree.specs.declared.node.Body.{Body}
-use Rattle.fc_tree.proofs.MemberLemmas.{contains_cases, contains_here, contains_later, no_element}
+use Rattle.fc_tree.proofs.MemberLemmas.{contains_here, no_element}
 use Rattle.fc_laws.specs.nodes.Edits.{Nodes, with_body}
 use Rattle.fc_laws.proofs.lemmas.nodes.ShapeLemmas.{edited_here, edited_other}
 use Rattle.fc_edits.specs.Edit.{Amended}
@@ -29,6 +29,7 @@ use Rattle.fc_change.specs.After.{with_said}
 use Rattle.fc_change.specs.Directories.{Rewriting, TellAll}
 use Rattle.fc_course.proofs.MoveLemmas.{IsOwn, IsSeen, among, node_kind, o, own_listing}
 use Rattle.fc_course.proofs.MoveTellLemmas.{first_told, none_told, own_told, rewritten}
+use Rattle.fc_image.proofs.EntriesLemmas.{later as contains_later, cases as contains_cases}
 
 -- ---- one said for each of them
 

@@ -3,7 +3,7 @@ use Rattle.std.proofs.Common.{◌≡◌, ◌+◌, ◌*◌, ◌&&◌, inl, inr, �
 use Rattle.std.specs.Prelude.{if◌then◌else◌, is_none, nat_lt}
 use Rattle.std.specs.Option.{option_and_then, option_map, option_map_or}
 use Rattle.std.specs.Str.{bytes_eq}
-use Rattle.std.proofs.lemmas.Bool.{cases_eq, ne_eqb}
+use Rattle.std.proofs.lemmas.Bool.{cases_eq, ne_eqb, false_from_ne_true as unless}
 use Rattle.std.proofs.lemmas.Slice.Eq.{bytes_eq-Decides}
 use Rattle.fc_names.specs.declared.refusal.Refusal.TheVariants as refusals
 use Rattle.fc_names.specs.Names.{Path, is_same_name, is_same_path}
@@ -27,12 +27,12 @@ use Rattle.fc_image.specs.Walk.{Listing, Object, is_directory_object}
 use Rattle.fc_image.specs.effects.Sharing.{new_ids, units}
 use Rattle.fc_image.specs.effects.Short.{Gain, Growth, gain_at, gain_by_new_name, gain_by_rename, gain_in, gain_of, growth_in, growth_of, has_room, holes_without, is_alone, is_copied, is_full_with, is_sharing, moved_growth, needed_bits, needed_ids, new_length, old_need, one_if, short, space_reasons}
 use Rattle.fc_image.proofs.LookupLemmas.{lookup_law}
-use Rattle.fc_changes.proofs.BasicLemmas.{and_false, unless}
+use Rattle.fc_changes.proofs.BasicLemmas.{and_false}
 use Rattle.fc_placing.proofs.CopyingLemmas.{copied_is}
 use Rattle.fc_tree.specs.Nodes.{HoldObjects}
 use Rattle.fc_tree.specs.Parts.{AreOwners, ArePartsOf, Parts}
 use Rattle.fc_tree.proofs.PlaceLemmas.{same_number}
-use Rattle.fc_tree.proofs.SoundLemmas.{folds_alike, same_by_folds}
+use Rattle.fc_tree.proofs.SoundLemmas.{folds_alike}
 use Rattle.fc_tree.proofs.WalkedLemmas.{same_some}
 use Rattle.fc_laws.specs.nodes.Edits.{Nodes}
 use Rattle.fc_refusals.specs.Slots.{IsRenaming}
@@ -46,6 +46,7 @@ use Rattle.fc_course.proofs.MoveDirectoryLemmas.{unlike}
 use Rattle.fc_course.proofs.NodeLemmas as its
 use Rattle.fc_course.proofs.ShortLemmas.{enough}
 use Rattle.fc_course.proofs.TargetLemmas as target_of
+use Rattle.fc_image.proofs.CommandLemmas.{same_by_folds}
 
 -- ---- what the directory that gets the name has room for
 

@@ -54,12 +54,14 @@ use Rattle.fc_course.specs.Jobs.{NoneGrows, IsJobFor}
 use Rattle.fc_course.specs.Stages.{CanPrepareJob, IsSpaced}
 use Rattle.fc_course.specs.Run.{IsMapIn}
 use Rattle.fc_course.proofs.EmptySpaceLemmas.{WantsNoSpace, empty_space, none_grown}
-use Rattle.fc_course.proofs.MoveDirectoryLemmas.{alike_held, can_call, can_name, held_address, renamed_held}
+use Rattle.fc_course.proofs.MoveDirectoryLemmas.{alike_held, can_call, held_address, renamed_held}
 use Rattle.fc_course.proofs.MoveLemmas.{IsSeen, absent, absent_beside, among, entry_there, k, l, node_kind, o, own_listing, same_listing_number}
 use Rattle.fc_course.proofs.MoveTellLemmas.{address_is, can_tell, can_tell_here, has_place, named, own_told, told_by}
 use Rattle.fc_course.proofs.NodeLemmas.{content_is}
 use Rattle.fc_course.proofs.RemovalStageLemmas.{view_of}
 use Rattle.fc_course.proofs.TargetLemmas as target_of
+use Rattle.fc_course.proofs.EnteredLemmas.{can_name}
+use Rattle.fc_course.proofs.ArrivalLemmas.{bad_first as good_first}
 
 -- ---- whose job it is
 
@@ -88,10 +90,6 @@ pub record IsRenamer (h : Parts) (from to : Path) (r : Renaming) (name : List �
   pub known : (v : Opened) → AreSound v.layout v.listings → ArePartsOf h v → IsRenaming h.nodes v.listings from to r
   pub name_is : name ≡ last_name to
   pub good : is_writable (dir_form h.layout) name ≡ true
-
-good_first : (bad : Bool) (rest : List (Option Refusal)) → first_of (when bad refusals.BadName ∷ rest) ≡ None → bad ≡ false
-good_first true rest e = absurd (cc)
-good_first false rest e = refl
 
 good_name : (root good : Bool) → root ≡ false → not (root || good) ≡ false → good ≡ true
 good_name true good none e = absurd (cc)

@@ -15,7 +15,7 @@ use Rattle.fc_tree.specs.Agree.{HasForm}
 use Rattle.fc_tree.specs.Counts.{address_in}
 use Rattle.fc_tree.specs.Nodes.{HoldObjects, is_directory_node, number_of}
 use Rattle.fc_tree.specs.Parts.{Parts}
-use Rattle.fc_tree.proofs.MemberLemmas.{contains_cases, contains_here, contains_later, no_element}
+use Rattle.fc_tree.proofs.MemberLemmas.{contains_here, no_element}
 use Rattle.fc_tree.proofs.WalkedLemmas.{listed_directory}
 use Rattle.fc_laws.specs.nodes.Edits.{Nodes}
 use Rattle.fc_refusals.specs.declared.target.Renaming.{Renaming}
@@ -27,6 +27,7 @@ use Rattle.fc_change.specs.Prepared.{HasPlace}
 use Rattle.fc_course.specs.Run.{IsMapIn}
 use Rattle.fc_course.proofs.NodeLemmas.{can_address, content_is, each_at, held_at}
 use Rattle.fc_course.proofs.NodeLemmas as its
+use Rattle.fc_image.proofs.EntriesLemmas.{later as contains_later, cases as contains_cases}
 
 -- ---- a listed directory
 

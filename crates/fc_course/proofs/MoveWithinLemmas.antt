@@ -18,7 +18,7 @@ use Rattle.fc_image.specs.Report.{holder_address}
 use Rattle.fc_image.specs.Walk.{Listing, Object, object_size}
 use Rattle.fc_image.specs.effects.Steady.{IsRewritten, edited, holds_named, is_renamed_by, with_made, without_name}
 use Rattle.fc_tree.specs.Nodes.{is_directory_node, number_of}
-use Rattle.fc_tree.proofs.MemberLemmas.{contains_cases, contains_here, contains_later, from_map}
+use Rattle.fc_tree.proofs.MemberLemmas.{contains_here, from_map}
 use Rattle.fc_tree.proofs.SoundLemmas.{children_stored}
 use Rattle.fc_tree.proofs.WalkedLemmas.{listed_directory}
 use Rattle.fc_laws.specs.agree.Agreed.{CanSay}
@@ -40,7 +40,9 @@ use Rattle.fc_course.proofs.MoveEditLemmas.{AreSayable, IsMoved, entries_stay, l
 use Rattle.fc_course.proofs.MoveLemmas.{AreOthers, IsSeen, above_to, are_others, entry_there, h, home_other, k, k_other, k_stays, lies_from, named_from, o, same_listing_number}
 use Rattle.fc_course.proofs.MoveSaidLemmas.{AreSaid, IsOwnTold, own_said}
 use Rattle.fc_course.proofs.MoveTellLemmas.{ArePartsTold, IsFirstTold, address_is, first_told, none_told, own_told, parts_told, rewritten_here}
-use Rattle.fc_course.proofs.NodeLemmas.{says_it, size_of_form}
+use Rattle.fc_course.proofs.NodeLemmas.{size_of_form}
+use Rattle.fc_laws.proofs.lemmas.agree.SayLemmas.{as_directory as says_it}
+use Rattle.fc_image.proofs.EntriesLemmas.{later as contains_later, cases as contains_cases}
 
 module _ (layout : Layout) (nodes : Nodes) (listings : List Listing) (from to : Path) (r : Job) (name : List ℕ) (x : IsSeen layout nodes listings from to r name) (here : r.holder ≡ r.target.holder) where
   abbrev it : Object

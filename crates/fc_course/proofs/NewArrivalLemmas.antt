@@ -26,7 +26,6 @@ use Rattle.fc_image.specs.Stays.{OpensAs}
 use Rattle.fc_image.specs.Walk.{Listing, Object, object_size}
 use Rattle.fc_image.specs.effects.Short.{new_dir_size}
 use Rattle.fc_changes.specs.Changed.{IsFileAt, IsInNewSpace}
-use Rattle.fc_changes.proofs.MadeLemmas.{turned}
 use Rattle.fc_edits.specs.Addition.{Addition, IsAddition, NewAddition, edit}
 use Rattle.fc_edits.specs.NewNodes as edited
 use Rattle.fc_edits.specs.Placing.{IsPlaced}
@@ -90,6 +89,7 @@ use Rattle.fc_course.proofs.StepLemmas.{IsTwoStepped}
 use Rattle.fc_course.proofs.TwoPieceLemmas.{AreRoom, room_both}
 use Rattle.fc_course.proofs.TwoPieceLemmas as pieces
 use Rattle.fc_course.proofs.VacantLemmas as vacant
+use Rattle.fc_image.proofs.EditLemmas.{apart_turned as turned}
 
 -- the directory's own sectors
 pub dir_room : (kind : Kind) (m : Map) (nodes : Nodes) (owners : List Owner) (root : Node) (listings : List Listing) (agreed : AgreeOn kind m nodes owners root listings) (o : Object) → Contains (objects_of listings) o

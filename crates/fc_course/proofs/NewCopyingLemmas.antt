@@ -15,13 +15,12 @@ use Rattle.fc_image.specs.Stays.{OpensAs}
 use Rattle.fc_image.specs.Walk.{Listing, Object, is_directory_object, object_size}
 use Rattle.fc_image.specs.effects.Steady.{has_grown, has_new_holder, holds_named, is_renamed_by, may_be_rewritten}
 use Rattle.fc_image.proofs.HolesLemmas.{apart_from}
-use Rattle.fc_changes.proofs.BasicLemmas.{clash, or_left}
-use Rattle.fc_changes.proofs.MadeLemmas.{turned as flipped}
+use Rattle.fc_changes.proofs.BasicLemmas.{clash}
 use Rattle.fc_objects.specs.Extents.{sectors_in}
 use Rattle.fc_objects.specs.Written.{AreApart}
 use Rattle.fc_plan.specs.declared.plan.Plan.{Plan}
 use Rattle.fc_tree.specs.declared.node.Node.{Node}
-use Rattle.fc_tree.proofs.MemberLemmas.{contains_cases, contains_here, contains_later}
+use Rattle.fc_tree.proofs.MemberLemmas.{contains_here}
 use Rattle.fc_tree.proofs.WalkedLemmas.{listed_directory, same_some}
 use Rattle.fc_laws.specs.agree.Agreed.{AgreeOn}
 use Rattle.fc_laws.specs.nodes.Edits.{Nodes}
@@ -53,6 +52,9 @@ use Rattle.fc_course.proofs.SpaceLemmas.{can_give, can_take}
 use Rattle.fc_course.proofs.StayingLemmas.{count}
 use Rattle.fc_course.proofs.TargetLemmas as target_of
 use Rattle.fc_course.proofs.TwoPieceLemmas.{AreRoom, apart_both, room_both}
+use Rattle.std.proofs.lemmas.Bool.{or_left}
+use Rattle.fc_image.proofs.EditLemmas.{apart_turned as flipped}
+use Rattle.fc_image.proofs.EntriesLemmas.{later as contains_later, cases as contains_cases}
 
 module _ (m : Map) (nodes : Nodes) (owners : List Owner) (r : Renaming) (name : List ℕ) (p : Prepared) (q : IsCopyAsked m nodes owners r name p) (kind : Kind) (root : Node) (listings : List Listing)
     (agreed : AgreeOn kind m nodes owners root listings) (from to : Path) (x : IsSeen (Layout.New m) nodes listings from to r name) where

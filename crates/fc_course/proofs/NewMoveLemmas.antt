@@ -34,7 +34,7 @@ use Rattle.fc_edits.specs.Edit.{Amended}
 use Rattle.fc_edits.specs.Moving.{NewMoving, edit}
 use Rattle.fc_edits.specs.NewNodes as edited
 use Rattle.fc_edits.proofs.lemmas.MovingLemmas.{moving_law}
-use Rattle.fc_tree.proofs.MemberLemmas.{contains_here, contains_later}
+use Rattle.fc_tree.proofs.MemberLemmas.{contains_here}
 use Rattle.fc_outcomes.specs.Moving as outcomes
 use Rattle.fc_outcomes.specs.NewImage.{Outcome}
 use Rattle.fc_refusals.specs.declared.target.Renaming.{Renaming}
@@ -60,6 +60,7 @@ use Rattle.fc_course.proofs.MoveReadyLemmas.{IsMoveReady, may_rewrite}
 use Rattle.fc_course.proofs.MoveReadyLemmas as prepared
 use Rattle.fc_course.proofs.SpaceLemmas.{can_give, can_take}
 use Rattle.fc_course.proofs.StepLemmas.{edited_same, no_step}
+use Rattle.fc_image.proofs.EntriesLemmas.{later as contains_later}
 
 module _ (outcome_law : outcomes.MovingLaw) (m : Map) (nodes : Nodes) (owners : List Owner) (is_map : IsNewMap m) (r : Renaming) (name : List ℕ) (p : Prepared)
     (prep : IsPreparedFor (parts_with m nodes owners) (jobs.Move r) name p) (grows : NoneGrows (parts_with m nodes owners) (jobs.Move r) name) (plain : is_copied_job (parts_with m nodes owners) r ≡ false) where

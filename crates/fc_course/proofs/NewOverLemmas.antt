@@ -22,7 +22,6 @@ use Rattle.fc_image.specs.Stays.{OpensAs}
 use Rattle.fc_image.specs.Walk.{Listing, Object, object_size}
 use Rattle.fc_changes.specs.Changed.{IsFileAt}
 use Rattle.fc_changes.specs.Owed.{GivesBack}
-use Rattle.fc_changes.proofs.MadeLemmas.{turned}
 use Rattle.fc_edits.specs.Addition.{Addition, IsAddition, NewAddition, nodes_over, owners_before}
 use Rattle.fc_edits.specs.Placing.{IsPlaced}
 use Rattle.fc_edits.proofs.lemmas.AdditionLawLemmas.{addition_law}
@@ -88,6 +87,7 @@ use Rattle.fc_course.proofs.StepLemmas.{IsTwoStepped, StaysTaken}
 use Rattle.fc_course.proofs.TargetLemmas as target_of
 use Rattle.fc_course.proofs.TwoPieceLemmas.{AreRoom, room_both}
 use Rattle.fc_course.proofs.TwoPieceLemmas as pieces
+use Rattle.fc_image.proofs.EditLemmas.{apart_turned as turned}
 
 module _ (m : Map) (nodes : Nodes) (owners : List Owner) (is_map : IsNewMap m) (t : Target) (words : FileWords) (name : List ℕ) (p : Prepared) (prep : IsPreparedFor (parts_with m nodes owners) (job_of t words) name p) where
   abbrev h : Parts

@@ -46,7 +46,7 @@ use Rattle.fc_course.proofs.OverTakenLemmas as taken
 use Rattle.fc_course.proofs.RemovalRunLemmas.{new_view, parts, sound_in}
 use Rattle.fc_course.proofs.RemovalStageLemmas.{view_of}
 
-no_full : (rooms.Full ≡ rooms.Fits) → ⊥
+pub no_full : (rooms.Full ≡ rooms.Fits) → ⊥
 no_full e = cc
 
 module _ (law : AdditionLaw) (m : Map) (nodes : Nodes) (owners : List Owner) (is : IsNewMap m) (other : Kind) (a : Agree other (parts (Layout.New m) nodes owners)) (t : Target) (words : FileWords) (few : words.len < 2 ^ 32)

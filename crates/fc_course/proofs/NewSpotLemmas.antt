@@ -18,7 +18,6 @@ use Rattle.fc_changes.proofs.PlacedLemmas.{is_shared}
 use Rattle.fc_edits.specs.Placing.{IsPlaced}
 use Rattle.fc_laws.specs.nodes.Edits.{Nodes}
 use Rattle.fc_laws.specs.agree.Agreed.{parts_with}
-use Rattle.fc_laws.proofs.lemmas.agree.NewPlaceLemmas.{none_at}
 use Rattle.fc_objects.specs.Extents.{sectors_in}
 use Rattle.fc_placing.specs.Places.{IsFilePlace, address_in, id_in, parts_in, shared_id, slack_left}
 use Rattle.fc_placing.specs.declared.placing.Placing.{Placing}
@@ -42,6 +41,7 @@ use Rattle.fc_change.specs.Steps.{IsStep}
 use Rattle.fc_course.proofs.NewPlaceLemmas.{LiesBy}
 use Rattle.fc_course.proofs.SpaceLemmas.{CanTakeIf}
 use Rattle.fc_course.proofs.StepLemmas.{StaysTaken}
+use Rattle.fc_changes.proofs.NewPlaceLemmas.{none_at}
 
 -- ---- steps without growth
 

@@ -39,19 +39,14 @@ use Rattle.fc_tree.specs.Nodes.{HasNode, HoldObjects, body_in, body_of, number_o
 use Rattle.fc_course.specs.Run.{IsMapIn}
 use Rattle.fc_tree.proofs.SoundLemmas.{children_stored}
 use Rattle.fc_tree.proofs.WalkedLemmas.{holder_listed, listed_directory, listing_found, place_of, same_some}
+use Rattle.fc_edits.proofs.lemmas.ViewLemmas.{one_content}
+use Rattle.fc_laws.proofs.lemmas.agree.SayLemmas.{as_directory as says_it}
 
 -- each object of a sound walk lies at its address
 pub each_at : (layout : Layout) (listings : List Listing) → AreSound layout listings → (o : Object) → Contains (objects_of listings) o → IsAt layout o
 each_at layout listings sound o at =
     (Each-contains (Lies layout sound.reserved) (objects_of listings) o
     (Each-objects (Lies layout sound.reserved) listings (walk_lies sound.read layout sound.reserved sound.address sound.size listings sound.walked)) at).placed
-
--- a body says one directory
-pub one_content : (a b : Directory) → body_in a ≡ body_in b → a ≡ b
-one_content (Directory.Small a) (Directory.Small b) e = cc
-one_content (Directory.Small a) (Directory.Big b) e = absurd (cc)
-one_content (Directory.Big a) (Directory.Small b) e = absurd (cc)
-one_content (Directory.Big a) (Directory.Big b) e = cc
 
 module _ (nodes : FinMap nat_cmp Node) (layout : Layout) (listings : List Listing) (sound : AreSound layout listings) (held : HoldObjects nodes listings) (l : Listing) (listed : Contains listings l)
     (n : ℕ) (number : number_of nodes l.object.path ≡ Some n) where
@@ -201,10 +196,6 @@ size_of_form form e dir has is = by form dir has ∙ ap (λ (b : Bool). cond b (
     by forms.Seven (Directory.Big d) h = absurd h
     by forms.Ten (Directory.Big d) h = absurd h
     by forms.Long (Directory.Big d) h = h
-
-pub says_it : (dir : Directory) → IsSayable dir → IsDirectory dir
-says_it (Directory.Small dir) is = is
-says_it (Directory.Big dir) is = is
 
 -- ---- the node of a listed directory, however it was found
 

@@ -19,7 +19,6 @@ use Rattle.fc_image.specs.Sound.{AreSound}
 use Rattle.fc_image.specs.Stays.{OpensAs}
 use Rattle.fc_image.specs.Walk.{Listing, Object, object_size}
 use Rattle.fc_image.specs.effects.Short.{holes_without, old_need}
-use Rattle.fc_changes.proofs.MadeLemmas.{turned}
 use Rattle.fc_oldchanges.specs.Changed.{IsFileAt}
 use Rattle.fc_oldchanges.specs.Owed.{IsBefore, IsMapAfter, holding}
 use Rattle.fc_edits.specs.Addition.{Addition, IsAddition, OldAddition, edit, holes_with_it}
@@ -75,6 +74,7 @@ use Rattle.fc_course.proofs.OldPlaceLemmas as old_place
 use Rattle.fc_course.proofs.TwoPieceLemmas.{AreRoom, room_both}
 use Rattle.fc_course.proofs.TwoPieceLemmas as pieces
 use Rattle.fc_course.proofs.VacantLemmas as vacant
+use Rattle.fc_image.proofs.EditLemmas.{apart_turned as turned}
 
 -- An old map leads from addresses as it does with other holes.
 pub old_alike : (space : OldMapContent) → IsAlike (Layout.Old space) (Layout.Old space)

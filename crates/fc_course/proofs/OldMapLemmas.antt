@@ -13,7 +13,7 @@ use Rattle.fc_image.specs.Layout.{Layout, sector_bytes}
 use Rattle.fc_image.specs.effects.Short.{holes_without}
 use Rattle.fc_oldchanges.specs.Owed.{IsMapAfter, holding}
 use Rattle.fc_oldchanges.proofs.GrowthLemmas.{none_needed}
-use Rattle.fc_oldlaws.proofs.lemmas.takeover.AgainLemmas.{map_twice}
+use Rattle.fc_oldlaws.proofs.lemmas.takeover.AgainLemmas.{map_twice, long_triples}
 use Rattle.fc_writing.specs.declared.ready.MapStep.{MapStep}
 use Rattle.fc_writing.specs.declared.ready.MapStep.TheVariants as steps
 use Rattle.fc_writing.specs.declared.ready.Ready.{Ready}
@@ -23,11 +23,6 @@ use Rattle.fc_change.specs.Places.{IsOldStep}
 use Rattle.fc_course.specs.Written.{map_after, space_after}
 
 -- ---- the map's bytes
-
-long_triples : (numbers : List ℕ) → length (triples numbers) ≡ 246
-long_triples numbers =
-    let all = flat_map (little_bytes 3) numbers ++ replicate 246 0 in
-    length-take-le 246 all (omega (arith, length-append (flat_map (little_bytes 3) numbers) (replicate 246 0), length-replicate {A = ℕ} 246 0))
 
 long_half : (half : List ℕ) → length half ≡ 255 → length (checked_half half) ≡ 256
 long_half half long = omega (arith, length-append (take 255 half) (old_check half 255 ∷ []), length-take-le 255 half (omega (arith, long)))

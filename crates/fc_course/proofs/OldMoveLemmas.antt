@@ -18,7 +18,7 @@ use Rattle.fc_space.specs.Space.{PlacesSuffice}
 use Rattle.fc_tree.specs.declared.node.Node.{Node}
 use Rattle.fc_tree.specs.Agree.{Agree}
 use Rattle.fc_tree.specs.Parts.{Parts}
-use Rattle.fc_tree.proofs.MemberLemmas.{contains_here, contains_later}
+use Rattle.fc_tree.proofs.MemberLemmas.{contains_here}
 use Rattle.fc_laws.specs.nodes.Edits.{Nodes, OwnersEdited, owners_with}
 use Rattle.fc_laws.proofs.lemmas.takeover.SaidLemmas.{apart_front}
 use Rattle.fc_oldlaws.specs.agree.Laws.{AgreeOn, parts_with}
@@ -52,6 +52,7 @@ use Rattle.fc_course.proofs.MovePieceLemmas.{AreFor, apart, beside, can_put, lie
 use Rattle.fc_course.proofs.MoveReadyLemmas.{IsMoveReady, may_rewrite}
 use Rattle.fc_course.proofs.MoveReadyLemmas as prepared
 use Rattle.fc_course.proofs.OldMapLemmas.{after_both, both_steps, none_taken, of_disc}
+use Rattle.fc_image.proofs.EntriesLemmas.{later as contains_later}
 
 module _ (outcome_law : outcomes.MovingLaw) (space : OldMapContent) (nodes : Nodes) (owners : List Owner) (is_map : IsOldMap space) (r : Renaming) (name : List ℕ) (p : Prepared)
     (prep : IsPreparedFor (parts_with space nodes owners) (jobs.Move r) name p) (grows : NoneGrows (parts_with space nodes owners) (jobs.Move r) name)

@@ -17,7 +17,6 @@ use Rattle.fc_image.specs.Sound.{AreSound}
 use Rattle.fc_image.specs.Stays.{OpensAs}
 use Rattle.fc_image.specs.Walk.{Listing, Object, object_size}
 use Rattle.fc_image.specs.effects.Short.{holes_without, old_need, with_space_of}
-use Rattle.fc_changes.proofs.MadeLemmas.{turned}
 use Rattle.fc_oldchanges.specs.Changed.{IsFileAt}
 use Rattle.fc_oldchanges.specs.Owed.{IsBefore, IsMapAfter, holding}
 use Rattle.fc_edits.specs.Addition.{Addition, IsAddition, OldAddition, holes_with_it, nodes_over, owners_before}
@@ -76,6 +75,7 @@ use Rattle.fc_course.proofs.RemovalStageLemmas.{view_of}
 use Rattle.fc_course.proofs.TargetLemmas as target_of
 use Rattle.fc_course.proofs.TwoPieceLemmas.{AreRoom, room_both}
 use Rattle.fc_course.proofs.TwoPieceLemmas as pieces
+use Rattle.fc_image.proofs.EditLemmas.{apart_turned as turned}
 
 -- ---- a map of the same disc
 

@@ -47,9 +47,7 @@ use Rattle.fc_course.proofs.OverStageLemmas.{Covers, can_prepare_job, covers, jo
 use Rattle.fc_course.proofs.OverTakenLemmas as taken
 use Rattle.fc_course.proofs.RemovalRunLemmas.{old_view, parts, sound_in}
 use Rattle.fc_course.proofs.RemovalStageLemmas.{view_of}
-
-no_full : (rooms.Full ≡ rooms.Fits) → ⊥
-no_full e = cc
+use Rattle.fc_course.proofs.NewOverRunLemmas.{no_full}
 
 module _ (law : AdditionLaw) (space : OldMapContent) (nodes : Nodes) (owners : List Owner) (is : IsOldMap space) (behind : LieBehind space) (suffice : PlacesSuffice (Layout.Old space)) (other : Kind)
     (a : Agree other (parts (Layout.Old space) nodes owners)) (t : Target) (words : FileWords) (few : words.len < 2 ^ 32) (name : List ℕ) where

@@ -29,6 +29,7 @@ use Rattle.fc_change.specs.Places.{IsOldAt}
 use Rattle.fc_course.proofs.ArrivalLemmas.{Arrival, bytes_of}
 use Rattle.fc_course.proofs.ArrivalPlaceLemmas.{dir_some}
 use Rattle.fc_course.proofs.TwoPieceLemmas.{AreRoom}
+use Rattle.fc_oldlaws.proofs.lemmas.takeover.ApartLemmas.{no_bytes}
 
 -- ---- as the command places it
 
@@ -42,24 +43,12 @@ placed_as Arrival.Makes space bytes o long (inl fitted) = fitted
 placed_as Arrival.Makes space bytes o long (inr none) = absurd (let some = dir_some (dir_form (Layout.Old space)) in let zero = none.0 in omega (arith, some, long, zero))
 placed_as (Arrival.Saves words) space bytes o long at = at
 
--- by its place
-pub spot : (space : OldMapContent) (w : Wants) (place : Place) (o : Object) → o.entry.address ≡ place.address → IsOldAt space w place → IsFileAt space w.bytes o
-spot space w place o same at =
-    ⊎_elim (λ fits. inl (fits.0, fits.1 ∙ ap (λ (a : ℕ). let r : Option ℕ = Some a in r) (sym same))) (λ none. inr (none.0, same ∙ none.1)) at.address
-
 -- ---- beside what is there
 
 -- Sectors that an object may have beside these, by an old map.
 pub record IsOldRoomBeside (space : OldMapContent) (objects : List Object) (sectors : List ℕ) : Type 0 where
   pub room : AreRoom (disc_sectors (Layout.Old space)) (map_place (Layout.Old space)) sectors
   pub apart : (p : Object) → Contains objects p → is_apart p.sectors sectors ≡ true
-
-no_bytes : (layout : Layout) (address : ℕ) (sectors : List ℕ) → sectors_at layout address 0 ≡ Some sectors → sectors ≡ []
-unfolding sectors_at
-no_bytes layout address sectors e = sym (same [] sectors e)
-  where
-    same : (a b : List ℕ) → (let q : Option (List ℕ) = Some a in q) ≡ Some b → a ≡ b
-    same a b h = cc
 
 module _ (kind : Kind) (space : OldMapContent) (nodes : Nodes) (owners : List Owner) (root : Node) (listings : List Listing) (agreed : AgreeOn kind space nodes owners root listings) (suffice : PlacesSuffice (Layout.Old space)) where
   abbrev spaced : AreSpaced kind space (objects_of listings)

@@ -43,10 +43,11 @@ use Rattle.fc_course.specs.Run.{IsMapIn}
 use Rattle.fc_course.proofs.ArrivalLemmas.{Arrival, Brings, renames_none}
 use Rattle.fc_course.proofs.FilledLemmas.{filled, filled_long, given_long, makes_file}
 use Rattle.fc_course.proofs.HolderLemmas.{HaveForms}
-use Rattle.fc_course.proofs.NodeLemmas.{says_it, size_of_form}
+use Rattle.fc_course.proofs.NodeLemmas.{size_of_form}
 use Rattle.fc_course.proofs.NodeLemmas as its
 use Rattle.fc_course.proofs.RewordingLemmas.{entries_now, form_stays, map_set, sayable}
 use Rattle.fc_course.proofs.TargetLemmas as target_of
+use Rattle.fc_laws.proofs.lemmas.agree.SayLemmas.{as_directory as says_it}
 
 module _ (layout : Layout) (nodes : Nodes) (listings : List Listing) (sound : AreSound layout listings) (held : HoldObjects nodes listings) (path : Path) (t : Target) (file : IsFile nodes listings path t) (words : FileWords)
     (address : ℕ) (forms_are : HaveForms layout listings) where

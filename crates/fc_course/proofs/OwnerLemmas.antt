@@ -21,28 +21,10 @@ use Rattle.fc_tree.specs.Nodes.{HoldObjects, number_of}
 use Rattle.fc_tree.specs.Parts.{AreOwners, owner_of}
 use Rattle.fc_tree.proofs.MemberLemmas.{found_passes, from_map, in_filter, in_map}
 use Rattle.fc_tree.proofs.PlaceLemmas.{one_path}
-use Rattle.fc_tree.proofs.SoundLemmas.{same_by_folds, same_object}
+use Rattle.fc_tree.proofs.SoundLemmas.{same_object}
 use Rattle.fc_tree.proofs.WalkedLemmas.{find_only, one_object, place_of, same_some}
-
-from_kept : {X : Type 0} (t : X → Bool) (xs : List X) (x : X) → Contains (filter t xs) x → Contains xs x × (t x ≡ true)
-from_kept t [] x at = absurd (omega (arith, at.1))
-from_kept {X} t (y ∷ xs) x at = by (t y) refl at (from_kept t xs x)
-  where
-    by : (b : Bool) → t y ≡ b → Contains (cond b (y ∷ filter t xs) (filter t xs)) x → (Contains (filter t xs) x → Contains xs x × (t x ≡ true)) → Contains (y ∷ xs) x × (t x ≡ true)
-    by true e h more = elim (cases_cons y (filter t xs) x h) [
-      | inl same ↦ (subst (λ (z : X). Contains (y ∷ xs) z) same (first_in y xs), subst (λ (z : X). t z ≡ true) same e)
-      | inr later ↦ (let r = more later in (next_in y x xs r.0, r.1))
-    ]
-    by false e h more = let r = more h in (next_in y x xs r.0, r.1)
-
-none_or_some : {X : Type 0} (t : X → Bool) (xs : List X) (x : X) → Contains xs x → t x ≡ true → (find t xs ≡ None → ⊥)
-none_or_some t [] x at h none = omega (arith, at.1)
-none_or_some {X} t (y ∷ xs) x at h none = by (t y) refl none (cases_cons y xs x at) (λ later is. none_or_some t xs x later h is)
-  where
-    by : (b : Bool) → t y ≡ b → cond b (Some y) (find t xs) ≡ None → (y ≡ x) ⊎ Contains xs x → (Contains xs x → find t xs ≡ None → ⊥) → ⊥
-    by true e is at' more = cc
-    by false e is (inl same) more = clash (t y) (ap t same ∙ h) e
-    by false e is (inr later) more = more later is
+use Rattle.fc_placing.proofs.LeavingLemmas.{from_kept, none_or_some}
+use Rattle.fc_image.proofs.CommandLemmas.{same_by_folds}
 
 module _ (layout : Layout) (nodes : FinMap nat_cmp Node) (listings : List Listing) (owners : List Owner) (o : Object) (node : ℕ) (sound : AreSound layout listings) (held : HoldObjects nodes listings)
     (are : AreOwners owners nodes layout (objects_of listings)) (numbered : number_of nodes o.path ≡ Some node) (among : Contains (objects_of listings) o) where

@@ -28,12 +28,12 @@ all_low n (x ∷ xs) low = All-cons (λ s. s < n) x xs (low x (among_first x xs)
 
 -- ---- what is written
 
-no_from : (s : Source) → CopiesNone s → source_from s ≡ []
+pub no_from : (s : Source) → CopiesNone s → source_from s ≡ []
 no_from from.Nothing none = refl
 no_from (from.Bytes place) none = refl
 no_from (from.Sectors t) none = absurd none
 
-enough : (s : Source) → CopiesNone s → IsSourceEnough s
+pub enough : (s : Source) → CopiesNone s → IsSourceEnough s
 enough from.Nothing none = tt
 enough (from.Bytes place) none = tt
 enough (from.Sectors t) none = absurd none

@@ -4,7 +4,7 @@ use Rattle.std.specs.Prelude.{Contains}
 use Rattle.std.specs.Int.{div_ceil}
 use Rattle.std.specs.List.{range_with_len}
 use Rattle.std.proofs.Math.Nat.{div-mul-le_self, mul-le-mul_right}
-use Rattle.std.proofs.lemmas.Bool.{leb-true, ltb-true}
+use Rattle.std.proofs.lemmas.Bool.{leb-true, ltb-true, false_from_ne_true as unless}
 use Rattle.std.proofs.lemmas.List.Elements.{All-contains, All-from_recursion}
 use Rattle.std.proofs.lemmas.Nat.{le-div}
 use Rattle.fc_record.specs.declared.Geometry.{Geometry}
@@ -12,7 +12,7 @@ use Rattle.fc_newmap.specs.Map.{Map, ZoneRun, all_runs, first_sector, hole_runs,
 use Rattle.fc_newmap.specs.NewMap.{IsNewMap}
 use Rattle.fc_newmap.specs.RunsLaw.{HoldsSector, IsGeometry}
 use Rattle.fc_newmap.proofs.CoverLemmas.{Distinct, Distinct-append}
-use Rattle.fc_newmap.proofs.PlaceLemmas.{contains_here, contains_later, filter_in, holder_of, range_in}
+use Rattle.fc_newmap.proofs.PlaceLemmas.{filter_in, holder_of, range_in}
 use Rattle.fc_newmap.proofs.RunsLemmas.{runs_apart}
 use Rattle.fc_image.specs.Layout.{Layout, hole_sectors, is_among}
 use Rattle.fc_image.specs.effects.Placed.{BeginsBefore, IsFront}
@@ -21,30 +21,22 @@ use Rattle.fc_plan.specs.declared.plan.Plan.{Plan}
 use Rattle.fc_plan.specs.Parts.{fronts}
 use Rattle.fc_plan.specs.Plan.{IsFrontOfOne}
 use Rattle.fc_plan.proofs.Order.{Rising, rising_of, same_place}
-use Rattle.fc_changes.proofs.BasicLemmas.{clash, unless}
+use Rattle.fc_changes.proofs.BasicLemmas.{clash}
 use Rattle.fc_laws.proofs.lemmas.agree.BeforeLemmas.{new_shape}
-use Rattle.fc_laws.proofs.lemmas.takeover.WriteLemmas.{apart_of}
+use Rattle.fc_laws.proofs.lemmas.takeover.WriteLemmas.{apart_of, in_taken}
 use Rattle.fc_placing.specs.Extents.{IsOwnPlace, parts_met}
 use Rattle.fc_placing.specs.Places.{IsOwnPlan}
 use Rattle.fc_placing.proofs.ExtentLemmas.{own_place, take_append}
 use Rattle.fc_placing.proofs.HoleLemmas.{in_holes}
 use Rattle.fc_space.specs.Index.{is_met}
 use Rattle.fc_change.specs.GrownSpace.{place_of_plan, plan_sectors}
+use Rattle.fc_zone.proofs.ZoneLemmas.{Contains-head as contains_here, Contains-tail as contains_later}
 
 -- ---- lists
 
 range_Distinct : (from n : ℕ) → Distinct (range_with_len from n)
 range_Distinct from zero = tt
 range_Distinct from (suc n) = (unless (is_among (range_with_len (from + 1) n) from) (λ e. let r = range_in (from + 1) n from e in omega (arith, r.0)), range_Distinct (from + 1) n)
-
-in_taken : (n : ℕ) (xs : List ℕ) (s : ℕ) → is_among (take n xs) s ≡ true → is_among xs s ≡ true
-in_taken zero xs s h = absurd (cc)
-in_taken (suc n) [] s h = h
-in_taken (suc n) (x ∷ xs) s h = by (x == s) h (in_taken n xs s)
-  where
-    by : (b : Bool) → (b || is_among (take n xs) s) ≡ true → (is_among (take n xs) s ≡ true → is_among xs s ≡ true) → (b || is_among xs s) ≡ true
-    by true g more = refl
-    by false g more = more g
 
 taken_Distinct : (n : ℕ) (xs : List ℕ) → Distinct xs → Distinct (take n xs)
 taken_Distinct zero xs d = tt

@@ -6,7 +6,7 @@ use Rattle.std.proofs.lemmas.List.Elements.{Contains-append_cases, Contains-appe
 use Rattle.fc_image.specs.Layout.{Layout, is_among, map_place, sector_bytes}
 use Rattle.fc_objects.specs.Written.{part_at}
 use Rattle.fc_objects.specs.Extents.{sectors_in}
-use Rattle.fc_tree.proofs.MemberLemmas.{contains_cases, contains_here, contains_later, no_element}
+use Rattle.fc_tree.proofs.MemberLemmas.{contains_here, no_element}
 use Rattle.fc_outcomes.specs.Puts.{AreContents, ArePutOut, Put}
 use Rattle.fc_outcomes.proofs.lemmas.PutLemmas.{puts_law}
 use Rattle.fc_writing.specs.declared.ready.Piece.{Piece}
@@ -17,6 +17,7 @@ use Rattle.fc_writing.specs.declared.ready.Transfer.{Transfer}
 use Rattle.fc_writing.specs.Content.{Content, HasContent, IsPart, stored}
 use Rattle.fc_writing.specs.Ready.{all_content, carried_by, content_of, late_content, place_of, source_content}
 use Rattle.fc_writing.proofs.ContentLemmas.{among_get, numbered_here, numbered_is}
+use Rattle.fc_image.proofs.EntriesLemmas.{later as contains_later, cases as contains_cases}
 
 -- ---- puts and their content
 

@@ -44,10 +44,11 @@ use Rattle.fc_change.specs.Owned.{HasNoOwner}
 use Rattle.fc_change.specs.Prepared.{IsPieceOf}
 use Rattle.fc_writing.specs.declared.ready.Piece.{Piece}
 use Rattle.fc_course.specs.Run.{IsMapIn}
-use Rattle.fc_course.proofs.NodeLemmas.{can_address, child_entry, content_is, each_at, entry_is, held_at, says_it, sectors_are, size_of_form}
+use Rattle.fc_course.proofs.NodeLemmas.{can_address, child_entry, content_is, each_at, entry_is, held_at, sectors_are, size_of_form}
 use Rattle.fc_course.proofs.NodeLemmas as its
 use Rattle.fc_course.proofs.OwnerLemmas.{owner_is, owners_left}
 use Rattle.fc_course.proofs.TargetLemmas as target_of
+use Rattle.fc_laws.proofs.lemmas.agree.SayLemmas.{as_directory as says_it}
 
 -- ---- what a directory says without an entry
 
@@ -144,10 +145,3 @@ module _ (layout : Layout) (nodes : Nodes) (listings : List Listing) (sound : Ar
       let own = owner_law nodes layout listings l t.at o t.holder t.node (record { sound = sound; held = held }) (record { listed = target.listed; at = target.at; dir_is = target.holder_is; number_is = target.node_is }) in
       let found = owner_is layout nodes listings owners o t.node sound held owned target.node_is (target_of.among layout nodes listings sound held path t target) ∙ ap (λ (w : Owner). cond (has_sectors o) (Some w) None) own in
       owners_left (has_sectors o) t.node owners owners' (owner_with layout t.holder t.node o) found goes.gone goes.none
-
--- The owners that are taken over are those without the one of the object that goes.
-pub owners_after : (layout : Layout) (nodes : Nodes) (c : Change) (n : ℕ) (owners owners' : List Owner) → c.grown ≡ None → c.object ≡ turns.Goes n → AreOwnersAfter layout nodes c owners owners'
-    → HasNoOwner n owners owners'
-owners_after layout nodes c n owners owners' none goes after =
-    let middle : after.middle ≡ owners = subst (λ (g : Option Regrowth). IsRegrownOwner layout nodes g owners after.middle) none after.grown in
-    subst (λ (ws : List Owner). HasNoOwner n ws owners') middle (subst (λ (x : Turned). IsTurnedOwner layout x after.middle owners') goes after.object)

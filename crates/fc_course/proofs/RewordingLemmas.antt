@@ -58,10 +58,11 @@ use Rattle.fc_change.specs.Prepared.{IsPieceOf}
 use Rattle.fc_writing.specs.declared.ready.Piece.{Piece}
 use Rattle.fc_course.specs.Jobs.{FitAttributes}
 use Rattle.fc_course.specs.Run.{IsMapIn}
-use Rattle.fc_course.proofs.NodeLemmas.{says_it, size_of_form}
+use Rattle.fc_course.proofs.NodeLemmas.{size_of_form}
 use Rattle.fc_course.proofs.NodeLemmas as its
 use Rattle.fc_course.proofs.StayingLemmas.{KeepsSpace}
 use Rattle.fc_course.proofs.TargetLemmas as target_of
+use Rattle.fc_laws.proofs.lemmas.agree.SayLemmas.{as_directory as says_it}
 
 -- ---- words
 

@@ -17,9 +17,10 @@ use Rattle.fc_newmap.specs.Map.{Map, ZoneRun, all_runs, has_id, hole_runs, id_ru
 use Rattle.fc_newmap.specs.NewMap.{IsNewMap}
 use Rattle.fc_newmap.specs.Edits.{KeepsRuns}
 use Rattle.fc_newmap.proofs.HeldLemmas.{geometry_facts}
-use Rattle.fc_newmap.proofs.PlaceLemmas.{contains_cases, contains_here, contains_later, contains_none, filter_in, id_run_in, in_filter, in_id_runs, in_range, in_zone, zone_in}
+use Rattle.fc_newmap.proofs.PlaceLemmas.{contains_cases, contains_none, filter_in, id_run_in, in_filter, in_id_runs, in_range, in_zone, zone_in}
 use Rattle.fc_image.proofs.EntriesLemmas.{from_map, in_mapped}
 use Rattle.fc_image.specs.effects.Steady.{zone_holes}
+use Rattle.fc_zone.proofs.ZoneLemmas.{Contains-head as contains_here, Contains-tail as contains_later}
 
 -- ---- runs in a row
 

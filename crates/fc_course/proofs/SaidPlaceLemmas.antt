@@ -13,7 +13,7 @@ use Rattle.fc_objects.specs.Extents.{sectors_in}
 use Rattle.fc_laws.specs.nodes.Edits.{Nodes}
 use Rattle.fc_tree.specs.Parts.{Parts}
 use Rattle.fc_tree.specs.declared.node.Node.{Node}
-use Rattle.fc_tree.proofs.MemberLemmas.{contains_cases, contains_here, contains_later, no_element}
+use Rattle.fc_tree.proofs.MemberLemmas.{contains_here, no_element}
 use Rattle.fc_tree.proofs.TakenLemmas.{among_append}
 use Rattle.fc_writing.specs.declared.ready.Piece.{Piece}
 use Rattle.fc_writing.specs.declared.ready.Ready.{Ready}
@@ -32,6 +32,7 @@ use Rattle.fc_change.specs.declared.spaces.Place.{Place}
 use Rattle.fc_change.specs.declared.spaces.Spaces.{Spaces}
 use Rattle.fc_change.specs.Prepared.{IsGrownPiece, IsLatePiece, IsMovedPiece, IsNewPiece, IsPieceIn, IsPieceOf, IsReadyFor, IsSourceOf, PiecesMatch, is_moved}
 use Rattle.fc_course.specs.Promises.{change_place, node_place, object_place, said_place}
+use Rattle.fc_image.proofs.EntriesLemmas.{later as contains_later, cases as contains_cases}
 
 -- ---- lists of sectors
 

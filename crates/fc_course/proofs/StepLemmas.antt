@@ -14,7 +14,6 @@ use Rattle.fc_newmap.specs.NewMap.{IsNewMap}
 use Rattle.fc_newmap.specs.Edits.{KeepsRuns}
 use Rattle.fc_newmap.specs.RunsLaw.{placed}
 use Rattle.fc_newmap.proofs.ComposeLemmas.{same_none, same_then}
-use Rattle.fc_newmap.proofs.PlaceLemmas.{contains_here, contains_later}
 use Rattle.fc_image.specs.effects.Placed.{holes_left}
 use Rattle.fc_image.specs.effects.Steady.{has_id_that, holes_with, runs_that, zone_holes}
 use Rattle.fc_plan.specs.declared.plan.Part.{Part}
@@ -36,6 +35,9 @@ use Rattle.fc_writing.specs.declared.ready.SpaceStep.{SpaceStep}
 use Rattle.fc_writing.specs.Steps.{HasEdited, HasMoved, HasStepped, rooted_map}
 use Rattle.fc_change.specs.Steps.{IsSpaceStep, IsStep}
 use Rattle.fc_course.proofs.RowLemmas.{same_runs}
+use Rattle.fc_changes.proofs.CommittedLemmas.{all_same}
+use Rattle.fc_laws.proofs.lemmas.agree.MapLemmas.{no_id as none_goes}
+use Rattle.fc_zone.proofs.ZoneLemmas.{Contains-head as contains_here, Contains-tail as contains_later}
 
 -- ---- a map as it is
 
@@ -53,10 +55,6 @@ edited_same m is = record {
 }
 
 -- ---- the same runs
-
-all_same : (m m' : Map) → KeepsRuns m m' → (zones : List ℕ) → runs_in m' zones ≡ runs_in m zones
-all_same m m' kept [] = refl
-all_same m m' kept (z ∷ zones) = ap₂ (λ (runs : List Run) (others : List ZoneRun). placed z runs ++ others) (kept.runs z) (all_same m m' kept zones)
 
 pub every_same : (m m' : Map) → KeepsRuns m m' → all_runs m' ≡ all_runs m
 every_same m m' kept = ap (λ (g : Geometry). runs_in m' (zone_numbers g)) kept.geometry ∙ all_same m m' kept (zone_numbers m.geometry)
@@ -77,10 +75,6 @@ taken_after m first m' id parts kept taken = record {
 }
 
 -- ---- nothing goes back
-
-none_goes : (k : RunKind) → has_id_that (is_one_of []) k ≡ false
-none_goes kinds.Hole = refl
-none_goes (kinds.Id id) = refl
 
 nothing_given : (ps : List ZoneRun) → filter (is_given [] []) ps ≡ []
 nothing_given [] = refl

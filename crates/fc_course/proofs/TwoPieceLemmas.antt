@@ -6,12 +6,12 @@ use Rattle.fc_newmap.proofs.CoverLemmas.{Distinct, Distinct-append}
 use Rattle.fc_newmap.proofs.PlaceLemmas.{in_either}
 use Rattle.fc_image.specs.Layout.{Layout, is_among, is_apart, map_place, sector_bytes}
 use Rattle.fc_image.proofs.HolesLemmas.{apart_at, apart_from}
-use Rattle.fc_changes.proofs.BasicLemmas.{clash, unless}
+use Rattle.fc_changes.proofs.BasicLemmas.{clash}
 use Rattle.fc_laws.proofs.lemmas.takeover.WriteLemmas.{apart_of}
 use Rattle.fc_objects.specs.Written.{AreApart}
 use Rattle.fc_outcomes.specs.Puts.{AreContents, ArePutOut, Put}
 use Rattle.fc_outcomes.proofs.lemmas.PutLemmas.{puts_law}
-use Rattle.fc_tree.proofs.MemberLemmas.{contains_cases, contains_here, contains_later, no_element}
+use Rattle.fc_tree.proofs.MemberLemmas.{contains_here, no_element}
 use Rattle.fc_writing.specs.declared.ready.Piece.{Piece}
 use Rattle.fc_writing.specs.declared.ready.Ready.{Ready}
 use Rattle.fc_writing.specs.declared.ready.Source.{Source}
@@ -21,8 +21,10 @@ use Rattle.fc_writing.specs.Content.{Content, HasContent, IsPart, stored as byte
 use Rattle.fc_writing.specs.Laws.{ChangesOnly}
 use Rattle.fc_writing.specs.Ready.{CanPut, IsEnough, IsSourceEnough, all_content, content_of, copied_place, early_content, early_place, from_of, late_place, place_of, source_from, written_place}
 use Rattle.fc_writing.proofs.ContentLemmas.{among_at}
-use Rattle.fc_course.proofs.PieceLemmas.{all_low}
+use Rattle.fc_course.proofs.PieceLemmas.{all_low, no_from, enough}
 use Rattle.fc_course.proofs.PutLemmas.{CopiesNone, are_contents, contents_of, put_of}
+use Rattle.std.proofs.lemmas.Bool.{false_from_ne_true as unless}
+use Rattle.fc_image.proofs.EntriesLemmas.{later as contains_later, cases as contains_cases}
 
 -- ---- lists of sectors
 
@@ -82,16 +84,6 @@ swapped layout a b was image is = record {
         (λ later. ⊎_elim (λ second. subst (Contains (b ∷ a ∷ [])) second (contains_here b (a ∷ []))) (λ none. absurd (no_element p none)) (contains_cases b p [] later)) (contains_cases a p (b ∷ []) at)
 
 -- ---- what is written
-
-no_from : (s : Source) → CopiesNone s → source_from s ≡ []
-no_from from.Nothing none = refl
-no_from (from.Bytes place) none = refl
-no_from (from.Sectors t) none = absurd none
-
-enough : (s : Source) → CopiesNone s → IsSourceEnough s
-enough from.Nothing none = tt
-enough (from.Bytes place) none = tt
-enough (from.Sectors t) none = absurd none
 
 -- Nothing is copied; these sectors come first, and one piece last.
 pub record IsTwoPieces (r : Ready) (sectors : List ℕ) (p : Piece) : Type 0 where

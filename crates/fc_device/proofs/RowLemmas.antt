@@ -124,13 +124,6 @@ left_start s sectors = ap (λ (k : ℕ). sectors_written s k) (let e : sectors �
     none_before : (k : ℕ) → k ≡ 0 + k
     none_before k = omega arith
 
--- where none is left, all are written
-pub left_none : (old mid : MemoryDisk) (sectors i : ℕ) → sectors ≤ i → sectors_written old sectors ≡ i + sectors_written mid (sectors - i) → sectors_written old sectors ≡ i
-left_none old mid sectors i all left =
-    let none : sectors - i ≡ 0 = omega (arith, all) in
-    let no_more : sectors_written mid (sectors - i) ≡ 0 = ap (λ (k : ℕ). sectors_written mid k) none ∙ zero-min (room_left mid) in
-    left ∙ ap (λ (k : ℕ). i + k) no_more ∙ (let e : i + 0 ≡ i = omega arith in e)
-
 module _ (old mid new : MemoryDisk) (sectors i : ℕ) (more : i < sectors) (left : sectors_written old sectors ≡ i + sectors_written mid (sectors - i)) where
   is_more : sectors - i ≡ suc (sectors - (i + 1))
   is_more = omega (arith, more)
@@ -168,9 +161,6 @@ module _ (old mid new : MemoryDisk) (sectors i : ℕ) (more : i < sectors) (left
 -- so many calls were made
 pub calls_made : (written sectors i : ℕ) → written ≡ i → i < sectors → min sectors (written + 1) ≡ i + 1
 calls_made written sectors i is more = omega (arith, is, more)
-
-pub all_calls_made : (written sectors : ℕ) → written ≡ sectors → min sectors (written + 1) ≡ sectors
-all_calls_made written sectors is = omega (arith, is)
 
 -- so many writes of a row by another word
 pub goes_as : {old new : MemoryDisk} {made calls : ℕ} → made ≡ calls → GoesOn old new (reads_of old) (number_after (writes_of old) made) (syncs_of old)

@@ -6,10 +6,10 @@ use Rattle.fc_dirs.specs.declared.Entry.{Entry}
 use Rattle.fc_dirs.specs.Entries.{first_twin, has_name, with_entry}
 use Rattle.fc_dirs.proofs.EditLemmas.{edit_law}
 use Rattle.fc_dirs.proofs.SearchLemmas.{blank}
-use Rattle.fc_bigdir.proofs.ChangeLemmas.{named_at}
 use Rattle.fc_image.specs.effects.Steady.{replaced_entry, with_made, without_name}
 use Rattle.fc_drafts.specs.Rewriting.{IsAt}
 use Rattle.fc_drafts.proofs.SizeLemmas.{same_name_itself}
+use Rattle.fc_smalldir.proofs.SmallLemmas.{named_at}
 
 pub made_new : (es : List Entry) (e : Entry) → has_name es e.name ≡ false → with_entry e es ≡ with_made (Some e) es
 made_new es e absent = sym (ap (λ (b : Bool). cond b (map (replaced_entry e) es) (with_entry e es)) absent)
@@ -23,10 +23,6 @@ made_changed es at was e apart is same =
 pub made_renamed : (es : List Entry) (at : ℕ) (was e : Entry) (name : List ℕ) → first_twin es ≡ None → has_name (remove es at) e.name ≡ false → IsAt es at was → is_same_name was.name name ≡ true
     → with_entry e (remove es at) ≡ with_made (Some e) (without_name name es)
 made_renamed es at was e name apart absent is same = made_new (remove es at) e absent ∙ ap (with_made (Some e)) (edit_law.removed es at was name apart is same)
-
--- the entry of a number, and its name
-pub entry_at : (es : List Entry) (at : ℕ) → at < length es → IsAt es at (get_or es at blank)
-entry_at es at within = slice_get-get_or es at blank within
 
 pub name_at : (es : List Entry) (at : ℕ) (name : List ℕ) → at < length es → option_map (λ (d : Entry). d.name) (slice_get es at) ≡ Some name → (get_or es at blank).name ≡ name
 name_at es at name within same = named_at es at name same within

@@ -21,14 +21,11 @@ use Rattle.fc_dirs.proofs.TwinLemmas.{same_name_sym}
 use Rattle.fc_drafts.specs.Draft.{CanHold, IsSayable}
 use Rattle.fc_drafts.specs.Rewriting.{IsAt}
 use Rattle.fc_drafts.proofs.NamesLemmas.{none_any}
+use Rattle.std.proofs.lemmas.Bool.{not-true as fails}
 
 -- what is said of the first entry that has a name
 abbrev IsFirst : List Entry → List ℕ → Option ℕ → Type 0
 IsFirst es name found = MatchOption found (has_name es name ≡ false) (λ at. (e : Entry) × IsAt es at e × (is_same_name name e.name ≡ true))
-
-fails : (b : Bool) → not b ≡ true → b ≡ false
-fails true h = sym h
-fails false h = refl
 
 first : (name : List ℕ) (es : List Entry) (found : Option ℕ) → found ≡ position (λ (e : Entry). is_same_name name e.name) es → IsFirst es name found
 first name es None is =

@@ -7,13 +7,12 @@ use Rattle.std.specs.Cmp.{nat_cmp_total}
 use Rattle.std.specs.FinMap.{get, insert as put, get-insert, same_map, nat_cmp-IsAntisymmetric}
 use Rattle.std.proofs.lemmas.Bool.{cases_eq, ne_eqb}
 use Rattle.std.proofs.lemmas.List.Elements.{All-contains}
-use Rattle.fc_laws.proofs.lemmas.nodes.ListLemmas.{map_append}
 use Rattle.fc_alloc.specs.declared.owner.Owner.{Owner}
 use Rattle.fc_alloc.specs.Owners.{is_node, with_changed}
 use Rattle.fc_drafts.specs.Draft.{directory_in}
 use Rattle.fc_tree.specs.declared.node.Node.{Node}
 use Rattle.fc_tree.specs.Nodes.{Numbers, body_in, next_number, nodes_of}
-use Rattle.fc_tree.proofs.MemberLemmas.{contains_here, contains_later}
+use Rattle.fc_tree.proofs.MemberLemmas.{contains_here}
 use Rattle.fc_tree.proofs.SlotLemmas.{other}
 use Rattle.fc_grownlaws.specs.nodes.Regrown.{with_bodies}
 use Rattle.fc_laws.specs.nodes.Edits.{Nodes, with_body, with_edited}
@@ -24,12 +23,11 @@ use Rattle.fc_growing.specs.declared.growing.Growing.{Growing}
 use Rattle.fc_growing.specs.Around.{said_in, with_place}
 use Rattle.fc_growing.specs.Growing.{CanTakeOver, HasTakenOver, HasTakenOverWith, nodes_grown, regrowth_of}
 use Rattle.fc_growing.proofs.AroundTakingLemmas.{bodies_stay}
+use Rattle.fc_volume.proofs.MadeLemmas.{there_of}
+use Rattle.fc_image.proofs.TreeLemmas.{map_both as map_append}
+use Rattle.fc_image.proofs.EntriesLemmas.{later as contains_later}
 
 -- ---- one node
-
-pub there_of : (o : Option Node) → IsSome o → (x : Node) × (o ≡ Some x)
-there_of None some = absurd (cc)
-there_of (Some x) some = (x, refl)
 
 -- who is there stays
 pub put_stays : (nodes : Nodes) (n : ℕ) (x : Node) (k : ℕ) → IsSome (get nodes k) → IsSome (get (put nodes n x) k)

@@ -30,13 +30,10 @@ use Rattle.fc_laws.proofs.lemmas.agree.BeforeLemmas.{sound}
 use Rattle.fc_volume.proofs.TargetLemmas as target_of
 use Rattle.fc_growing.specs.declared.around.Regrowth.{Regrowth}
 use Rattle.fc_growing.specs.Around.{CanHoldGrown, CanRegrow, CanTurn}
-
-not_false : (b : Bool) → (b ≡ false → ⊥) → b ≡ true
-not_false true never = refl
-not_false false never = absurd (never refl)
+use Rattle.std.proofs.lemmas.Bool.{true_from_ne_false as not_false}
 
 -- a big head takes any address
-big_address : (form : NameForm) (len address : ℕ) (dir : Directory) → form ≡ forms.Long → HasForm form len dir → CanAddress dir address
+pub big_address : (form : NameForm) (len address : ℕ) (dir : Directory) → form ≡ forms.Long → HasForm form len dir → CanAddress dir address
 big_address form len address (Directory.Big dir) is has = tt
 big_address form len address (Directory.Small dir) is has = absurd (subst (λ (f : NameForm). HasForm f len (Directory.Small dir)) is has)
 

@@ -35,7 +35,6 @@ use Rattle.fc_changes.specs.Owed.{IsWritten}
 use Rattle.fc_laws.specs.takeover.Places.{MayBeWritten, OpensBy}
 use Rattle.fc_growths.specs.Grown.{IsGrownAt, NewPlace, at_place, grown_says}
 use Rattle.fc_grownlaws.specs.nodes.Commands.{IsGrownAdded, IsGrownDirectoryAdded}
-use Rattle.fc_growths.proofs.SpaceLemmas.{sectors_some}
 use Rattle.fc_grownlaws.specs.nodes.Regrown.{IsAround, with_bodies, with_regrown}
 use Rattle.fc_grownlaws.specs.takeover.Steps.{AreAgainSteps}
 use Rattle.fc_volume.specs.declared.changes.rewrite.Rewrite.{Rewrite}
@@ -50,6 +49,7 @@ use Rattle.fc_growing.proofs.AroundStepsLemmas as step
 use Rattle.fc_growing.proofs.AroundOwnersLemmas.{has_owner, owners_regrown}
 use Rattle.fc_growing.proofs.AroundTakingLemmas.{regrown_is}
 use Rattle.fc_growing.proofs.AroundWrittenLemmas.{filled_as}
+use Rattle.fc_changes.proofs.NewPlaceLemmas.{some_there as sectors_some}
 
 module _ (kind : Kind) (m : Map) (nodes : Nodes) (owners : List Owner) (root : Node) (v : Opened) (l : Listing) (g : Regrowth) (place : NewPlace)
     (a : Grows kind m nodes owners root v.listings l g place) (around : List Rewrite) (ready : IsAroundReady nodes (Layout.New m) g around) where

@@ -23,14 +23,14 @@ use Rattle.fc_image.specs.Layout.{Layout, dir_form, disc_sectors, is_among}
 use Rattle.fc_image.specs.Report.{holder_address}
 use Rattle.fc_image.specs.Sound.{AreSound}
 use Rattle.fc_image.specs.Walk.{Listing, Object, is_directory_object, object_size}
-use Rattle.fc_image.proofs.PathsLemmas.{cut, itself, same_last, unless}
+use Rattle.fc_image.proofs.PathsLemmas.{cut, itself, same_last}
 use Rattle.fc_image.proofs.RelistLemmas.{folded_long}
 use Rattle.fc_objects.specs.Extents.{sectors_in}
 use Rattle.fc_tree.specs.declared.node.Node.{Node}
 use Rattle.fc_tree.specs.Agree.{HasForm}
 use Rattle.fc_tree.specs.Counts.{address_in}
 use Rattle.fc_tree.specs.Nodes.{HoldObjects, body_in, child, number_of}
-use Rattle.fc_tree.proofs.MemberLemmas.{contains_cases, contains_here, contains_later, in_map, no_element}
+use Rattle.fc_tree.proofs.MemberLemmas.{contains_here, in_map, no_element}
 use Rattle.fc_tree.proofs.PlaceLemmas.{last_step}
 use Rattle.fc_tree.proofs.SoundLemmas.{children_stored, folds_alike}
 use Rattle.fc_tree.proofs.WalkedLemmas.{child_path, holder-push, listed_directory, same_some}
@@ -43,12 +43,15 @@ use Rattle.fc_growths.specs.Grown.{NewPlace, at_place}
 use Rattle.fc_grownlaws.specs.nodes.Regrown.{AreAgain, regrown_object}
 use Rattle.fc_volume.specs.declared.changes.rewrite.Rewrite.{Rewrite}
 use Rattle.fc_volume.specs.Rewrites.{IsPrepared}
-use Rattle.fc_volume.proofs.PieceLemmas.{all_low}
-use Rattle.fc_volume.proofs.RewriteLemmas.{says_it, size_of_form}
+use Rattle.fc_volume.proofs.RewriteLemmas.{size_of_form}
 use Rattle.fc_volume.proofs.RewriteLemmas as rewrite
 use Rattle.fc_growing.specs.declared.around.Regrowth.{Regrowth}
 use Rattle.fc_growing.specs.Around.{AreHoldersReady, AreTurned, HoldsGrown, IsAroundReady, IsTurned, LieOn, said_in, subdirectories}
 use Rattle.fc_growing.proofs.AroundListingsLemmas.{IsCutAround, in_filtered, none_holds}
+use Rattle.std.proofs.lemmas.Bool.{false_from_ne_true as unless}
+use Rattle.fc_image.proofs.EntriesLemmas.{later as contains_later, cases as contains_cases}
+use Rattle.fc_tree.proofs.ReadingLemmas.{all_on_disk as all_low}
+use Rattle.fc_laws.proofs.lemmas.agree.SayLemmas.{as_directory as says_it}
 
 -- ---- paths
 

@@ -14,12 +14,14 @@ use Rattle.fc_image.specs.Objects.{objects_of}
 use Rattle.fc_image.specs.Sound.{AreSound}
 use Rattle.fc_image.proofs.PathsLemmas.{itself}
 use Rattle.fc_tree.specs.Nodes.{HoldObjects}
-use Rattle.fc_tree.proofs.MemberLemmas.{contains_cases, contains_here, contains_later, from_map, in_filter, in_map, no_element}
+use Rattle.fc_tree.proofs.MemberLemmas.{contains_here, from_map, in_filter, in_map, no_element}
 use Rattle.fc_tree.proofs.PlaceLemmas.{same_number}
-use Rattle.fc_tree.proofs.SoundLemmas.{folds_alike, root_or_child, same_by_folds, same_listing}
+use Rattle.fc_tree.proofs.SoundLemmas.{folds_alike, root_or_child, same_listing}
 use Rattle.fc_tree.proofs.WalkedLemmas.{child_path, directories_listed, holder-push, listed_directory, root, root_and_held, root_path}
 use Rattle.fc_laws.specs.nodes.Edits.{Nodes}
 use Rattle.fc_laws.proofs.lemmas.nodes.OtherLemmas.{other_directory}
+use Rattle.fc_image.proofs.EntriesLemmas.{later as contains_later, cases as contains_cases}
+use Rattle.fc_image.proofs.CommandLemmas.{same_by_folds}
 
 -- ---- lists
 

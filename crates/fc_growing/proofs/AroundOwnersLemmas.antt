@@ -24,13 +24,7 @@ use Rattle.fc_laws.proofs.lemmas.nodes.OwnerLemmas.{owner_known}
 use Rattle.fc_laws.proofs.lemmas.nodes.OwningLemmas.{owning_law}
 use Rattle.fc_growths.specs.Grown.{NewPlace, at_place}
 use Rattle.fc_volume.specs.Owners.{entry_owner}
-
-part_long : (n : ℕ) (xs ys : List ℕ) → first_part n xs ≡ Some ys → length ys ≡ n
-part_long n xs ys e = by (nat_le n (length xs)) refl e
-  where
-    by : (b : Bool) → nat_le n (length xs) ≡ b → cond b (Some (take n xs)) None ≡ Some ys → length ys ≡ n
-    by true low is = let same : take n xs ≡ ys = cc in ap length (sym same) ∙ length-take-le n xs (leb-true n (length xs) low)
-    by false low is = absurd (cc)
+use Rattle.fc_volume.proofs.OwnersLemmas.{part_long}
 
 -- an object with bytes on a new map has so many sectors
 sectors_long : (m : Map) (address bytes : ℕ) (sectors : List ℕ) → (bytes == 0) ≡ false → sectors_at (Layout.New m) address bytes ≡ Some sectors → length sectors ≡ div_ceil bytes m.geometry.sector

@@ -37,11 +37,6 @@ module _ (nodes : Nodes) (layout : Layout) (dir parent : ℕ) where
 
 -- ---- the place of a name
 
--- A name that is there has a place.
-pub named_at : (entries : List Entry) (name : List ℕ) (found : Option ℕ) (P : ℕ → Type 0) → IsTrue (has_name entries name) → MatchOption found (IsFalse (has_name entries name)) P → is_some found ≡ true
-named_at entries name None P there none = absurd (let two : true ≡ false = sym there ∙ none in cc)
-named_at entries name (Some at) P there is = refl
-
 pub place_at : (found : Option ℕ) (N : Type 0) (P : ℕ → Type 0) (at : ℕ) → MatchOption found N P → found ≡ Some at → P at
 place_at None N P at m is = absurd (cc)
 place_at (Some k) N P at m is = subst P (let e : k ≡ at = cc in e) m

@@ -3,7 +3,7 @@ use Rattle.std.proofs.Common.{◌≡◌, inl, inr, ⊎_elim, ℕ, ◌*◌, ◌/�
 use Rattle.std.specs.Prelude.{Contains, if◌then◌else◌}
 use Rattle.std.specs.List.{flat_map}
 use Rattle.std.specs.Option.{option_and_then, option_map_or}
-use Rattle.std.proofs.lemmas.Bool.{eqb-true}
+use Rattle.std.proofs.lemmas.Bool.{eqb-true, false_from_ne_true as unless}
 use Rattle.std.proofs.lemmas.List.Elements.{Contains-append_cases}
 use Rattle.fc_names.specs.Names.{Path, is_same_path}
 use Rattle.fc_record.specs.declared.Kind.{Kind}
@@ -21,13 +21,13 @@ use Rattle.fc_image.specs.Opening.{Opened, boot_place, reserved_in}
 use Rattle.fc_image.specs.Stays.{HasSectorsOf}
 use Rattle.fc_image.specs.Walk.{Listing, Object}
 use Rattle.fc_image.proofs.HolesLemmas.{Lies, in_id}
-use Rattle.fc_image.proofs.PathsLemmas.{itself, unless}
+use Rattle.fc_image.proofs.PathsLemmas.{itself}
 use Rattle.fc_changes.proofs.BasicLemmas.{any_in, clash}
 use Rattle.fc_changes.specs.Owed.{IsWritten}
 use Rattle.fc_changes.proofs.StepsLemmas.{writes_law}
 use Rattle.fc_objects.specs.Extents.{sectors_in}
 use Rattle.fc_tree.specs.declared.node.Node.{Node}
-use Rattle.fc_tree.proofs.MemberLemmas.{contains_cases, contains_here, contains_later, no_element}
+use Rattle.fc_tree.proofs.MemberLemmas.{contains_here, no_element}
 use Rattle.fc_tree.proofs.WalkedLemmas.{child_path, holder-push, listed_directory}
 use Rattle.fc_laws.specs.nodes.Edits.{Nodes}
 use Rattle.fc_laws.proofs.lemmas.agree.BeforeLemmas.{object_lies, some_zones}
@@ -46,6 +46,7 @@ use Rattle.fc_growing.specs.declared.around.Regrowth.{Regrowth}
 use Rattle.fc_growing.specs.Around.{AreAllFilled, IsAroundReady, sectors_around}
 use Rattle.fc_growing.proofs.AroundListingsLemmas.{IsCutAround, none_lies}
 use Rattle.fc_growing.proofs.AroundLemmas.{AreReady, Grows, IsOneReady, again, again_listed, again_now, all_ready, is_held, is_sound, keep, kept_holder, kid_facts}
+use Rattle.fc_image.proofs.EntriesLemmas.{later as contains_later, cases as contains_cases}
 
 module _ (kind : Kind) (m : Map) (nodes : Nodes) (owners : List Owner) (root : Node) (v : Opened) (l : Listing) (g : Regrowth) (place : NewPlace)
     (a : Grows kind m nodes owners root v.listings l g place) where

@@ -11,7 +11,6 @@ use Rattle.fc_image.specs.Walk.{Object}
 use Rattle.fc_tree.specs.declared.node.Node.{Node}
 use Rattle.fc_tree.specs.Nodes.{body_in}
 use Rattle.fc_laws.specs.nodes.Edits.{Nodes, with_body, with_entry}
-use Rattle.fc_laws.proofs.lemmas.nodes.ListLemmas.{map_append}
 use Rattle.fc_laws.proofs.lemmas.nodes.ShapeLemmas.{edited_here, held_by, some_mapped}
 use Rattle.fc_growths.specs.Grown.{NewPlace}
 use Rattle.fc_grownlaws.specs.nodes.Regrown.{with_bodies, with_regrown}
@@ -20,6 +19,7 @@ use Rattle.fc_volume.specs.declared.changes.rewrite.Rewrite.{Rewrite}
 use Rattle.fc_volume.proofs.TakingLemmas.{some_stays}
 use Rattle.fc_growing.specs.declared.around.Regrowth.{Regrowth}
 use Rattle.fc_growing.specs.Around.{said_in, with_place}
+use Rattle.fc_image.proofs.TreeLemmas.{map_both as map_append}
 
 pub bodies_push : (said : List (ℕ × Directory)) (p : ℕ × Directory) (nodes : Nodes) → with_bodies (said ++ p ∷ []) nodes ≡ with_body p.0 (body_in p.1) (with_bodies said nodes)
 bodies_push [] p nodes = refl

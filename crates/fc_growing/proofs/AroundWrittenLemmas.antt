@@ -9,7 +9,6 @@ use Rattle.fc_device.proofs.StopLemmas.{led}
 use Rattle.fc_record.specs.declared.Geometry.{Geometry}
 use Rattle.fc_newmap.specs.Map.{Map}
 use Rattle.fc_changes.specs.Owed.{IsWritten}
-use Rattle.fc_growths.proofs.BasicLemmas.{among_flat}
 use Rattle.fc_objects.specs.Bytes.{first_bytes}
 use Rattle.fc_objects.specs.Extents.{sectors_in}
 use Rattle.fc_objects.specs.Written.{AreApart, IsPartWritten}
@@ -17,9 +16,8 @@ use Rattle.fc_laws.proofs.lemmas.takeover.WriteLemmas.{written_bytes_law}
 use Rattle.fc_volume.specs.declared.changes.rewrite.Rewrite.{Rewrite}
 use Rattle.fc_volume.specs.Relocating.{AreFilled}
 use Rattle.fc_growing.specs.Around.{AreAllFilled, sectors_around}
-
-pub unwritten : (m : Map) (sectors image : List ℕ) → IsWritten m sectors image image
-unwritten m sectors image = record { length_stays = refl; writes = λ s apart out. refl }
+use Rattle.fc_objects.proofs.CopyLemmas.{one_told as same_told}
+use Rattle.fc_changes.proofs.PlacedLemmas.{is_in_flat as among_flat}
 
 -- the sectors of one are among those of all
 pub one_written : (m : Map) (around : List Rewrite) (r : Rewrite) (was image : List ℕ) → Contains around r → IsWritten m (sectors_in r.place.items) was image
@@ -47,9 +45,6 @@ filled_as m m' same (r ∷ around) was image done = (
   },
   filled_as m m' same around done.0 image done.2,
 )
-
-same_told : (a b : List ℕ) → (let x : Option (List ℕ) = Some a in x) ≡ Some b → a ≡ b
-same_told a b e = cc
 
 -- one directory, by what its writer left
 pub filled_by : {D : Type 0} (d : Ghosts D) {old new : D} (m : Map) (sectors bytes : List ℕ) → StopsAndExitsLeave d old new (IsPartWritten m.geometry.sector sectors bytes)

@@ -35,7 +35,6 @@ use Rattle.fc_image.specs.Walk.{Listing, Object, object_size}
 use Rattle.fc_image.specs.effects.Sharing.{units}
 use Rattle.fc_image.specs.effects.Short.{Gain, gain_in, gain_of, growth_of, growth_with, is_full_with, new_dir_size, short, space_reasons}
 use Rattle.fc_changes.proofs.ChangeLemmas.{a_sector}
-use Rattle.fc_growths.proofs.SpaceLemmas.{sectors_some}
 use Rattle.fc_laws.specs.nodes.Edits.{Nodes}
 use Rattle.fc_laws.specs.agree.Agreed.{AgreeOn}
 use Rattle.fc_laws.proofs.lemmas.agree.BeforeLemmas.{agreed_law, new_shape}
@@ -66,6 +65,10 @@ use Rattle.fc_growing.proofs.NeedsLemmas.{short_law}
 use Rattle.fc_growing.proofs.ReadyLemmas as ready_of
 use Rattle.fc_growing.proofs.ReadyLemmas.{IsToGrow, big_length, big_range, sayable_of}
 use Rattle.fc_growing.proofs.RoomLemmas.{room_law}
+use Rattle.fc_volume.proofs.MakingLemmas.{full_first}
+use Rattle.fc_volume.proofs.AcceptedLemmas.{first_some}
+use Rattle.fc_volume.proofs.CdirAskedLemmas.{first_none, no_memory, unless_any, one_error}
+use Rattle.fc_changes.proofs.NewPlaceLemmas.{some_there as sectors_some}
 
 -- ---- the owners
 
@@ -96,9 +99,6 @@ long_form forms.Seven len size (Directory.Big dir) o gain has e = absurd has
 long_form forms.Ten len size (Directory.Big dir) o gain has e = absurd has
 
 -- ---- a full one
-
-full_first : (w : Opened) (path : Path) (b : Bool) → b ≡ true → first_of (when b refusals.DirFull ∷ space_reasons w.layout w (Command.Cdir path)) ≡ Some refusals.DirFull
-full_first w path b is = ap (λ (x : Bool). first_of (when x refusals.DirFull ∷ space_reasons w.layout w (Command.Cdir path))) is
 
 short_full : (w : Opened) (path : Path) (gain : Gain) → gain_in w (Command.Cdir path) ≡ Some gain → is_full_with gain.listing.content gain ≡ true → short w (Command.Cdir path) ≡ Some refusals.DirFull
 unfolding short
@@ -278,17 +278,6 @@ module _ (v : Volume) (m : Map) (layout : layout_of v.space ≡ Layout.New m) (i
 
 -- ---- refusals
 
-first_some : (xs : List (Option Refusal)) (o : Option Refusal) (r : Refusal) → first_of xs ≡ Some r → first_of (xs ++ o ∷ []) ≡ Some r
-first_some [] o r e = absurd (cc)
-first_some (None ∷ xs) o r e = first_some xs o r e
-first_some (Some s ∷ xs) o r e = e
-
-first_none : (xs : List (Option Refusal)) (o : Option Refusal) → first_of xs ≡ None → first_of (xs ++ o ∷ []) ≡ o
-first_none [] None e = refl
-first_none [] (Some r) e = refl
-first_none (None ∷ xs) o e = first_none xs o e
-first_none (Some s ∷ xs) o e = absurd (cc)
-
 -- the command is refused by its judge
 pub by_judge : (v : Opened) (image : List ℕ) (read_only : Bool) (path : Path) (form : NameForm) (r : Refusal) → form ≡ dir_form v.layout
     → Some r ≡ first_of (reasons (tree_of image v.layout v.listings) form read_only (Command.Cdir path)) → refusal_in v image read_only (Command.Cdir path) ≡ Some r
@@ -303,10 +292,6 @@ by_space v image read_only path names is e =
     first_none (reasons (tree_of image v.layout v.listings) (dir_form v.layout) read_only (Command.Cdir path)) (short v (Command.Cdir path))
     (ap (λ (f : NameForm). first_of (reasons (tree_of image v.layout v.listings) f read_only (Command.Cdir path))) (sym is) ∙ sym e)
 
-pub no_memory : (T : Type 0) (o : Option Refusal) → AnswersBy {T = T} o (Err NoMemory)
-no_memory T None = tt
-no_memory T (Some r) = tt
-
 pub space_answer : (S T : Type 0) (o want : Option Refusal) (error : CommandError) → o ≡ want → AnswersSpace {T = S} (Err error) want → AnswersBy {T = T} o (Err error)
 space_answer S T o want (Refused r) e h = refused_by T o r (e ∙ h)
 space_answer S T o want NoMemory e h = no_memory T o
@@ -316,14 +301,6 @@ pub no_fault : (S : Type 0) (e : CommandError) (o : Option Refusal) → AnswersS
 no_fault S (Refused r) o h is = let clash : Refused r ≡ DiskFault = is in cc
 no_fault S NoMemory o h is = let clash : NoMemory ≡ DiskFault = is in cc
 no_fault S DiskFault o h is = h
-
-pub unless_any : (e : CommandError) (P : Type 0) → P → UnlessFault {T = Unit {0}} (Err e) P
-unless_any (Refused r) P p = p
-unless_any NoMemory P p = p
-unless_any DiskFault P p = tt
-
-one_error : (a b : CommandError) → (let r : Result (Unit {0}) CommandError = Err a in r) ≡ Err b → a ≡ b
-one_error a b e = cc
 
 -- a volume that answers without a change, and not because of the disk, is kept
 pub kept_as_it_was : {D : Type 0} (d : Ghosts D) (law : Laws d) (disk : D) (v : Volume) (e : CommandError) → (e ≡ DiskFault → ⊥) → StandsFor d v disk → IsFalse (d.pending disk)

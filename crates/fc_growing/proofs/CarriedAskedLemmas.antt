@@ -25,7 +25,6 @@ use Rattle.fc_image.specs.Opening.{Opened}
 use Rattle.fc_image.specs.Sound.{AreSound}
 use Rattle.fc_image.specs.Walk.{Listing, Object, is_directory_object, object_size}
 use Rattle.fc_changes.proofs.ChangeLemmas.{a_sector}
-use Rattle.fc_growths.proofs.SpaceLemmas.{sectors_some}
 use Rattle.fc_laws.specs.agree.Agreed.{AgreeOn}
 use Rattle.fc_laws.specs.nodes.Edits.{Nodes}
 use Rattle.fc_laws.proofs.lemmas.agree.BeforeLemmas.{new_shape, object_lies}
@@ -54,11 +53,12 @@ use Rattle.fc_growing.proofs.NeedsLemmas.{short_law}
 use Rattle.fc_growing.proofs.ReadyLemmas as ready_of
 use Rattle.fc_growing.proofs.ReadyLemmas.{big_length, big_range, sayable_of}
 use Rattle.fc_growing.proofs.RenamingAcrossLemmas as across
-use Rattle.fc_growing.proofs.RenamingAskedLemmas.{big_address}
 use Rattle.fc_growing.proofs.RenamingJudgeLemmas.{IsGain, grows_by, has_room as room_told}
 use Rattle.fc_growing.proofs.RenamingMovedAskedLemmas as moved
 use Rattle.fc_growing.proofs.RenamingMovedAskedLemmas.{big_holds}
 use Rattle.fc_growing.proofs.RoomLemmas.{alone_is, room_is}
+use Rattle.fc_growing.proofs.AroundAskedLemmas.{big_address}
+use Rattle.fc_changes.proofs.NewPlaceLemmas.{some_there as sectors_some}
 
 -- a file that is copied wants its bytes
 wants_all : (v : Opened) (from to : Path) (o : Object) → object_at v.listings from ≡ Some o → is_copied v from to o ≡ true → new_length v (Command.Rename from to) ≡ o.entry.len

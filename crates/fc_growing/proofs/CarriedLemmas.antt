@@ -8,7 +8,6 @@ use Rattle.fc_device.specs.declared.disk.Disk.{Ghosts}
 use Rattle.fc_device.specs.Calls.{StopsAndExitsLeave}
 use Rattle.fc_device.proofs.DiskLaws.{Laws}
 use Rattle.fc_device.proofs.StopLemmas.{keeps_then, keeps_weaker, led}
-use Rattle.fc_changes.proofs.MadeLemmas.{turned}
 use Rattle.fc_copies.specs.Copies.{HoldsCopies}
 use Rattle.fc_image.specs.Layout.{is_apart}
 use Rattle.fc_image.proofs.HolesLemmas.{apart_at}
@@ -27,7 +26,6 @@ use Rattle.fc_volume.specs.declared.copies.Copies.TheVariants.{Equal}
 use Rattle.fc_volume.specs.Copying.{IsFirstCopied}
 use Rattle.fc_volume.specs.Volume.{Volume}
 use Rattle.fc_volume.proofs.StoringLemmas.{wider_first, wider_last}
-use Rattle.fc_volume.proofs.WritingLemmas.{written_then}
 use Rattle.fc_growing.specs.declared.carried.Carried.{Carried}
 use Rattle.fc_growing.specs.declared.naming.Naming.{Naming}
 use Rattle.fc_growing.specs.declared.place.GrownPlace.{GrownPlace}
@@ -37,6 +35,9 @@ use Rattle.fc_growing.specs.File.{placing_in}
 use Rattle.fc_growing.specs.Growing.{IsGrowingDone, sectors_written}
 use Rattle.fc_growing.specs.Naming.{HasNamed}
 use Rattle.fc_growing.specs.Place.{IsGrowthPlanned, IsObjectSpace}
+use Rattle.fc_image.proofs.EditLemmas.{apart_turned as turned}
+use Rattle.fc_volume.proofs.CopyingLemmas.{copies_kept}
+use Rattle.fc_volume.proofs.RelocatingLemmas.{both_written as written_then}
 
 -- the identifier is a number of 24 bits
 pub few : (m : Map) → IsNewMap m → (bytes : ℕ) (object : Option Plan) (sectors : List ℕ) → IsObjectSpace m bytes object sectors → id_in (placing_in None object) < 2 ^ 24
@@ -69,12 +70,6 @@ ready_copied nodes m owners t dir name len r p q address now there same planned 
         }
 
 -- ---- written
-
--- copies of the map that were made equal stay so, as the copy lies in none of the map's sectors
-pub copies_kept : (m : Map) (from to was image : List ℕ) → is_apart to (map_sectors m.geometry) ≡ true → IsFirstCopied m from to was image → HoldsCopies m.geometry m.zones image
-copies_kept m from to was image apart first =
-    written_bytes_law.copies_stay m m.zones first.mid image
-    (λ s there. first.copied.only.others s (apart_at (map_sectors m.geometry) to s (turned to (map_sectors m.geometry) apart) there)) first.equal
 
 module _ {D : Type 0} {d : Ghosts D} (law : Laws d) (m : Map) (r : Carried) where
   abbrev others : List ℕ

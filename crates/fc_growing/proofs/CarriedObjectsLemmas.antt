@@ -37,7 +37,7 @@ use Rattle.fc_refusals.specs.Targets.{IsTarget}
 use Rattle.fc_tree.specs.declared.node.Node.{Node}
 use Rattle.fc_tree.specs.Laws.{EntriesLaw}
 use Rattle.fc_tree.specs.Nodes.{HoldObjects, body_in}
-use Rattle.fc_tree.proofs.MemberLemmas.{contains_cases, no_element}
+use Rattle.fc_tree.proofs.MemberLemmas.{no_element}
 use Rattle.fc_tree.proofs.WalkedLemmas.{child_is_object, child_path, contained, same_some}
 use Rattle.fc_volume.specs.declared.changes.rewrite.Rewrite.{Rewrite}
 use Rattle.fc_volume.proofs.MoveLemmas.{with_source}
@@ -64,11 +64,8 @@ use Rattle.fc_growing.proofs.ReadyLemmas.{IsToGrow}
 use Rattle.fc_growing.proofs.RenamingAcrossLemmas as across
 use Rattle.fc_growing.proofs.RenamingAroundLemmas as but
 use Rattle.fc_growing.proofs.RenamingLeftLemmas as k_of
-
-both_true : (a b c : Bool) → (not a && not b && c) ≡ true → (a ≡ false) × (c ≡ true)
-both_true true b c e = absurd (cc)
-both_true false true c e = absurd (cc)
-both_true false false c e = (refl, e)
+use Rattle.fc_volume.proofs.CarriedLemmas.{both_true}
+use Rattle.fc_image.proofs.EntriesLemmas.{cases as contains_cases}
 
 -- what is copied is a file that shares its identifier
 pub copied_file : (v : Opened) (from to : Path) (o : Object) → is_copied v from to o ≡ true → (is_directory_object o ≡ false) × (is_sharing v.layout (objects_of v.listings) o ≡ true)

@@ -13,7 +13,6 @@ use Rattle.fc_alloc.specs.declared.owner.Owner.{Owner}
 use Rattle.fc_alloc.specs.Owners.{HaveOwnNodes, is_node, with_changed}
 use Rattle.fc_changes.specs.Changed.{IsInNewSpace}
 use Rattle.fc_changes.proofs.ChangeLemmas.{a_sector}
-use Rattle.fc_growths.proofs.SpaceLemmas.{sectors_some}
 use Rattle.fc_image.specs.effects.Placed.{file_low, has_spare_share}
 use Rattle.fc_image.specs.Edits.{IsAt}
 use Rattle.fc_image.specs.Layout.{Layout, dir_form, id_of, low_of, sectors_at}
@@ -48,12 +47,10 @@ use Rattle.fc_growing.proofs.CarriedObjectsLemmas as carried
 use Rattle.fc_growing.proofs.CarriedObjectsLemmas.{IsCarrying}
 use Rattle.fc_growing.proofs.GrowthLemmas.{growth_law}
 use Rattle.fc_growing.proofs.RenamingMovedOwnersLemmas.{beside, first_same, found, found_there, own_still}
+use Rattle.fc_volume.proofs.CarryingLemmas.{low_bit}
+use Rattle.fc_changes.proofs.NewPlaceLemmas.{some_there as sectors_some}
 
 -- ---- by the plan
-
-low_bit : (b : Bool) → cond b 1 0 < 2
-low_bit true = omega arith
-low_bit false = omega arith
 
 new_space_of : (m : Map) (q : Option Plan) (bytes : ℕ) (sectors : List ℕ) (copy : Object) → 0 < bytes → IsObjectSpace m bytes q sectors → copy.entry.address ≡ address_in m (placing_in None q) bytes
     → IsInNewSpace m bytes (file_low m.geometry (bits_in (parts_in q) * m.geometry.bit_bytes) bytes) (id_in q) (parts_in q) copy

@@ -33,7 +33,7 @@ use Rattle.fc_image.specs.Stays.{HasSectorsOf, OpensAs}
 use Rattle.fc_image.specs.Walk.{Listing, Object, object_bytes, object_size}
 use Rattle.fc_image.proofs.CommandLemmas.{is_prefix_of}
 use Rattle.fc_image.proofs.HolesLemmas.{Lies, apart_at, apart_from}
-use Rattle.fc_image.proofs.PathsLemmas.{itself, unless}
+use Rattle.fc_image.proofs.PathsLemmas.{itself}
 use Rattle.fc_changes.specs.Owed.{IsWritten}
 use Rattle.fc_changes.proofs.StepsLemmas.{writes_law}
 use Rattle.fc_laws.specs.agree.Agreed.{AgreeOn, CanSay}
@@ -58,7 +58,6 @@ use Rattle.fc_tree.specs.declared.node.Node.{Node}
 use Rattle.fc_tree.specs.Agree.{HasForm}
 use Rattle.fc_tree.specs.Laws.{EntriesLaw}
 use Rattle.fc_tree.specs.Nodes.{number_of}
-use Rattle.fc_tree.proofs.MemberLemmas.{contains_cases}
 use Rattle.fc_tree.proofs.SoundLemmas.{folds_alike}
 use Rattle.fc_tree.proofs.WalkedLemmas.{listed_directory, same_some}
 use Rattle.fc_laws.specs.takeover.Copied.{AreCopied}
@@ -71,7 +70,6 @@ use Rattle.fc_growing.specs.Carried.{IsCarriedWritten, sectors_to}
 use Rattle.fc_volume.specs.declared.changes.rewrite.Rewrite.{Rewrite}
 use Rattle.fc_volume.specs.Relocating.{AreFilled, with_owner}
 use Rattle.fc_volume.proofs.RenameLemmas.{both_same, too_long, turned_round}
-use Rattle.fc_volume.proofs.RewriteLemmas.{says_it}
 use Rattle.fc_volume.proofs.TurnedLemmas.{fills}
 use Rattle.fc_growing.specs.declared.growing.Growing.{Growing}
 use Rattle.fc_growing.specs.declared.carried.Carried.{Carried}
@@ -98,25 +96,19 @@ use Rattle.fc_growing.proofs.CarriedObjectsLemmas as carried
 use Rattle.fc_growing.proofs.CarriedObjectsLemmas.{IsCarrying, copied_file}
 use Rattle.fc_growing.proofs.CarriedPlaceLemmas as placed
 use Rattle.fc_growing.proofs.RenamingLeftLemmas as k_of
+use Rattle.fc_volume.proofs.CarriedLemmas.{no_more_sectors}
+use Rattle.std.proofs.lemmas.Bool.{false_from_ne_true as unless}
+use Rattle.fc_image.proofs.EntriesLemmas.{cases as contains_cases}
+use Rattle.fc_laws.proofs.lemmas.agree.SayLemmas.{as_directory as says_it}
 
 -- what a directory says that has grown to so many bytes by an entry
-entered_form : (f : NameForm) (len parent : ℕ) (e : Entry) (old new : Directory) (dir : BigDir) → f ≡ forms.Long → HasEntered parent e old new → old ≡ Directory.Big dir → size_of new ≡ len → HasForm f len new
+pub entered_form : (f : NameForm) (len parent : ℕ) (e : Entry) (old new : Directory) (dir : BigDir) → f ≡ forms.Long → HasEntered parent e old new → old ≡ Directory.Big dir → size_of new ≡ len → HasForm f len new
 entered_form f len parent e old new dir form is big size =
     subst (λ (g : NameForm). HasForm g len new) (sym form)
     (subst (λ (d : Directory). HasForm forms.Long len d) (sym now) (sym (ap size_of now) ∙ size))
   where
     now : new ≡ with_head parent (with_new e (Directory.Big dir))
     now = is.is ∙ ap (λ (d : Directory). with_head parent (with_new e d)) big
-
--- bytes take no more sectors than they are
-no_more_sectors : (m : Map) → IsNewMap m → (n : ℕ) → div_ceil n m.geometry.sector ≤ n
-no_more_sectors m is n = elim (geometry_facts m.geometry is.of_record).size [
-  | inl a ↦ subst (λ (k : ℕ). div_ceil n k ≤ n) (sym a) (omega arith)
-  | inr b ↦ elim b [
-    | inl c ↦ subst (λ (k : ℕ). div_ceil n k ≤ n) (sym c) (omega arith)
-    | inr d ↦ subst (λ (k : ℕ). div_ceil n k ≤ n) (sym d) (omega arith)
-  ]
-]
 
 module _ (law : EntriesLaw) (kind : Kind) (m : Map) (nodes : Nodes) (owners : List Owner) (root : Node) (v : Opened) (agree : AgreeOn kind m nodes owners root v.listings) (from to : Path) (rn : Renaming) (len : ℕ)
     (r : Carried) (is : IsCarrying m nodes owners from to rn len r) where

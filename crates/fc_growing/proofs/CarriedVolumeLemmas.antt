@@ -41,7 +41,6 @@ use Rattle.fc_volume.specs.declared.changes.rewrite.Rewrite.{Rewrite}
 use Rattle.fc_volume.specs.Changing.{HasChanged, WritesPlaces, refusal_in}
 use Rattle.fc_volume.specs.Owners.{entry_owner}
 use Rattle.fc_volume.specs.Relocating.{with_owner}
-use Rattle.fc_volume.proofs.PieceLemmas.{all_low}
 use Rattle.fc_growing.proofs.RenamingLeftLemmas as k_of
 use Rattle.std.proofs.lemmas.List.Elements.{All-cons, All-nil}
 use Rattle.fc_tree.proofs.WalkedLemmas.{listed_directory}
@@ -68,13 +67,10 @@ use Rattle.fc_growing.proofs.CarriedObjectsLemmas as carried
 use Rattle.fc_growing.proofs.CarriedObjectsLemmas.{IsCarrying}
 use Rattle.fc_growing.proofs.CarriedPlaceLemmas as placed
 use Rattle.fc_placing.specs.Copying.{SaysCopied}
-use Rattle.fc_growing.proofs.RenamingVolumeLemmas.{HasMap, agreed, entries_law, on, on_view, view_of}
-
--- ---- lists
-
-or_second : (a b : Bool) → b ≡ true → (a || b) ≡ true
-or_second true b e = refl
-or_second false b e = e
+use Rattle.fc_growing.proofs.RenamingVolumeLemmas.{agreed, entries_law, on, on_view, view_of}
+use Rattle.std.proofs.lemmas.Bool.{or_right as or_second}
+use Rattle.fc_volume.proofs.SetVolumeLemmas.{HasMap}
+use Rattle.fc_tree.proofs.ReadingLemmas.{all_on_disk as all_low}
 
 -- ---- the volume
 

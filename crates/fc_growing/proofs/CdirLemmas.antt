@@ -48,7 +48,6 @@ use Rattle.fc_volume.specs.Roomy.{IsRoomy}
 use Rattle.fc_volume.proofs.AdmittingLemmas.{directory_owned}
 use Rattle.fc_volume.proofs.FitsLemmas.{fits_cdir, room_fits}
 use Rattle.fc_volume.proofs.StandsLemmas.{new_layout}
-use Rattle.fc_volume.proofs.StoringLemmas.{one_map}
 use Rattle.fc_growing.specs.declared.making.GrownMaking.{GrownMaking}
 use Rattle.fc_growing.specs.declared.place.GrownPlace.{GrownPlace}
 use Rattle.fc_growing.specs.Growing.{CanTakeOver, IsGrowingDone, LiesOn, nodes_grown, owners_grown, regrowth, sectors_written}
@@ -66,10 +65,8 @@ use Rattle.fc_growing.proofs.MadeLemmas.{IsReady}
 use Rattle.fc_growing.proofs.MakingLemmas.{ready_at}
 use Rattle.fc_growing.proofs.ReadyLemmas as ready_of
 use Rattle.fc_growing.proofs.VolumeLemmas.{HasNow, has_changed as volume_changed, stands_now as volume_stands}
-
-same_nodes : (t : Numbers) (room : ℕ) → nodes_of (record t { room = room }) ≡ nodes_of t
-unfolding nodes_of
-same_nodes t room = refl
+use Rattle.fc_volume.proofs.CdirVolumeLemmas.{same_nodes}
+use Rattle.fc_image.proofs.SameMapLemmas.{new_map as one_map}
 
 -- an owner is still there after another comes
 still_owned : (owners : List Owner) (o : Owner) (n : ℕ) → IsTrue (has_node owners n) → IsTrue (has_node (owners ++ o ∷ []) n)

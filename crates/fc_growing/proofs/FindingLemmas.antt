@@ -41,13 +41,15 @@ use Rattle.fc_volume.proofs.FitsLemmas.{fits_file, room_fits}
 use Rattle.fc_volume.proofs.JudgedLemmas.{refused_by}
 use Rattle.fc_volume.proofs.RenameLemmas.{object_as}
 use Rattle.fc_volume.proofs.SaveGainLemmas.{gains}
-use Rattle.fc_volume.proofs.SavingLemmas.{of_both}
+use Rattle.fc_volume.proofs.SavingLemmas.{of_both, JudgesSave}
 use Rattle.fc_volume.proofs.SettingLemmas.{one_content}
 use Rattle.fc_volume.proofs.TargetLemmas as target_of
 use Rattle.fc_refusals.specs.declared.target.Target.{Target}
 use Rattle.fc_growing.specs.declared.finding.Outgrown.{Outgrown}
 use Rattle.fc_growing.specs.Finding.{AnswersRoom, HasRoomWith, IsDirectoryAt, IsGrowthFound}
-use Rattle.fc_growing.proofs.AskedLemmas.{no_memory}
+use Rattle.fc_volume.proofs.CdirAskedLemmas.{no_memory, first_none}
+use Rattle.fc_volume.proofs.AcceptedLemmas.{first_some}
+use Rattle.fc_volume.proofs.FilingLemmas.{full_first}
 
 -- ---- the directory
 
@@ -72,12 +74,6 @@ listed_at nodes layout listings sound held path dir spot = record {
 }
 
 -- ---- the judge
-
--- as the judge says
-abbrev pub JudgesSave : Volume → Path → NameForm → Result Slot Refusal → Type 0
-JudgesSave v path form result = (image : List ℕ) (layout : Layout) (listings : List Listing) (load exec len : ℕ) (bytes : List ℕ) → AreSound layout listings → HoldObjects (nodes_of v.tree) listings
-    → (refusal_of result ≡ first_of (reasons (tree_of image layout listings) form v.read_only (Command.Save path load exec bytes)))
-    × (refusal_of result ≡ first_of (reasons (tree_of image layout listings) form v.read_only (Command.Create path load exec len)))
 
 pub judged : (v : Volume) (path : Path) (form : NameForm) (result : Result Slot Refusal) → form ≡ dir_form (layout_of v.space) → JudgesSave v path form result → (image : List ℕ) (layout : Layout)
     (listings : List Listing) (c : Command) (load exec : ℕ) (bytes : List ℕ) → AreSound layout listings → HoldObjects (nodes_of v.tree) listings → MakesFile c path load exec bytes
@@ -108,21 +104,6 @@ slot_found v path form (Ok t) s e is judge slot name = subst (IsSlotFound v path
     same a b h = cc
 
 -- ---- refusals
-
--- the first refusal, by the model and then for want of space
-pub first_some : (xs : List (Option Refusal)) (o : Option Refusal) (r : Refusal) → first_of xs ≡ Some r → first_of (xs ++ o ∷ []) ≡ Some r
-first_some [] o r e = absurd (cc)
-first_some (None ∷ xs) o r e = first_some xs o r e
-first_some (Some x ∷ xs) o r e = e
-
-pub first_none : (xs : List (Option Refusal)) (o : Option Refusal) → first_of xs ≡ None → first_of (xs ++ o ∷ []) ≡ o
-first_none [] None e = refl
-first_none [] (Some r) e = refl
-first_none (None ∷ xs) o e = first_none xs o e
-first_none (Some x ∷ xs) o e = absurd (cc)
-
-full_first : (v : Opened) (c : Command) (b : Bool) → b ≡ true → first_of (when b refusals.DirFull ∷ space_reasons v.layout v c) ≡ Some refusals.DirFull
-full_first v c b is = ap (λ (x : Bool). first_of (when x refusals.DirFull ∷ space_reasons v.layout v c)) is
 
 module _ (v : Volume) (path : Path) (c : Command) (load exec : ℕ) (bytes : List ℕ) (makes : MakesFile c path load exec bytes) where
   -- by the judge

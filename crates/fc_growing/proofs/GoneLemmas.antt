@@ -3,7 +3,7 @@ use Rattle.std.proofs.Common.{◌≡◌, ◌&&◌, ◌||◌, ◌==◌, ℕ, Bool
 use Rattle.std.specs.Prelude.{Contains, IsPermutation, nat_lt, not}
 use Rattle.std.specs.List.{list_any}
 use Rattle.std.specs.Option.{option_and_then, option_map_or, option_to_list, unwrap_or}
-use Rattle.std.proofs.lemmas.Bool.{eqb-true, ne_eqb}
+use Rattle.std.proofs.lemmas.Bool.{eqb-true, ne_eqb, and_parts as both_of}
 use Rattle.std.proofs.lemmas.List.Sorted.{Contains-permutation, IsPermutation-cons, IsPermutation-middle, IsPermutation-sym, IsPermutation-trans, list_any-IsPermutation}
 use Rattle.fc_names.specs.Names.{is_same_path}
 use Rattle.fc_alloc.specs.declared.owner.Owner.{Owner}
@@ -22,13 +22,13 @@ use Rattle.fc_tree.specs.Nodes.{HoldObjects, number_of}
 use Rattle.fc_tree.specs.Parts.{AreOwners, owner_of}
 use Rattle.fc_tree.proofs.MemberLemmas.{many_permuted, some_many}
 use Rattle.fc_tree.proofs.PlaceLemmas.{one_path}
-use Rattle.fc_tree.proofs.SoundLemmas.{same_by_folds}
 use Rattle.fc_tree.proofs.WalkedLemmas.{few_objects}
 use Rattle.fc_laws.specs.nodes.Edits.{Nodes}
 use Rattle.fc_placing.specs.Leaving.{has_other}
 use Rattle.fc_placing.proofs.CopyingLemmas.{shared_is}
 use Rattle.fc_placing.proofs.LeavingLemmas.{any_owner, any_same, owner_is}
 use Rattle.fc_growing.specs.Gone.{LeavesWith, but_node, has_third, left_of, left_with}
+use Rattle.fc_image.proofs.CommandLemmas.{same_by_folds}
 
 -- a test of those that pass another
 pub any_kept : {X : Type 0} (q t : X → Bool) (xs : List X) → list_any q (filter t xs) ≡ list_any (λ x. t x && q x) xs
@@ -155,11 +155,6 @@ leaves_with owners node file m nodes listings o stay sound held are numbered ord
     one_gone m nodes listings owners o stay node file sound held are numbered order id
 
 -- ---- a file that goes, and shares its identifier
-
-both_of : (a b : Bool) → (a && b) ≡ true → (a ≡ true) × (b ≡ true)
-both_of true true e = (refl, refl)
-both_of true false e = absurd (cc)
-both_of false b e = absurd (cc)
 
 -- The objects are o, f and `left`.
 module _ (m : Map) (nodes : Nodes) (listings : List Listing) (o f : Object) (stay left : List Object) (file : ℕ) (sound : AreSound (Layout.New m) listings) (held : HoldObjects nodes listings)

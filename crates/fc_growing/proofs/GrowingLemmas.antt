@@ -40,8 +40,6 @@ use Rattle.fc_tree.specs.declared.node.Node.{Node}
 use Rattle.fc_tree.specs.Agree.{HasForm, IsDirectory}
 use Rattle.fc_tree.specs.Nodes.{number_of}
 use Rattle.fc_growths.specs.Grown.{IsGrownAt, NewPlace, at_place, holder_now}
-use Rattle.fc_growths.proofs.ObjectLemmas.{by_map}
-use Rattle.fc_growths.proofs.SpaceLemmas.{sectors_some}
 use Rattle.fc_grownlaws.specs.agree.Commands.{GrowsIn}
 use Rattle.fc_grownlaws.specs.nodes.Space.{IsGrowthMap, is_left}
 use Rattle.fc_grownlaws.specs.takeover.Steps.{IsGrowthInSteps, IsRootPlace}
@@ -63,12 +61,10 @@ use Rattle.fc_growing.proofs.ReadyLemmas as ready_of
 use Rattle.fc_growing.proofs.ReadyLemmas.{IsToGrow, big_length, big_range}
 use Rattle.fc_growing.proofs.RoomLemmas.{row_of}
 use Rattle.fc_growing.proofs.StepLemmas.{steps as steps_of, taken_is}
+use Rattle.fc_laws.proofs.lemmas.agree.SayLemmas.{as_directory as says_it}
+use Rattle.fc_changes.proofs.NewPlaceLemmas.{by_new as by_map, some_there as sectors_some}
 
 -- ---- directories
-
-says_it : (content : Directory) → IsSayable content → IsDirectory content
-says_it (Directory.Small dir) is = is
-says_it (Directory.Big dir) is = is
 
 -- a big directory has the size that its form says
 form_size : (len : ℕ) (content : Directory) → HasForm forms.Long len content → size_of content ≡ len

@@ -18,7 +18,6 @@ use Rattle.fc_image.specs.Objects.{has_sectors, is_owned, is_owner_of, objects_o
 use Rattle.fc_image.specs.Edits.{IsAt}
 use Rattle.fc_image.proofs.EntriesLemmas.{from_filter}
 use Rattle.fc_image.proofs.HolesLemmas.{in_id}
-use Rattle.fc_image.proofs.OneZoneLemmas.{and_first}
 use Rattle.fc_image.specs.effects.Placed.{IsPlan, holes_left}
 use Rattle.fc_image.specs.effects.Sharing.{new_ids, units}
 use Rattle.fc_image.specs.effects.Short.{has_room, is_alone}
@@ -43,8 +42,6 @@ use Rattle.fc_placing.proofs.PlacedLemmas.{place_law}
 use Rattle.fc_placing.proofs.SpaceLemmas.{low_in_range}
 use Rattle.fc_growths.specs.Grown.{GrowsAlone, GrowsElsewhere, GrowsThere, IsGrownAt, NewPlace, at_place}
 use Rattle.fc_growths.specs.Maps.{HasParts}
-use Rattle.fc_growths.proofs.ObjectLemmas.{by_map}
-use Rattle.fc_growths.proofs.SpaceLemmas.{sectors_some}
 use Rattle.fc_grownlaws.specs.nodes.Space.{is_left}
 use Rattle.fc_growing.specs.declared.place.GrownPlace.{GrownPlace}
 use Rattle.fc_growing.specs.Gone.{AreLeft, LeavesGrown, but_node}
@@ -54,6 +51,8 @@ use Rattle.fc_growing.proofs.GoneLemmas.{given_same, given_two, none_kept, still
 use Rattle.fc_growing.proofs.LeadsLemmas.{IsPlaceable, leads}
 use Rattle.fc_growing.proofs.PlaceLemmas.{in_part, left_free, left_zones, object_fronts, own_if}
 use Rattle.fc_growing.proofs.RoomLemmas.{alone_is, good, placed, room_is, row_of, zones}
+use Rattle.fc_changes.proofs.NewPlaceLemmas.{by_new as by_map, some_there as sectors_some}
+use Rattle.fc_record.proofs.KindLemmas.{and_first}
 
 -- new identifiers are those of objects
 pub new_id_high : (m : Map) (id : ℕ) → Contains (new_ids m) id → id < id_limit m.geometry

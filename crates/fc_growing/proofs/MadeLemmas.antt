@@ -4,7 +4,7 @@ use Rattle.std.specs.Prelude.{IsPermutation, nat_lt}
 use Rattle.std.specs.Int.{div_ceil}
 use Rattle.std.specs.Option.{option_and_then, option_map_or}
 use Rattle.std.specs.FinMap.{get, insert as put}
-use Rattle.std.proofs.lemmas.Bool.{lt-ltb, ltb-true}
+use Rattle.std.proofs.lemmas.Bool.{lt-ltb, ltb-true, and_from as both}
 use Rattle.std.proofs.lemmas.List.Sorted.{IsPermutation-append_comm, IsPermutation-refl}
 use Rattle.fc_names.specs.Names.{Path, is_directory, is_same_name, is_same_path}
 use Rattle.fc_names.specs.declared.name.NameForm.{NameForm}
@@ -87,17 +87,9 @@ use Rattle.fc_growing.proofs.GrowthLemmas.{growth_law}
 use Rattle.fc_growing.proofs.ParentLemmas.{parent_now}
 use Rattle.fc_growing.proofs.ReadyLemmas as ready_of
 use Rattle.fc_growing.proofs.ReadyLemmas.{IsToGrow}
+use Rattle.fc_volume.proofs.CdirLemmas.{whole_path}
 
 -- ---- paths
-
-whole_path : (path : Path) → 0 < length path → path ≡ holder path ++ last_name path ∷ []
-whole_path [] some = absurd (omega (arith, some))
-whole_path (x ∷ path) some = (named (x ∷ path) (last_name (x ∷ path)) refl).whole
-
-both : (a b : Bool) → a ≡ true → b ≡ true → (a && b) ≡ true
-both true true e f = refl
-both true false e f = absurd (cc)
-both false b e f = absurd (cc)
 
 -- what stands in a directory under the last name of a path is at the path
 at_path : (path dir : Path) (name : List ℕ) → 0 < length path → is_same_path (holder path) dir ≡ true → name ≡ last_name path → is_same_path path (dir ++ name ∷ []) ≡ true

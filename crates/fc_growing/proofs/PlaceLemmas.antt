@@ -38,6 +38,7 @@ use Rattle.fc_placing.specs.Places.{IsOwnPlan}
 use Rattle.fc_placing.proofs.ExtentLemmas.{take_append}
 use Rattle.fc_placing.proofs.PlacesLemmas.{own_plan}
 use Rattle.fc_growing.specs.Place.{IsDirectoryPlan, IsIdFor, IsIdFrom, IsObjectPlan, IsObjectSpace, place_in, plan_sectors}
+use Rattle.fc_placing.proofs.HoleLemmas.{taken_from}
 
 -- ---- what is planned from a map
 
@@ -172,9 +173,6 @@ module _ (m : Map) (is : IsNewMap m) where
     left_free s p at holds =
         let h = in_hole p at in
         held_in m.geometry (hole_runs m) h.0 s h.1 (within_holds h.0 p s h.1 h.2 (All-contains (HasRunLength m.geometry) parts p plan.long at).1 holds)
-
-taken_from : (n : ℕ) (xs : List ℕ) (s : ℕ) → is_among (take n xs) s ≡ true → is_among xs s ≡ true
-taken_from n xs s h = subst (λ (ys : List ℕ). is_among ys s ≡ true) (take-append-drop n xs) (in_front (take n xs) (drop n xs) s h)
 
 -- a sector of a plan's place lies in one of its parts
 pub in_part : (g : Geometry) (plan : Plan) (bytes s : ℕ) → is_among (place_in g plan bytes) s ≡ true → (p : ZoneRun) × Contains (fronts plan.parts.items) p × HoldsSector g p s

@@ -3,7 +3,7 @@ use Rattle.std.proofs.Common.{◌≡◌, ◌<◌, ◌≤◌, ◌%◌, ◌^◌, �
 use Rattle.std.specs.Prelude.{All, Contains, IsPermutation, IsSome, IsTrue, nat_le}
 use Rattle.std.specs.FinMap.{get}
 use Rattle.std.specs.Int.{is_in_range}
-use Rattle.std.proofs.lemmas.Bool.{leb-true}
+use Rattle.std.proofs.lemmas.Bool.{leb-true, and_parts as both_of}
 use Rattle.fc_names.specs.declared.name.NameForm.{NameForm}
 use Rattle.fc_names.specs.declared.name.NameForm.TheVariants as forms
 use Rattle.fc_names.specs.Names.{is_same_path}
@@ -47,7 +47,6 @@ use Rattle.fc_grownlaws.proofs.lemmas.agree.RegrownLemmas.{growth_of}
 use Rattle.fc_grownlaws.proofs.lemmas.nodes.FreeLemmas.{grown_free}
 use Rattle.fc_grownlaws.proofs.lemmas.takeover.CarriedLemmas.{grown_places_law}
 use Rattle.fc_growths.specs.Grown.{NewPlace, at_place}
-use Rattle.fc_volume.proofs.PieceLemmas.{all_low}
 use Rattle.fc_growing.specs.declared.growing.Growing.{Growing}
 use Rattle.fc_growing.specs.declared.place.GrownPlace.{GrownPlace}
 use Rattle.fc_growing.specs.Around.{CanRegrow}
@@ -61,23 +60,8 @@ use Rattle.fc_growing.proofs.AroundLemmas.{Grows}
 use Rattle.fc_growing.proofs.AroundGrownLemmas as around_of
 use Rattle.fc_growing.proofs.GrowthLemmas.{growth_law}
 use Rattle.fc_growing.proofs.ThereLemmas.{at_was, there_map}
-
--- ---- holes
-
--- holes lie on the disc
-pub hole_on_disc : (m : Map) → IsNewMap m → (s : ℕ) → is_among (hole_sectors (Layout.New m)) s ≡ true → s < disc_sectors (Layout.New m)
-hole_on_disc m is s i =
-    let facts = new_facts m is in
-    let p = holder_of m.geometry (hole_runs m) s i in
-    run_on_disc m (new_shape m is) is.right facts.zones facts.begun p.0 s (from_filter (λ q. is_hole q.1.kind) (all_runs m) p.0 p.1.0) p.1.1
-
--- and apart from the map
-pub hole_apart : (kind : Kind) (m : Map) (nodes : Nodes) (owners : List Owner) (root : Node) (ls : List Listing) → AgreeOn kind m nodes owners root ls → (sectors : List ℕ)
-    → ((s : ℕ) → is_among sectors s ≡ true → is_among (hole_sectors (Layout.New m)) s ≡ true) → is_apart sectors (map_sectors m.geometry) ≡ true
-hole_apart kind m nodes owners root ls agreed sectors holes =
-    apart_from sectors (map_sectors m.geometry)
-    (λ s i j. clash (is_among (hole_sectors (Layout.New m)) s) (holes s i)
-    (no_hole_in m (objects_of ls) (reserved_in kind (Layout.New m)) (tight kind m nodes owners root ls agreed) s (in_front (map_sectors m.geometry) (boot_place kind m.geometry.sector) s j)))
+use Rattle.fc_volume.proofs.CdirHeldLemmas.{hole_on_disc, hole_apart}
+use Rattle.fc_tree.proofs.ReadingLemmas.{all_on_disk as all_low}
 
 -- ---- sizes
 
@@ -89,11 +73,6 @@ big_length len (Directory.Small dir) has is = absurd has
 pub sayable_of : (content : Directory) → IsDirectory content → IsSayable content
 sayable_of (Directory.Small dir) is = is
 sayable_of (Directory.Big dir) is = is
-
-both_of : (a b : Bool) → (a && b) ≡ true → (a ≡ true) × (b ≡ true)
-both_of true true e = (refl, refl)
-both_of true false e = absurd (cc)
-both_of false b e = absurd (cc)
 
 -- it is some, and a number of 32 bits
 pub big_range : (n : ℕ) → is_big_size n ≡ true → (0 < n) × (n < 2 ^ 32)

@@ -28,7 +28,7 @@ use Rattle.fc_image.specs.Opening.{Opened}
 use Rattle.fc_image.specs.Sound.{AreSound}
 use Rattle.fc_image.specs.Walk.{Listing, Object, is_directory_object}
 use Rattle.fc_image.proofs.CommandLemmas.{is_prefix_of}
-use Rattle.fc_image.proofs.PathsLemmas.{same_last, unless}
+use Rattle.fc_image.proofs.PathsLemmas.{same_last}
 use Rattle.fc_laws.specs.agree.Agreed.{AgreeOn, CanSay}
 use Rattle.fc_laws.specs.nodes.Edits.{Nodes, as_moved, relisted, with_body, with_entry, with_holder, with_own_body}
 use Rattle.fc_laws.proofs.lemmas.agree.BeforeLemmas.{sound}
@@ -43,7 +43,7 @@ use Rattle.fc_tree.specs.declared.node.Node.{Node}
 use Rattle.fc_tree.specs.Agree.{HasForm}
 use Rattle.fc_tree.specs.Laws.{EntriesLaw}
 use Rattle.fc_tree.specs.Nodes.{HoldObjects, body_in}
-use Rattle.fc_tree.proofs.MemberLemmas.{contains_cases, no_element}
+use Rattle.fc_tree.proofs.MemberLemmas.{no_element}
 use Rattle.fc_tree.proofs.PlaceLemmas.{same_number}
 use Rattle.fc_tree.proofs.SoundLemmas.{fold_pushed, folds_alike}
 use Rattle.fc_tree.proofs.WalkedLemmas.{child_is_object, child_path, contained, same_some}
@@ -52,7 +52,6 @@ use Rattle.fc_volume.proofs.MoveLemmas.{with_source}
 use Rattle.fc_volume.proofs.RenameLemmas.{can_say, moved_at, named_in}
 use Rattle.fc_volume.proofs.RespelledLemmas.{entries_come}
 use Rattle.fc_volume.proofs.RewriteLemmas as rewrite
-use Rattle.fc_volume.proofs.RewriteLemmas.{says_it}
 use Rattle.fc_volume.proofs.TargetLemmas as target_of
 use Rattle.fc_volume.proofs.TurnedLemmas.{Turns, now_of, turns, with_turned}
 use Rattle.fc_growing.specs.declared.around.Regrowth.{Regrowth}
@@ -73,8 +72,11 @@ use Rattle.fc_growing.proofs.ReadyLemmas.{IsToGrow}
 use Rattle.fc_growing.proofs.RenamingAroundLemmas as but
 use Rattle.fc_growing.proofs.RenamingJudgeLemmas.{IsGain, grows_by, has_room}
 use Rattle.fc_growing.proofs.RenamingLeftLemmas as k_of
-use Rattle.fc_growing.proofs.RenamingLeftLemmas.{true_and}
 use Rattle.fc_growing.proofs.RenamingWithinLemmas.{IsBigAndGrows, big_grows, form_of_big, size_of_big}
+use Rattle.fc_zone.proofs.ReadingLemmas.{first_part as true_and}
+use Rattle.std.proofs.lemmas.Bool.{false_from_ne_true as unless}
+use Rattle.fc_image.proofs.EntriesLemmas.{cases as contains_cases}
+use Rattle.fc_laws.proofs.lemmas.agree.SayLemmas.{as_directory as says_it}
 
 -- what is known before anything is written
 pub record IsNamingAcross (m : Map) (nodes : Nodes) (owners : List Owner) (from to : Path) (rn : Renaming) (len : ℕ) (r : Naming) : Type 0 where

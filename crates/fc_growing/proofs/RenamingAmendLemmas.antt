@@ -7,14 +7,7 @@ use Rattle.fc_dirs.specs.declared.Entry.{Entry}
 use Rattle.fc_dirs.specs.Directory.{Directory, entries_of}
 use Rattle.fc_drafts.specs.Draft.{CanHold}
 use Rattle.fc_tree.proofs.WalkedLemmas.{same_some}
-
-pub not_false : (b : Bool) → not b ≡ false → b ≡ true
-not_false true e = refl
-not_false false e = absurd (cc)
-
-pub not_true : (b : Bool) → not b ≡ true → b ≡ false
-not_true true e = absurd (cc)
-not_true false e = refl
+use Rattle.std.proofs.lemmas.Bool.{not-false as not_false, not-true as not_true}
 
 -- the entry of a name that was found, and read
 abbrev pub IsFound : Directory → ℕ → List ℕ → Type 0

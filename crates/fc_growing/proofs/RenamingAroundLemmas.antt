@@ -4,7 +4,7 @@ use Rattle.std.specs.Prelude.{All, Contains, IsPermutation, IsSome}
 use Rattle.std.specs.FinMap.{get}
 use Rattle.std.specs.List.{flat_map}
 use Rattle.std.specs.Option.{option_map_or}
-use Rattle.std.proofs.lemmas.Bool.{eqb-true, ne_eqb}
+use Rattle.std.proofs.lemmas.Bool.{eqb-true, ne_eqb, false_from_ne_true as unless}
 use Rattle.std.proofs.lemmas.List.Elements.{All-cons, All-head, All-nil, All-tail, Contains-append_cases, filter-append}
 use Rattle.std.proofs.lemmas.List.Sorted.{IsPermutation-append_left, IsPermutation-cons, IsPermutation-middle, IsPermutation-refl, IsPermutation-sym, IsPermutation-trans}
 use Rattle.fc_names.specs.Names.{Path, is_same_path}
@@ -20,13 +20,12 @@ use Rattle.fc_image.specs.Objects.{objects_of}
 use Rattle.fc_image.specs.Opening.{Opened}
 use Rattle.fc_image.specs.Stays.{HasSectorsOf}
 use Rattle.fc_image.specs.Walk.{Listing}
-use Rattle.fc_image.proofs.PathsLemmas.{unless}
 use Rattle.fc_image.proofs.ShuffleLemmas.{IsPermutation-filter}
 use Rattle.fc_tree.specs.declared.node.Node.{Node}
 use Rattle.fc_tree.specs.Nodes.{number_of}
-use Rattle.fc_tree.proofs.MemberLemmas.{contains_cases, contains_here, contains_later, no_element}
+use Rattle.fc_tree.proofs.MemberLemmas.{contains_here, no_element}
 use Rattle.fc_tree.proofs.PlaceLemmas.{one_path, same_number}
-use Rattle.fc_tree.proofs.SoundLemmas.{folds_alike, same_by_folds}
+use Rattle.fc_tree.proofs.SoundLemmas.{folds_alike}
 use Rattle.fc_changes.specs.Owed.{IsWritten}
 use Rattle.fc_laws.specs.nodes.Edits.{Nodes}
 use Rattle.fc_laws.specs.agree.Agreed.{CanSay}
@@ -48,6 +47,8 @@ use Rattle.fc_growing.proofs.AroundGrownLemmas as whole
 use Rattle.fc_growing.proofs.AroundStepsLemmas as step
 use Rattle.fc_growing.proofs.AroundTakingLemmas.{regrown_is}
 use Rattle.fc_growing.proofs.AroundWrittenLemmas.{filled_as}
+use Rattle.fc_image.proofs.EntriesLemmas.{later as contains_later, cases as contains_cases}
+use Rattle.fc_image.proofs.CommandLemmas.{same_by_folds}
 
 -- ---- lists
 

@@ -24,7 +24,6 @@ use Rattle.fc_image.specs.Opening.{Opened}
 use Rattle.fc_image.specs.Sound.{AreSound}
 use Rattle.fc_image.specs.Walk.{Listing, Object, is_directory_object, object_size}
 use Rattle.fc_changes.proofs.ChangeLemmas.{a_sector}
-use Rattle.fc_growths.proofs.SpaceLemmas.{sectors_some}
 use Rattle.fc_laws.specs.agree.Agreed.{AgreeOn}
 use Rattle.fc_laws.specs.nodes.Edits.{Nodes}
 use Rattle.fc_laws.proofs.lemmas.agree.BeforeLemmas.{new_shape, object_lies, sound}
@@ -55,26 +54,17 @@ use Rattle.fc_growing.proofs.ReadyLemmas.{big_length, big_range, sayable_of}
 use Rattle.fc_growing.proofs.RenamingJudgeLemmas.{grows_by, has_room as room_told}
 use Rattle.fc_growing.proofs.RenamingWithinLemmas as within
 use Rattle.fc_growing.proofs.RoomLemmas.{alone_is, room_is}
+use Rattle.fc_volume.proofs.RenameSpaceLemmas.{within_not_copied as not_copied}
+use Rattle.fc_growing.proofs.AroundAskedLemmas.{big_address}
+use Rattle.fc_changes.proofs.NewPlaceLemmas.{some_there as sectors_some}
 
 -- ---- an object that stays in its directory isn't copied
-
-not_copied : (v : Opened) (from to : Path) (o : Object) → is_same_path (holder from) (holder to) ≡ true → is_copied v from to o ≡ false
-not_copied v from to o same = by (is_directory_object o) (is_same_path (holder from) (holder to)) (is_sharing v.layout (objects_of v.listings) o) same
-  where
-    by : (a b x : Bool) → b ≡ true → (not a && not b && x) ≡ false
-    by true b x e = refl
-    by false true x e = refl
-    by false false x e = absurd (cc)
 
 pub wants_nothing : (v : Opened) (from to : Path) (o : Object) → object_at v.listings from ≡ Some o → is_copied v from to o ≡ false → new_length v (Command.Rename from to) ≡ 0
 wants_nothing v from to o there uncopied =
     ap (λ (x : Option Object). option_map_or (λ (p : Object). if is_copied v from to p then p.entry.len else 0) x 0) there ∙ ap (λ (b : Bool). cond b o.entry.len 0) uncopied
 
 -- ---- big directories
-
-pub big_address : (form : NameForm) (len address : ℕ) (dir : Directory) → form ≡ forms.Long → HasForm form len dir → CanAddress dir address
-big_address form len address (Directory.Big dir) is has = tt
-big_address form len address (Directory.Small dir) is has = absurd (subst (λ (f : NameForm). HasForm f len (Directory.Small dir)) is has)
 
 -- an object can get any name and parent, where all directories are big
 pub big_turnable : (kind : Kind) (m : Map) (nodes : Nodes) (owners : List Owner) (root : Node) (listings : List Listing) (agree : AgreeOn kind m nodes owners root listings) → dir_form (Layout.New m) ≡ forms.Long
@@ -100,21 +90,6 @@ big_turnable kind m nodes owners root listings agree form o among n number paren
     by (bodies.Big s) is n' e = placed n'.entry e
 
 -- ---- the directory that gets the name
-
-pub gets_name : (kind : Kind) (m : Map) (nodes : Nodes) (owners : List Owner) (root : Node) (listings : List Listing) → EntriesLaw → AgreeOn kind m nodes owners root listings → (from to : Path) (rn : Renaming)
-    → IsRenaming nodes listings from to rn → CanGetName nodes rn
-gets_name kind m nodes owners root listings law agree from to rn known =
-    let is_sound = sound kind m nodes owners root listings agree in
-    let y = known.destination.listing in
-    record {
-      node = target_of.node nodes (Layout.New m) listings is_sound agree.walked.held y known.destination.listed rn.holder known.destination.holder_is;
-      content = y.content;
-      there = target_of.there nodes (Layout.New m) listings is_sound agree.walked.held y known.destination.listed rn.holder known.destination.holder_is;
-      says = target_of.says nodes (Layout.New m) listings is_sound agree.walked.held y known.destination.listed rn.holder known.destination.holder_is;
-      entry = λ same. subst (λ (x : Listing). rn.target.at < length (entries_of x.content)) (sym (known.within same).0)
-          (slice_get_within (entries_of known.target.listing.content) rn.target.at known.target.object.entry
-          (target_of.child_entry (Layout.New m) listings known.target.listing rn.target.at known.target.object law is_sound known.target.listed known.target.at));
-    }
 
 module _ (law : EntriesLaw) (kind : Kind) (m : Map) (nodes : Nodes) (owners : List Owner) (root : Node) (v : Opened) (agree : AgreeOn kind m nodes owners root v.listings) (from to : Path) (rn : Renaming) (len : ℕ)
     (same : rn.holder ≡ rn.target.holder) (renaming : (layout : Layout) (listings : List Listing) → AreSound layout listings → HoldObjects nodes listings → IsRenaming nodes listings from to rn)

@@ -39,6 +39,7 @@ use Rattle.fc_volume.proofs.FitsLemmas as fits
 use Rattle.fc_volume.proofs.SettingLemmas.{one_content}
 use Rattle.fc_volume.proofs.TargetLemmas as target_of
 use Rattle.fc_growing.specs.Renaming.{IsJudged, IsRoomFor}
+use Rattle.fc_volume.proofs.RenameVolumeLemmas.{full_short}
 
 -- ---- the judge
 
@@ -130,11 +131,6 @@ module _ (layout : Layout) (nodes : Nodes) (view : Opened) (sound : AreSound lay
         ∙ target_of.child_entry layout view.listings known.target.listing rn.target.at o law sound known.target.listed known.target.at
 
 -- ---- what the room tells
-
-full_short : (v : Opened) (from to : Path) → option_map_or (λ (gain : Gain). is_full_with gain.listing.content gain) (gain_in v (Command.Rename from to)) false ≡ true
-    → short v (Command.Rename from to) ≡ Some refusals.DirFull
-unfolding short
-full_short v from to room = ap (λ (b : Bool). first_of (when b refusals.DirFull ∷ space_reasons v.layout v (Command.Rename from to))) room
 
 module _ (view : Opened) (from to : Path) (content : Directory) (l : Listing) (gain : Gain) (is : IsGain view from to content l gain) where
   fullness : option_map_or (λ (g : Gain). is_full_with g.listing.content g) (gain_in view (Command.Rename from to)) false ≡ is_full_with content gain

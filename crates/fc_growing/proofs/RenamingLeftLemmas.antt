@@ -3,7 +3,7 @@ use Rattle.std.proofs.Common.{◌≡◌, ◌==◌, ◌&&◌, inl, inr, ℕ, Bool
 use Rattle.std.specs.Prelude.{Contains}
 use Rattle.std.specs.FinMap.{get}
 use Rattle.std.specs.Option.{option_map_or}
-use Rattle.std.proofs.lemmas.Bool.{eqb-true}
+use Rattle.std.proofs.lemmas.Bool.{eqb-true, false_from_ne_true as unless}
 use Rattle.std.proofs.lemmas.List.{length_push}
 use Rattle.fc_names.specs.Names.{Path, is_same_name, is_same_path}
 use Rattle.fc_names.specs.declared.name.NameForm.{NameForm}
@@ -23,7 +23,7 @@ use Rattle.fc_image.specs.Opening.{Opened}
 use Rattle.fc_image.specs.Report.{holder_address}
 use Rattle.fc_image.specs.Sound.{AreSound}
 use Rattle.fc_image.specs.Walk.{Listing, Object, object_size}
-use Rattle.fc_image.proofs.PathsLemmas.{itself, same_last, unless}
+use Rattle.fc_image.proofs.PathsLemmas.{itself, same_last}
 use Rattle.fc_laws.specs.agree.Agreed.{CanSay}
 use Rattle.fc_laws.specs.nodes.Edits.{Nodes}
 use Rattle.fc_laws.proofs.lemmas.nodes.ListLemmas.{map_fixed, map_remove}
@@ -39,16 +39,14 @@ use Rattle.fc_tree.proofs.WalkedLemmas.{child_path, holder-push, listed_director
 use Rattle.fc_volume.specs.declared.changes.moving.Leaving.{Leaving}
 use Rattle.fc_volume.proofs.DeleteLemmas.{entries_left, form_left}
 use Rattle.fc_volume.proofs.RewriteLemmas as rewrite
-use Rattle.fc_volume.proofs.RewriteLemmas.{says_it, size_of_form}
+use Rattle.fc_volume.proofs.RewriteLemmas.{size_of_form}
 use Rattle.fc_volume.proofs.TargetLemmas as target_of
 use Rattle.fc_growing.specs.declared.around.Regrowth.{Regrowth}
 use Rattle.fc_growing.specs.Leaving.{HasRegrownEntry, IsLeavingGrown, address_grown, holds_grown}
 use Rattle.fc_growing.proofs.AroundLemmas.{Grows, amended_form, is_held, is_sound, other_long}
 use Rattle.fc_growing.proofs.RenamingAroundLemmas.{one_number_path}
-
-pub true_and : (a b : Bool) → (a && b) ≡ true → a ≡ true
-true_and true b e = refl
-true_and false b e = e
+use Rattle.fc_zone.proofs.ReadingLemmas.{first_part as true_and}
+use Rattle.fc_laws.proofs.lemmas.agree.SayLemmas.{as_directory as says_it}
 
 module _ (kind : Kind) (m : Map) (nodes : Nodes) (owners : List Owner) (top : Node) (v : Opened) (l : Listing) (g : Regrowth) (place : NewPlace) (a : Grows kind m nodes owners top v.listings l g place)
     (t : Target) (name : List ℕ) (leaving : Leaving) (left : IsLeavingGrown nodes (Layout.New m) t name g leaving) (k : Listing) (listed : Contains v.listings k) (number : number_of nodes k.object.path ≡ Some t.holder)

@@ -3,7 +3,7 @@ use Rattle.std.proofs.Common.{◌≡◌, ◌<◌, ◌==◌, ◌⊎◌, inl, inr,
 use Rattle.std.specs.Prelude.{Contains, IsTrue, is_some, if◌then◌else◌}
 use Rattle.std.specs.FinMap.{get}
 use Rattle.std.specs.Option.{option_map_or}
-use Rattle.std.proofs.lemmas.Bool.{eqb-true}
+use Rattle.std.proofs.lemmas.Bool.{eqb-true, true_from_ne_false as not_false}
 use Rattle.std.proofs.lemmas.Option.{slice_get_within}
 use Rattle.fc_names.specs.Names.{Path}
 use Rattle.fc_names.specs.declared.name.NameForm.{NameForm}
@@ -26,7 +26,6 @@ use Rattle.fc_image.specs.Opening.{Opened}
 use Rattle.fc_image.specs.Sound.{AreSound}
 use Rattle.fc_image.specs.Walk.{Listing, Object, is_directory_object, object_size}
 use Rattle.fc_changes.proofs.ChangeLemmas.{a_sector}
-use Rattle.fc_growths.proofs.SpaceLemmas.{sectors_some}
 use Rattle.fc_laws.specs.agree.Agreed.{AgreeOn}
 use Rattle.fc_laws.specs.nodes.Edits.{Nodes}
 use Rattle.fc_laws.proofs.lemmas.agree.BeforeLemmas.{new_shape}
@@ -59,13 +58,11 @@ use Rattle.fc_growing.proofs.ReadyLemmas as ready_of
 use Rattle.fc_growing.proofs.ReadyLemmas.{big_length, big_range, sayable_of}
 use Rattle.fc_growing.proofs.RenamingAcrossLemmas as across
 use Rattle.fc_growing.proofs.RenamingAroundLemmas.{one_number_path}
-use Rattle.fc_growing.proofs.RenamingAskedLemmas.{big_address, big_turnable, wants_nothing}
+use Rattle.fc_growing.proofs.RenamingAskedLemmas.{big_turnable, wants_nothing}
 use Rattle.fc_growing.proofs.RenamingJudgeLemmas.{IsGain, grows_by, has_room as room_told}
 use Rattle.fc_growing.proofs.RoomLemmas.{alone_is, room_is}
-
-not_false : (b : Bool) → (b ≡ false → ⊥) → b ≡ true
-not_false true never = refl
-not_false false never = absurd (never refl)
+use Rattle.fc_growing.proofs.AroundAskedLemmas.{big_address}
+use Rattle.fc_changes.proofs.NewPlaceLemmas.{some_there as sectors_some}
 
 -- a big directory can hold what another can
 pub big_holds : (f : NameForm) (i k : ℕ) (small large : Directory) (e : Entry) → f ≡ forms.Long → HasForm f i small → HasForm f k large → CanHold small e → CanHold large e

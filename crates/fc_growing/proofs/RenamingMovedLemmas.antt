@@ -32,7 +32,6 @@ use Rattle.fc_image.specs.Stays.{HasSectorsOf, OpensAs}
 use Rattle.fc_image.specs.Walk.{Listing, Object, is_directory_object, object_bytes, object_size}
 use Rattle.fc_image.proofs.CommandLemmas.{is_prefix_of}
 use Rattle.fc_image.proofs.HolesLemmas.{Lies}
-use Rattle.fc_image.proofs.PathsLemmas.{unless}
 use Rattle.fc_changes.specs.Owed.{IsWritten}
 use Rattle.fc_changes.proofs.StepsLemmas.{writes_law}
 use Rattle.fc_laws.specs.agree.Agreed.{AgreeOn, CanSay}
@@ -57,13 +56,11 @@ use Rattle.fc_tree.specs.declared.node.Node.{Node}
 use Rattle.fc_tree.specs.Agree.{HasForm}
 use Rattle.fc_tree.specs.Laws.{EntriesLaw}
 use Rattle.fc_tree.specs.Nodes.{number_of}
-use Rattle.fc_tree.proofs.MemberLemmas.{contains_later}
 use Rattle.fc_tree.proofs.SoundLemmas.{folds_alike}
 use Rattle.fc_tree.proofs.WalkedLemmas.{listed_directory}
 use Rattle.fc_volume.specs.declared.changes.rewrite.Rewrite.{Rewrite}
 use Rattle.fc_volume.specs.Relocating.{AreFilled, AreMoreFilled, with_owner}
 use Rattle.fc_volume.proofs.RenameLemmas.{both_same, too_long, turned_round}
-use Rattle.fc_volume.proofs.RewriteLemmas.{says_it}
 use Rattle.fc_volume.proofs.TurnedLemmas.{fills}
 use Rattle.fc_growing.specs.declared.growing.Growing.{Growing}
 use Rattle.fc_growing.specs.declared.naming.Naming.{Naming}
@@ -90,6 +87,10 @@ use Rattle.fc_growing.proofs.RenamingLeftLemmas as k_of
 use Rattle.fc_growing.proofs.RenamingMovedOwnersLemmas.{moved_owner}
 use Rattle.fc_growing.proofs.RenamingOwnLemmas.{OwnIsWritten, own_is_written}
 use Rattle.fc_growing.proofs.RenamingStepsLemmas.{no_object}
+use Rattle.fc_growing.proofs.CarriedStepsLemmas.{entered_form}
+use Rattle.std.proofs.lemmas.Bool.{false_from_ne_true as unless}
+use Rattle.fc_image.proofs.EntriesLemmas.{later as contains_later}
+use Rattle.fc_laws.proofs.lemmas.agree.SayLemmas.{as_directory as says_it}
 
 -- ---- the last of the writes
 
@@ -107,15 +108,6 @@ two_filled m own source rs was image same w = by own (subst (λ (xs : List Rewri
     by : (o : Option Rewrite) → AreAllFilled m (option_to_list o ++ source ∷ []) was image → AreTwoFilled m o source was image
     by None h = record { owned = was; first = refl; second = last was h }
     by (Some x) h = record { owned = h.0; first = h.1; second = last h.0 h.2 }
-
--- what a directory says that has grown to so many bytes by an entry
-entered_form : (f : NameForm) (len parent : ℕ) (e : Entry) (old new : Directory) (dir : BigDir) → f ≡ forms.Long → HasEntered parent e old new → old ≡ Directory.Big dir → size_of new ≡ len → HasForm f len new
-entered_form f len parent e old new dir form is big size =
-    subst (λ (g : NameForm). HasForm g len new) (sym form)
-    (subst (λ (d : Directory). HasForm forms.Long len d) (sym now) (sym (ap size_of now) ∙ size))
-  where
-    now : new ≡ with_head parent (with_new e (Directory.Big dir))
-    now = is.is ∙ ap (λ (d : Directory). with_head parent (with_new e d)) big
 
 module _ (law : EntriesLaw) (kind : Kind) (m : Map) (nodes : Nodes) (owners : List Owner) (root : Node) (v : Opened) (agree : AgreeOn kind m nodes owners root v.listings) (from to : Path) (rn : Renaming) (len : ℕ)
     (r : Naming) (is : IsNamingAcross m nodes owners from to rn len r) where

@@ -14,7 +14,7 @@ use Rattle.fc_image.specs.Sound.{AreSound}
 use Rattle.fc_image.specs.Walk.{Listing, Object}
 use Rattle.fc_tree.specs.Nodes.{HoldObjects}
 use Rattle.fc_tree.specs.Parts.{AreOwners, first_in}
-use Rattle.fc_tree.proofs.MemberLemmas.{contains_here, contains_later}
+use Rattle.fc_tree.proofs.MemberLemmas.{contains_here}
 use Rattle.fc_tree.proofs.WalkedLemmas.{child_is_object, contained, same_some}
 use Rattle.fc_laws.specs.nodes.Edits.{IsChild, Nodes, OwnersEdited, owner_with, owners_with}
 use Rattle.fc_laws.proofs.lemmas.nodes.OwnerLemmas.{owner_law}
@@ -23,6 +23,7 @@ use Rattle.fc_placing.proofs.LeavingLemmas.{owner_is}
 use Rattle.fc_volume.specs.Moving.{held_by}
 use Rattle.fc_volume.specs.Relocating.{with_owner}
 use Rattle.fc_growing.proofs.AroundListingsLemmas.{one_first}
+use Rattle.fc_image.proofs.EntriesLemmas.{later as contains_later}
 
 -- ---- with the owner of another node changed
 

@@ -43,7 +43,6 @@ use Rattle.fc_volume.specs.Changing.{HasChanged, WritesPlaces, refusal_in}
 use Rattle.fc_volume.specs.Owners.{entry_owner}
 use Rattle.fc_volume.specs.Relocating.{HasMore, HasOwner, more_sectors, with_owner}
 use Rattle.fc_volume.proofs.MoveLemmas.{has_owner}
-use Rattle.fc_volume.proofs.PieceLemmas.{all_low}
 use Rattle.fc_growing.proofs.RenamingLeftLemmas as k_of
 use Rattle.std.proofs.lemmas.List.Elements.{All-cons, All-head, All-nil, All-tail}
 use Rattle.fc_tree.proofs.WalkedLemmas.{listed_directory}
@@ -72,7 +71,10 @@ use Rattle.fc_growing.proofs.RenamingMovedLemmas as steps
 use Rattle.fc_growing.proofs.RenamingAcrossLemmas as across
 use Rattle.fc_growing.proofs.RenamingAcrossLemmas.{IsNamingAcross}
 use Rattle.fc_placing.specs.Copying.{SaysCopied}
-use Rattle.fc_growing.proofs.RenamingVolumeLemmas.{HasMap, agreed, entries_law, on, on_view, view_of}
+use Rattle.fc_growing.proofs.RenamingVolumeLemmas.{agreed, entries_law, on, on_view, view_of}
+use Rattle.std.proofs.lemmas.Bool.{or_right as or_second}
+use Rattle.fc_volume.proofs.SetVolumeLemmas.{HasMap}
+use Rattle.fc_tree.proofs.ReadingLemmas.{all_on_disk as all_low}
 
 -- ---- lists
 
@@ -88,10 +90,6 @@ two_sectors own source rs same = ap sectors_around same ∙ by own
     by : (o : Option Rewrite) → sectors_around (option_to_list o ++ source ∷ []) ≡ more_sectors o ++ sectors_in source.place.items
     by None = append-nil (sectors_in source.place.items)
     by (Some x) = ap (λ (ys : List ℕ). sectors_in x.place.items ++ ys) (append-nil (sectors_in source.place.items))
-
-or_second : (a b : Bool) → b ≡ true → (a || b) ≡ true
-or_second true b e = refl
-or_second false b e = e
 
 -- ---- the volume
 

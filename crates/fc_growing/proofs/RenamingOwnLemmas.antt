@@ -19,10 +19,10 @@ use Rattle.fc_objects.specs.Extents.{sectors_in}
 use Rattle.fc_tree.specs.Agree.{HasForm}
 use Rattle.fc_volume.specs.declared.changes.rewrite.Rewrite.{Rewrite}
 use Rattle.fc_volume.specs.Relocating.{AreFilled, AreMoreFilled, more_sectors}
-use Rattle.fc_volume.proofs.PieceLemmas.{all_low}
 use Rattle.fc_volume.proofs.RewriteLemmas.{size_of_form}
 use Rattle.fc_volume.proofs.TurnedLemmas.{Turns, fills, now_of, sectors_turned}
 use Rattle.fc_growing.specs.Around.{AreAllFilled, LieOn, sectors_around}
+use Rattle.fc_tree.proofs.ReadingLemmas.{all_on_disk as all_low}
 
 -- ---- one or none
 

@@ -22,7 +22,6 @@ use Rattle.fc_image.specs.Opening.{Opened, boot_place, reserved_in}
 use Rattle.fc_image.specs.Stays.{HasSectorsOf, OpensAs}
 use Rattle.fc_image.specs.Walk.{Listing, Object, is_directory_object, object_bytes}
 use Rattle.fc_image.proofs.HolesLemmas.{Lies}
-use Rattle.fc_image.proofs.PathsLemmas.{unless}
 use Rattle.fc_changes.specs.Owed.{IsWritten}
 use Rattle.fc_changes.proofs.StepsLemmas.{writes_law}
 use Rattle.fc_laws.specs.agree.Agreed.{AgreeOn}
@@ -44,7 +43,6 @@ use Rattle.fc_tree.specs.declared.node.Node.{Node}
 use Rattle.fc_tree.specs.Agree.{HasForm}
 use Rattle.fc_tree.specs.Laws.{EntriesLaw}
 use Rattle.fc_tree.specs.Nodes.{number_of}
-use Rattle.fc_tree.proofs.MemberLemmas.{contains_later}
 use Rattle.std.proofs.lemmas.List.Elements.{Contains-append_right}
 use Rattle.fc_tree.proofs.WalkedLemmas.{listed_directory}
 use Rattle.fc_volume.specs.declared.changes.rewrite.Rewrite.{Rewrite}
@@ -70,6 +68,8 @@ use Rattle.fc_growing.proofs.RenamingAroundLemmas as but
 use Rattle.fc_growing.proofs.RenamingOwnLemmas.{OwnIsWritten, one_filled, own_is_written}
 use Rattle.fc_growing.proofs.RenamingWithinLemmas as within
 use Rattle.fc_growing.proofs.RenamingWithinLemmas.{IsNamingWithin}
+use Rattle.std.proofs.lemmas.Bool.{false_from_ne_true as unless}
+use Rattle.fc_image.proofs.EntriesLemmas.{later as contains_later}
 
 -- an object of no bytes has no plan
 pub no_object : (m : Map) (object : Option Plan) (sectors : List ℕ) → IsObjectSpace m 0 object sectors → object ≡ None

@@ -68,12 +68,10 @@ use Rattle.fc_growing.proofs.RenamingOwnLemmas.{one_sectors, own_low}
 use Rattle.fc_growing.proofs.RenamingStepsLemmas as steps
 use Rattle.fc_growing.proofs.RenamingWithinLemmas as within
 use Rattle.fc_growing.proofs.RenamingWithinLemmas.{IsNamingWithin}
+use Rattle.fc_volume.proofs.SetVolumeLemmas.{HasMap}
 
 pub entries_law : EntriesLaw
 entries_law layout listings l sound at = children_stored layout listings sound l at
-
-abbrev pub HasMap : Volume → Type 0
-HasMap v = (n : Map) → layout_of v.space ≡ Layout.New n → IsNewMap n
 
 -- ---- the parts of a volume with a new map
 

@@ -48,7 +48,6 @@ use Rattle.fc_volume.specs.declared.changes.rewrite.Rewrite.{Rewrite}
 use Rattle.fc_volume.proofs.RenameLemmas.{can_say, moved_at, named_in, without_source}
 use Rattle.fc_volume.proofs.RespelledLemmas.{entries_renamed}
 use Rattle.fc_volume.proofs.RewriteLemmas as rewrite
-use Rattle.fc_volume.proofs.RewriteLemmas.{says_it}
 use Rattle.fc_volume.proofs.TargetLemmas as target_of
 use Rattle.fc_volume.proofs.TurnedLemmas.{Turns, now_of, turns, with_turned}
 use Rattle.fc_growing.specs.declared.around.Regrowth.{Regrowth}
@@ -66,6 +65,7 @@ use Rattle.fc_growing.proofs.ReadyLemmas as ready_of
 use Rattle.fc_growing.proofs.ReadyLemmas.{IsToGrow}
 use Rattle.fc_growing.proofs.RenamingAroundLemmas as but
 use Rattle.fc_growing.proofs.RenamingJudgeLemmas.{IsGain, grows_by, has_room}
+use Rattle.fc_laws.proofs.lemmas.agree.SayLemmas.{as_directory as says_it}
 
 -- ---- directories that grow
 

@@ -35,6 +35,7 @@ use Rattle.fc_placing.proofs.LeavingLemmas.{others_are}
 use Rattle.fc_placing.proofs.SlackLemmas.{list_all-IsPermutation, own_part}
 use Rattle.fc_laws.specs.nodes.Edits.{Nodes}
 use Rattle.fc_growing.specs.Room.{IsNodeOf, RoomLaw, has_room_by, is_alone_by, leaves_free_for, others_leave_free}
+use Rattle.fc_slack.proofs.LowLemmas.{or_true}
 
 -- ---- tests of lists
 
@@ -63,10 +64,6 @@ all_apart row t (p ∷ objects) = by (t p) (all_apart row t objects)
         ≡ ((b || is_apart row p.sectors) && list_all (λ p. t p || is_apart row p.sectors) objects)
     by true h = h
     by false h = apart-append row p.sectors (flat_map (λ p. p.sectors) (filter (λ p. not (t p)) objects)) ∙ ap (λ (b : Bool). is_apart row p.sectors && b) h
-
-or_true : (b : Bool) → (b || true) ≡ true
-or_true true = refl
-or_true false = refl
 
 none_in : (xs : List ℕ) → nat_lt 0 (length xs) ≡ false → xs ≡ []
 none_in [] e = refl

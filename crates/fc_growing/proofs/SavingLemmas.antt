@@ -44,7 +44,6 @@ use Rattle.fc_tree.proofs.WalkedLemmas.{same_some}
 use Rattle.fc_volume.specs.declared.changes.putting.FileWords.{FileWords}
 use Rattle.fc_volume.specs.Owners.{entry_owner, with_owner}
 use Rattle.fc_volume.proofs.OwnersLemmas.{sectors_long}
-use Rattle.fc_volume.proofs.PieceLemmas.{all_low}
 use Rattle.fc_volume.proofs.RoomyLemmas.{entries_entered}
 use Rattle.fc_volume.proofs.SaveGainLemmas.{holder_number}
 use Rattle.fc_growths.specs.Grown.{NewPlace, at_place, grown_says}
@@ -74,6 +73,7 @@ use Rattle.fc_growing.proofs.ReadyLemmas as ready_of
 use Rattle.fc_growing.proofs.ReadyLemmas.{IsToGrow}
 use Rattle.fc_growing.proofs.SavingPlaceLemmas as place_of
 use Rattle.fc_growing.proofs.SavingReadyLemmas as asked
+use Rattle.fc_tree.proofs.ReadingLemmas.{all_on_disk as all_low}
 
 -- ---- what is ready
 

@@ -28,7 +28,7 @@ use Rattle.fc_plan.specs.declared.plan.Plan.{Plan}
 use Rattle.fc_plan.specs.Applied.{id_in, parts_in}
 use Rattle.fc_plan.specs.Parts.{fronts}
 use Rattle.fc_placing.specs.Places.{address_in, slack_left}
-use Rattle.fc_placing.proofs.PlacedLemmas.{place_law}
+use Rattle.fc_placing.proofs.PlacedLemmas.{place_law, id_at}
 use Rattle.fc_placing.proofs.SlackLemmas.{same_slack}
 use Rattle.fc_slack.specs.declared.share.Share.{Share}
 use Rattle.fc_slack.specs.Slack.{place_in}
@@ -49,7 +49,9 @@ use Rattle.fc_growing.specs.Space.{HasGrownSpace}
 use Rattle.fc_growing.proofs.FileLemmas.{file_law}
 use Rattle.fc_growing.proofs.GrowthLemmas.{growth_law}
 use Rattle.fc_growing.proofs.ReadyLemmas as ready_of
-use Rattle.fc_growing.proofs.ReadyLemmas.{IsToGrow, hole_apart, hole_on_disc}
+use Rattle.fc_growing.proofs.ReadyLemmas.{IsToGrow}
+use Rattle.fc_volume.proofs.CdirHeldLemmas.{hole_on_disc, hole_apart}
+use Rattle.fc_volume.proofs.CarryingLemmas.{low_bit as one_or_none}
 
 -- ---- the map
 
@@ -76,13 +78,6 @@ growth_map m m' nodes owners listings o stay dir bytes p grows grown = record {
     free (Some plan) can some = can.0
 
 -- ---- addresses
-
-id_at : (id low : ℕ) → low < 256 → id_of (256 * id + low) ≡ id
-id_at id low small = omega (arith, small)
-
-one_or_none : (b : Bool) → cond b 1 0 < 2
-one_or_none true = omega arith
-one_or_none false = omega arith
 
 no_bytes : (layout : Layout) (address bytes : ℕ) → bytes ≡ 0 → sectors_at layout address bytes ≡ Some []
 unfolding sectors_at

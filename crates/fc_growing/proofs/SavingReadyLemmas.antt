@@ -52,11 +52,11 @@ use Rattle.fc_growing.specs.Place.{IsGrowthPlanned}
 use Rattle.fc_growing.specs.Room.{has_room_by, is_alone_by}
 use Rattle.fc_growing.specs.Saving.{CanFileGrown, CanGrowByFile, IsThere}
 use Rattle.fc_growing.proofs.AskedLemmas.{unowned}
-use Rattle.fc_growing.proofs.FindingLemmas.{first_none}
 use Rattle.fc_growing.proofs.ReadyLemmas as ready_of
 use Rattle.fc_growing.proofs.ReadyLemmas.{IsToGrow}
 use Rattle.fc_growing.proofs.SavingShortLemmas as short_of_it
 use Rattle.fc_growing.proofs.SavingShortLemmas.{grows_long, grows_more, long_size}
+use Rattle.fc_volume.proofs.CdirAskedLemmas.{first_none}
 
 -- ---- the directory, among parts that agree
 

@@ -24,7 +24,6 @@ use Rattle.fc_image.specs.Walk.{Listing, Object, object_size}
 use Rattle.fc_image.specs.effects.Short.{Gain, Growth, gain_in, gain_of, growth_in, growth_of, growth_with, is_full_with, short}
 use Rattle.fc_changes.specs.Changed.{MakesFile}
 use Rattle.fc_changes.proofs.ChangeLemmas.{a_sector}
-use Rattle.fc_growths.proofs.SpaceLemmas.{sectors_some}
 use Rattle.fc_laws.specs.nodes.Edits.{Nodes}
 use Rattle.fc_placing.specs.Places.{WantsSpace, slack_left}
 use Rattle.fc_refusals.specs.Targets.{IsVacant}
@@ -42,6 +41,7 @@ use Rattle.fc_growing.proofs.FileLemmas.{file_law}
 use Rattle.fc_growing.proofs.FindingLemmas.{listed_at, one_said}
 use Rattle.fc_growing.proofs.NeedsLemmas.{short_law}
 use Rattle.fc_growing.proofs.RoomLemmas.{good, placed, room_law}
+use Rattle.fc_changes.proofs.NewPlaceLemmas.{some_there as sectors_some}
 
 -- ---- a directory that grows is a big one
 

@@ -50,10 +50,7 @@ use Rattle.fc_growing.proofs.SavingLemmas.{IsReady}
 use Rattle.fc_growing.proofs.SavingStepsLemmas as steps_of
 use Rattle.fc_growing.proofs.VolumeLemmas as later
 use Rattle.fc_growing.proofs.VolumeLemmas.{HasNow}
-
-pub same_nodes : (t : Numbers) (room : ℕ) → nodes_of (record t { room = room }) ≡ nodes_of t
-unfolding nodes_of
-same_nodes t room = refl
+use Rattle.fc_volume.proofs.CdirVolumeLemmas.{same_nodes}
 
 -- ---- what is ready
 

@@ -35,6 +35,7 @@ use Rattle.fc_growths.proofs.RootLemmas.{grown_maps_law}
 use Rattle.fc_growing.specs.declared.place.GrownPlace.{GrownPlace}
 use Rattle.fc_growing.specs.Place.{CanApply, new_place}
 use Rattle.fc_growing.specs.Space.{AreZonesOf, HasGrownSpace, IsMapOf, map_rooted, with_zone_0}
+use Rattle.fc_changes.proofs.CommittedLemmas.{all_same}
 
 -- ---- zones
 
@@ -106,10 +107,6 @@ module _ (m : Map) (p : GrownPlace) (object dir : Option (Bor Plan)) (gone : Lis
   unlisted zones others z low none = sym (same_plans z) ∙ others z low none
 
 -- ---- a map with the same runs
-
-all_same : (m m' : Map) → KeepsRuns m m' → (zones : List ℕ) → runs_in m' zones ≡ runs_in m zones
-all_same m m' kept [] = refl
-all_same m m' kept (z ∷ zones) = ap₂ (λ (runs : List Run) (others : List ZoneRun). placed z runs ++ others) (kept.runs z) (all_same m m' kept zones)
 
 runs_same : (m m' : Map) → KeepsRuns m m' → all_runs m' ≡ all_runs m
 runs_same m m' kept = ap (λ (g : Geometry). runs_in m' (zone_numbers g)) kept.geometry ∙ all_same m m' kept (zone_numbers m.geometry)

@@ -13,7 +13,6 @@ use Rattle.fc_image.specs.effects.Placed.{holes_left}
 use Rattle.fc_image.specs.effects.Short.{is_alone}
 use Rattle.fc_image.specs.effects.Steady.{has_id_that, holes_with, is_given_back, zone_holes}
 use Rattle.fc_changes.proofs.ChangeLemmas.{a_sector}
-use Rattle.fc_growths.proofs.SpaceLemmas.{sectors_some}
 use Rattle.fc_laws.specs.nodes.Edits.{Nodes}
 use Rattle.fc_objects.specs.Extents.{sectors_in}
 use Rattle.fc_plan.proofs.Left.{left_of_none}
@@ -26,6 +25,7 @@ use Rattle.fc_growing.specs.Place.{IsGrowthOf, new_place}
 use Rattle.fc_growing.specs.Room.{has_room_by}
 use Rattle.fc_growing.proofs.GrowthLemmas.{address_stays, from_map, owned_there, room_same, size_is}
 use Rattle.fc_growing.proofs.RoomLemmas.{good}
+use Rattle.fc_changes.proofs.NewPlaceLemmas.{some_there as sectors_some}
 
 -- no run is of one of no identifiers
 none_back : (runs : List ZoneRun) → filter (λ p. has_id_that (is_one_of []) p.1.kind) runs ≡ []

@@ -26,7 +26,7 @@ use Rattle.fc_image.proofs.RenameLemmas.{child_stays, holder_first, moved_itself
 use Rattle.fc_image.proofs.RewordLemmas.{other_long}
 use Rattle.fc_image.proofs.ShuffleLemmas.{filter-map}
 use Rattle.fc_image.specs.effects.Steady.{AreWritten, DirectorySteady, IsRewritten, edited, holds_named, is_renamed_by, named_entry, path_after, regrown_entry, replaced_entry, without_name}
-use Rattle.fc_changes.proofs.BasicLemmas.{cases_cons, clash, first_in, long_pushed, next_in, nothing_in, or_left, or_second, without_it}
+use Rattle.fc_changes.proofs.BasicLemmas.{cases_cons, clash, first_in, long_pushed, next_in, nothing_in, without_it}
 use Rattle.fc_changes.proofs.BeforeLemmas.{sound}
 use Rattle.fc_changes.proofs.ChangeLemmas.{opened}
 use Rattle.fc_changes.proofs.ReadsLemmas.{entry_at, lies_in, other_dir, reads_back, same_name_turned}
@@ -40,6 +40,7 @@ use Rattle.fc_growths.proofs.MovingLemmas.{Renaming, f, f_itself, f_kind, f_othe
 use Rattle.fc_growths.proofs.MovedOpenLemmas.{Lists, in_found, opens_now}
 use Rattle.fc_growths.proofs.MovedSteadyLemmas.{HeadsSteady, edited_by, from_holds, named_now, some_steady, to_holds, written_steady}
 use Rattle.fc_growths.proofs.RelocatedLemmas.{sibling}
+use Rattle.std.proofs.lemmas.Bool.{or_left, or_right as or_second}
 
 -- Entry i of directory k is that of o, and goes; `entry` comes to the directory that grows.
 pub record IsAcross {from to : Path} {out come : List Object} (e : Growing (Command.Rename from to) out come) (o : Object) (mv : Object → Object) (k : Listing) (k_content : Directory) (i : ℕ) (entry : Entry) : Type 0 where

@@ -19,11 +19,12 @@ use Rattle.fc_image.proofs.LookupLemmas.{lookup_law}
 use Rattle.fc_image.proofs.PathsLemmas.{itself}
 use Rattle.fc_image.proofs.RelistLemmas.{prefix_long, prefix_step}
 use Rattle.fc_image.proofs.RenameLemmas.{child_path, child_stays}
-use Rattle.fc_changes.proofs.BasicLemmas.{cases_cons, clash, in_flat, long_pushed, unless}
+use Rattle.fc_changes.proofs.BasicLemmas.{cases_cons, clash, in_flat, long_pushed}
 use Rattle.fc_changes.proofs.BeforeLemmas.{Had, had, listed_in, object_from, sound}
 use Rattle.fc_changes.proofs.ChangeLemmas.{opened}
 use Rattle.fc_changes.proofs.PlacedLemmas.{filter_test}
 use Rattle.fc_growths.proofs.SpaceLemmas.{one_says}
+use Rattle.std.proofs.lemmas.Bool.{false_from_ne_true as unless}
 
 module _ (kind : Kind) (r : DiscRecord) (image : List ℕ) (m : Map) (ls : List Listing) (new : IsNewKind kind r) (opens : OpensAs image kind (opened kind m ls)) (o : Object) (o_in : Contains (objects_of ls) o)
     (file : is_directory_object o ≡ false) (some : 0 < length o.path) where

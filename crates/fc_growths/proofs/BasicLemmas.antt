@@ -15,6 +15,7 @@ use Rattle.fc_image.proofs.EntriesLemmas.{in_filter, same_some}
 use Rattle.fc_image.proofs.ShuffleLemmas.{IsPermutation-filter, flipped}
 use Rattle.fc_image.specs.effects.Short.{Gain, Growth, growth_of, growth_with}
 use Rattle.fc_changes.proofs.BasicLemmas.{cases_cons, first_in, next_in, nothing_in}
+use Rattle.fc_changes.proofs.PlacedLemmas.{is_in_flat as among_flat}
 
 -- ---- lists
 
@@ -25,13 +26,6 @@ pick (y ∷ xs) x at = elim (cases_cons y xs x at) [
   | inl is ↦ (xs, subst (λ (z : _). IsPermutation (y ∷ xs) (z ∷ xs)) is (IsPermutation-refl (y ∷ xs)))
   | inr later ↦ (let r = pick xs x later in
       (y ∷ r.0, IsPermutation-trans (y ∷ xs) (y ∷ x ∷ r.0) (x ∷ y ∷ r.0) (IsPermutation-cons y xs (x ∷ r.0) r.1) (flipped y x r.0)))
-]
-
-pub among_flat : {X : Type 0} (f : X → List ℕ) (xs : List X) (x : X) (s : ℕ) → Contains xs x → is_among (f x) s ≡ true → is_among (flat_map f xs) s ≡ true
-among_flat f [] x s at h = absurd (nothing_in x at)
-among_flat f (y ∷ xs) x s at h = elim (cases_cons y xs x at) [
-  | inl is ↦ in_front (f y) (flat_map f xs) s (subst (λ (z : _). is_among (f z) s ≡ true) (sym is) h)
-  | inr later ↦ in_back (f y) (flat_map f xs) s (among_flat f xs x s later h)
 ]
 
 -- what one of them has

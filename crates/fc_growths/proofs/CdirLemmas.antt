@@ -48,25 +48,7 @@ use Rattle.fc_dirs.specs.Small.{empty_small, small_dir, small_fault}
 use Rattle.fc_dirs.specs.Big.{big_dir, big_fault, empty_big}
 use Rattle.fc_image.proofs.LookupLemmas.{lookup_law}
 use Rattle.std.proofs.lemmas.List.Sorted.{Contains-permutation}
-
--- a new directory is read as it was written
-new_reads : (form : NameForm) (bytes : List ℕ) (parent : ℕ) (name : List ℕ) → AreWritten bytes (new_directory form parent name) → directory_of form bytes ≡ Ok (new_directory form parent name)
-new_reads Seven bytes parent name written =
-    told (small_fault Bytes1280 bytes) (Directory.Small (small_dir Bytes1280 bytes)) (Directory.Small (empty_small Bytes1280 parent name)) written.reads.right (ap (λ d. Directory.Small d) written.reads.says)
-new_reads Ten bytes parent name written =
-    told (small_fault Bytes2048 bytes) (Directory.Small (small_dir Bytes2048 bytes)) (Directory.Small (empty_small Bytes2048 parent name)) written.reads.right (ap (λ d. Directory.Small d) written.reads.says)
-new_reads Long bytes parent name written =
-    told (big_fault bytes) (Directory.Big (big_dir bytes)) (Directory.Big (empty_big parent name)) written.reads.right (ap (λ d. Directory.Big d) written.reads.says)
-
-none_in_new : (form : NameForm) (parent : ℕ) (name : List ℕ) → entries_of (new_directory form parent name) ≡ []
-none_in_new Seven parent name = refl
-none_in_new Ten parent name = refl
-none_in_new Long parent name = refl
-
-size_of_new : (form : NameForm) → directory_size form (new_dir_size form) ≡ new_dir_size form
-size_of_new Seven = refl
-size_of_new Ten = refl
-size_of_new Long = refl
+use Rattle.fc_changes.proofs.CdirLemmas.{new_reads, none_in_new, size_of_new}
 
 module _ (kind : Kind) (r : DiscRecord) (image image' : List ℕ) (m m' : Map) (ls : List Listing) (path : Path)
     (l : Listing) (content : Directory) (place : NewPlace) (again again' keep : List Listing) (d : Listing) (stay : List Object) (id : ℕ) (parts : List ZoneRun) (gone : List ℕ)

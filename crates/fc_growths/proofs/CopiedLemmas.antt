@@ -3,7 +3,7 @@ use Rattle.std.proofs.Common.{◌≡◌, ◌<◌, ◌⊎◌, inl, inr, ℕ, ◌*
 use Rattle.std.specs.Prelude.{Ok, Err, Contains, IsPermutation, insert, remove, not, ◌&&◌, ◌||◌, nat_lt}
 use Rattle.std.specs.List.{flat_map}
 use Rattle.std.specs.Option.{option_map_or}
-use Rattle.std.proofs.lemmas.Bool.{lt-ltb}
+use Rattle.std.proofs.lemmas.Bool.{lt-ltb, not-true as not_true}
 use Rattle.std.proofs.lemmas.List.Elements.{Contains-append_left, Contains-append_right}
 use Rattle.std.proofs.lemmas.List.Sorted.{Contains-permutation, IsPermutation-append_left, IsPermutation-cons, IsPermutation-sym, IsPermutation-trans}
 use Rattle.fc_names.specs.Names.{Path, folded_path, is_directory, is_same_path}
@@ -29,7 +29,6 @@ use Rattle.fc_image.specs.InPlace.{says_now}
 use Rattle.fc_image.proofs.CommandLemmas.{other_path as not_there}
 use Rattle.fc_image.proofs.EntriesLemmas.{entries_law}
 use Rattle.fc_image.proofs.MapEditLemmas.{file_stays}
-use Rattle.fc_image.proofs.MoveLemmas.{not_true}
 use Rattle.fc_image.proofs.OrderLemmas.{apart_shuffled}
 use Rattle.fc_image.proofs.PathsLemmas.{itself}
 use Rattle.fc_image.proofs.RenameLemmas.{alone, child_path, last_pushed, moved_itself}

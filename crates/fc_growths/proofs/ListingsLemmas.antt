@@ -32,7 +32,7 @@ use Rattle.fc_image.proofs.RenameLemmas.{child_path}
 use Rattle.fc_image.proofs.RewordLemmas.{same_long}
 use Rattle.fc_image.proofs.ShuffleLemmas.{IsPermutation-flat_map, flipped}
 use Rattle.fc_image.specs.effects.Steady.{has_new_holder}
-use Rattle.fc_changes.proofs.BasicLemmas.{clash, first_in, next_in, nothing_in, or_left, unless}
+use Rattle.fc_changes.proofs.BasicLemmas.{clash, first_in, next_in, nothing_in}
 use Rattle.fc_changes.proofs.BeforeLemmas.{other_path}
 use Rattle.fc_changes.proofs.ChangeLemmas.{opened}
 use Rattle.fc_changes.proofs.ReadsLemmas.{lies_in, reads_back}
@@ -42,6 +42,7 @@ use Rattle.fc_growths.proofs.SpaceLemmas.{Growing, after, dir_listed, form_stays
 use Rattle.fc_growths.proofs.ObjectLemmas.{child_object, entries_grown, g, g_all, g_at, g_itself, g_kept, g_stays, kid_other, listed_object, same_object, stay_other, stays, stays_file}
 use Rattle.fc_growths.proofs.OpeningLemmas.{Comes, NewObject, after_fixed, come_apart_now, one_comes, runs_fixed}
 use Rattle.fc_growths.proofs.WrittenLemmas.{Rooted, Writes, stored, file_stored as stored_file, rooted as its_root}
+use Rattle.std.proofs.lemmas.Bool.{false_from_ne_true as unless, or_left}
 
 module _ {c : Command} {o : Object} (e : Growing c [] (o ∷ [])) (n : NewObject e) where
   abbrev pub rest : List Listing

@@ -2,7 +2,7 @@
 use Rattle.std.proofs.Common.{◌≡◌, ◌<◌, ◌≤◌, ◌⊎◌, inl, inr, ℕ, zero, suc, ◌+◌, ◌-◌, ◌^◌, Bool, true, false, cond, List, [], ◌∷◌, ◌++◌, length, take, drop, refl, sym, ap, ap₂, subst, ◌∙◌, arith, Some, None, Option, eq-eqb, get_or-set_same, get_or-set_other}
 use Rattle.std.specs.Prelude.{Contains, IsPermutation, IfSome, filter, slice_index, slice_range, ◌==◌}
 use Rattle.std.specs.List.{AllByRecursion}
-use Rattle.std.proofs.lemmas.Bool.{eqb-true}
+use Rattle.std.proofs.lemmas.Bool.{eqb-true, false_from_ne_true as unless}
 use Rattle.std.proofs.lemmas.List.{drop-drop}
 use Rattle.fc_bytes.specs.Bits.{bits, num}
 use Rattle.fc_bytes.specs.BitLaws.{bits-drop, bits-take}
@@ -30,16 +30,12 @@ use Rattle.fc_plan.specs.declared.plan.Plan.{Plan}
 use Rattle.fc_plan.specs.Applied.{IsOther, IsTakenIn, id_in, parts_in, unless_gone}
 use Rattle.fc_plan.specs.Giving.{is_one_of}
 use Rattle.fc_plan.specs.Taking.{as_runs}
-use Rattle.fc_changes.proofs.CommittedLemmas.{committed_law, index_part, same_part}
-use Rattle.fc_changes.proofs.BasicLemmas.{clash, unless}
+use Rattle.fc_changes.proofs.CommittedLemmas.{committed_law, index_part, same_part, all_same, part_behind, starts_high}
+use Rattle.fc_changes.proofs.BasicLemmas.{clash}
 use Rattle.fc_growths.specs.Grown.{IsGrowthSpace, IsMapGrown, NewPlace, zone0_with, zone_with}
 use Rattle.fc_growths.specs.Maps.{HasApplied, HasParts}
 
 -- ---- maps with the same runs
-
-all_same : (m m' : Map) → KeepsRuns m m' → (zones : List ℕ) → runs_in m' zones ≡ runs_in m zones
-all_same m m' kept [] = refl
-all_same m m' kept (z ∷ zones) = ap₂ (λ (runs : List Run) (others : List ZoneRun). placed z runs ++ others) (kept.runs z) (all_same m m' kept zones)
 
 runs_all : (m m' : Map) → KeepsRuns m m' → all_runs m' ≡ all_runs m
 runs_all m m' kept = ap (λ (g : Geometry). runs_in m' (zone_numbers g)) kept.geometry ∙ all_same m m' kept (zone_numbers m.geometry)
@@ -81,26 +77,6 @@ space' m first mid m' place object dir gone start applied kept some_object some_
     other (Some plan) k has never = λ is. never has is
 
 -- ---- the root in zone 0
-
-part_behind : (a from n : ℕ) (xs ys : List ℕ) → a ≤ from → drop a ys ≡ drop a xs → take n (drop from ys) ≡ take n (drop from xs)
-part_behind a from n xs ys low same =
-    let at : a + (from - a) ≡ from = omega (arith, low) in
-    ap (λ (k : ℕ). take n (drop k ys)) (sym at) ∙ ap (take n) (sym (drop-drop (from - a) a ys)) ∙ ap (λ (zs : List ℕ). take n (drop (from - a) zs)) same ∙ ap (take n) (drop-drop (from - a) a xs)
-    ∙ ap (λ (k : ℕ). take n (drop k xs)) at
-
--- holes begin in the zone's bits
-starts_high : (s : ZoneShape) (bs : List ℕ) (at : ℕ) (runs : List Run) (end : ℕ) → Spells s bs at runs end → AllByRecursion (λ p. at ≤ p) (hole_starts runs)
-starts_high s bs at [] end spelled = tt
-starts_high s bs at (run ∷ runs) end spelled =
-    by run.kind (higher (hole_starts runs) (starts_high s bs (at + run.len) runs end spelled.3))
-  where
-    higher : (ps : List ℕ) → AllByRecursion (λ p. at + run.len ≤ p) ps → AllByRecursion (λ p. at ≤ p) ps
-    higher [] a = tt
-    higher (p ∷ ps) a = (let from = a.0 in omega (arith, from), higher ps a.1)
-
-    by : (k : RunKind) → AllByRecursion (λ p. at ≤ p) (hole_starts runs) → AllByRecursion (λ p. at ≤ p) (start_if_hole k run.start (hole_starts runs))
-    by kinds.Hole a = (let is = spelled.0 in omega (arith, is), a)
-    by (kinds.Id id) a = a
 
 module _ (s t : List ℕ) (front : take 16 t ≡ take 16 s) (back : drop 56 t ≡ drop 56 s) (long : length t ≡ length s) where
   pub early : (k : ℕ) → k < 16 → slice_index t k ≡ slice_index s k

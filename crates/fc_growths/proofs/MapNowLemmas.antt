@@ -2,7 +2,7 @@
 use Rattle.std.proofs.Common.{◌≡◌, ◌<◌, ◌≤◌, inl, inr, ℕ, Bool, true, false, cond, List, [], ◌∷◌, ◌++◌, length, map, drop, refl, sym, ap, ap₂, subst, ◌∙◌, arith, Some, Option, eq-eqb, ◌*◌, ◌%◌}
 use Rattle.std.specs.Prelude.{Contains, IsSomeAnd, IfSome, not, ◌==◌, ◌&&◌, ◌||◌}
 use Rattle.std.specs.Option.{option_and_then, option_map_or}
-use Rattle.std.proofs.lemmas.Bool.{eqb-true}
+use Rattle.std.proofs.lemmas.Bool.{eqb-true, false_from_ne_true as unless}
 use Rattle.std.proofs.lemmas.List.Elements.{All-nil, All-cons, Contains-append_left}
 use Rattle.std.proofs.lemmas.List.Sorted.{Contains-permutation}
 use Rattle.fc_device.specs.Sectors.{sector_at}
@@ -31,8 +31,8 @@ use Rattle.fc_image.specs.effects.Sharing.{units}
 use Rattle.fc_image.specs.effects.Short.{Growth, growth_in, is_alone, moved_growth, object_units}
 use Rattle.fc_image.specs.effects.Placed.{GrowthPlaced, GrowthPlacedIn, IsNewId, IsTaken, KeepsOrGetsId, holes_left, made_object, object_parts}
 use Rattle.fc_image.specs.effects.Steady.{MapOutside, NewMapSteady, SameSectors, ZoneSteady, back_runs, edited, entries_after, expected_zone, grown_object, grown_parts, holes_with, idle_sectors, is_given_back, is_left_by_growth, named_entry, regrown_entry, runs_that, zone0_after, zone_holes}
-use Rattle.fc_changes.proofs.AfterLemmas.{behind_stays}
-use Rattle.fc_changes.proofs.BasicLemmas.{any_in, clash, first_in, unless}
+use Rattle.fc_changes.proofs.AfterLemmas.{behind_stays, all_same}
+use Rattle.fc_changes.proofs.BasicLemmas.{any_in, clash, first_in}
 use Rattle.fc_changes.proofs.ChangeLemmas.{opened}
 use Rattle.fc_changes.proofs.OutsideLemmas.{idle_stay, no_owner_low}
 use Rattle.fc_changes.proofs.SpaceLemmas.{no_runs, not_given, not_used, still_owned}
@@ -41,13 +41,6 @@ use Rattle.fc_growths.proofs.SpaceLemmas.{Growing, after, grown, grown_owned, it
 use Rattle.fc_growths.proofs.ObjectLemmas.{some_now}
 use Rattle.fc_growths.proofs.OpeningLemmas.{Comes, left_owned}
 use Rattle.fc_growths.proofs.WrittenLemmas.{Writes, all_busy, boot_now}
-
--- some list has all its sectors as before
-all_same : (size : ℕ) (image image' sectors : List ℕ) → HasSectorsOf size sectors image image' → SameSectors size sectors image image'
-all_same size image image' [] same = All-nil (λ s. sector_at size image' s ≡ sector_at size image s)
-all_same size image image' (x ∷ sectors) same =
-    All-cons (λ s. sector_at size image' s ≡ sector_at size image s) x sectors (same x (ap (λ b. b || is_among sectors x) (eq-eqb x x refl)))
-    (all_same size image image' sectors (λ s h. same s (in_back (x ∷ []) sectors s h)))
 
 -- what is found afterwards: each identifier has owners as after the growth, and the directory lies at its new place
 pub record Finds {c : Command} {out come : List Object} (e : Growing c out come) (found : List Listing) : Type 0 where

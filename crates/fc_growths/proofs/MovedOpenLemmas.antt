@@ -31,7 +31,7 @@ use Rattle.fc_image.proofs.RelistLemmas.{all_after, all_before, prefix_long}
 use Rattle.fc_image.proofs.RenameLemmas.{alone, last_pushed, moved_itself}
 use Rattle.fc_image.proofs.RewordLemmas.{same_long}
 use Rattle.fc_image.proofs.ShuffleLemmas.{IsPermutation-flat_map}
-use Rattle.fc_changes.proofs.BasicLemmas.{first_in, long_pushed, next_in, nothing_in, unless}
+use Rattle.fc_changes.proofs.BasicLemmas.{first_in, long_pushed, next_in, nothing_in}
 use Rattle.fc_changes.proofs.BeforeLemmas.{Had, HeldBy, address_by, had, held_by, listed_in, sound}
 use Rattle.fc_changes.proofs.ChangeLemmas.{opened}
 use Rattle.fc_changes.proofs.SpaceLemmas.{owned_same}
@@ -42,6 +42,7 @@ use Rattle.fc_growths.proofs.OpeningLemmas.{Comes, after_fixed, runs_fixed}
 use Rattle.fc_growths.proofs.WrittenLemmas.{Writes, rooted}
 use Rattle.fc_growths.proofs.MapNowLemmas.{Finds}
 use Rattle.fc_growths.proofs.MovingLemmas.{Renaming, f, f_itself, f_others, f_path, is_moved, keep', not_moved, rest_listed, to'}
+use Rattle.std.proofs.lemmas.Bool.{false_from_ne_true as unless}
 
 -- What the directory that grows, and that of the object, list afterwards: `kept` are all objects in directories.
 pub record Lists {from to : Path} {out come : List Object} {more : List ℕ} {Again : Object → Type 0} {o : Object} {src : Path} {mv : Object → Object} {said : Listing → Directory} {heads : List Listing}

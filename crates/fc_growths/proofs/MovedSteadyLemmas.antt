@@ -28,7 +28,7 @@ use Rattle.fc_image.specs.effects.Short.{new_length, object_units}
 use Rattle.fc_image.specs.effects.Placed.{NewObjectPlaced, holes_left, made_object, object_parts}
 use Rattle.fc_image.specs.effects.Steady.{AreWritten, DirectoriesSteady, DirectorySteady, EntrySteady, HasName, IsKept, IsRewritten, IsWrittenAnew, NamedStays, RenamedHead, edited, has_grown, has_new_holder, holds_named, is_moved_by, is_renamed_by, may_be_rewritten, named_entry, path_after, regrown_entry, with_made, without_name}
 use Rattle.fc_changes.specs.Changed.{IsChanged}
-use Rattle.fc_changes.proofs.BasicLemmas.{cases_cons, clash, first_in, next_in, nothing_in, unless}
+use Rattle.fc_changes.proofs.BasicLemmas.{cases_cons, clash, first_in, next_in, nothing_in}
 use Rattle.fc_changes.proofs.ChangeLemmas.{opened}
 use Rattle.fc_changes.proofs.ReadsLemmas.{lies_in, other_dir}
 use Rattle.fc_changes.proofs.RenamedLemmas.{folds_append}
@@ -40,6 +40,7 @@ use Rattle.fc_growths.proofs.WrittenLemmas.{Writes}
 use Rattle.fc_growths.proofs.MapNowLemmas.{behind_now, entries_is, growth_placed, outside_now, space_now}
 use Rattle.fc_growths.proofs.MovingLemmas.{Renaming, again_apart, again_rest, holder_apart, keep', keep_holds, keep_rest, not_moved, now, rest_in, to', written_now}
 use Rattle.fc_growths.proofs.MovedOpenLemmas.{Lists, finds, holder_is, in_found, now_there, old_there, opens_now, sound_now, tree_now}
+use Rattle.std.proofs.lemmas.Bool.{false_from_ne_true as unless}
 
 module _ {from to : Path} {out come : List Object} {more : List ℕ} {Again : Object → Type 0} {o : Object} {src : Path} {mv : Object → Object} {said : Listing → Directory} {heads heads' : List Listing}
     {kept : List Object} (e : Growing (Command.Rename from to) out come) (n : Comes e) (w : Writes e more Again) (r : Renaming e o src mv said heads) (s : Lists e n w r heads' kept) where

@@ -26,7 +26,7 @@ use Rattle.fc_image.proofs.RenameLemmas.{child_path, child_stays}
 use Rattle.fc_image.proofs.TreeLemmas.{folds_alike}
 use Rattle.fc_image.specs.effects.Short.{Growth, is_alone}
 use Rattle.fc_image.specs.effects.Steady.{has_new_holder}
-use Rattle.fc_changes.proofs.BasicLemmas.{clash, first_in, holder_pushed, next_in, or_cases, unless}
+use Rattle.fc_changes.proofs.BasicLemmas.{clash, first_in, holder_pushed, next_in, or_cases}
 use Rattle.fc_changes.proofs.BeforeLemmas.{held_by}
 use Rattle.fc_changes.proofs.ChangeLemmas.{opened}
 use Rattle.fc_changes.proofs.ReadsLemmas.{lies_in, reads_back}
@@ -35,6 +35,7 @@ use Rattle.fc_growths.proofs.SpaceLemmas.{Growing, after, form_stays, grown, l_d
 use Rattle.fc_growths.proofs.ObjectLemmas.{child_object, entries_grown, g, g_at, g_itself, g_stays, same_object, stays}
 use Rattle.fc_growths.proofs.OpeningLemmas.{Comes}
 use Rattle.fc_growths.proofs.WrittenLemmas.{Writes, rooted, written_one}
+use Rattle.std.proofs.lemmas.Bool.{false_from_ne_true as unless}
 
 -- o is in no directory but its own
 pub not_in : {c : Command} {out come : List Object} (e : Growing c out come) (o : Object) (src : Path) → o.path ≡ src ++ o.entry.name ∷ [] → (k : Listing) → Contains e.ls k → is_same_path src k.object.path ≡ false

@@ -19,8 +19,6 @@ use Rattle.fc_image.specs.Edits.{IsAt}
 use Rattle.fc_image.proofs.EntriesLemmas.{in_filter, in_mapped, same_some}
 use Rattle.fc_image.proofs.HolesLemmas.{apart_at}
 use Rattle.fc_image.proofs.MapEditLemmas.{places_law}
-use Rattle.fc_image.proofs.MoveLemmas.{not_true}
-use Rattle.fc_image.proofs.OneZoneLemmas.{and_first, and_second}
 use Rattle.fc_image.specs.effects.Sharing.{Holding, holding_of, holdings_in, is_shareable, is_spare, may_share_with, new_ids, shares, slack, slack_among, units}
 use Rattle.fc_image.specs.effects.Placed.{IsNewId, IsTaken, StandsInNewSpace, file_low, first_low, holes_left}
 use Rattle.fc_plan.specs.Taking.{as_runs, with_id}
@@ -35,9 +33,12 @@ use Rattle.fc_changes.proofs.BasicLemmas.{any_in, cases_cons, clash, first_in, n
 use Rattle.fc_changes.proofs.ChangeLemmas.{a_sector}
 use Rattle.fc_changes.proofs.MadeLemmas.{file_low_small}
 use Rattle.fc_changes.proofs.PlacedLemmas.{IsShared, filter_test, found_in, is_shared}
-use Rattle.fc_growths.proofs.ObjectLemmas.{by_map, one_of_both, stays_file}
+use Rattle.fc_growths.proofs.ObjectLemmas.{one_of_both, stays_file}
 use Rattle.fc_growths.proofs.OpeningLemmas.{IsApartNew}
-use Rattle.fc_growths.proofs.SpaceLemmas.{Growing, form_stays, its, its_elsewhere, l_directory, l_object, l_owns, l_used, new_unused, old_id, owner_id, owned_by, owner_used, owns, some_sector, stay_at, stay_in, stay_runs, was}
+use Rattle.fc_growths.proofs.SpaceLemmas.{Growing, form_stays, its, its_elsewhere, l_directory, l_object, l_owns, l_used, new_unused, old_id, owned_by, owner_used, owns, some_sector, stay_at, stay_in, stay_runs, was}
+use Rattle.fc_changes.proofs.NewPlaceLemmas.{none_at, by_new as by_map, owner_id}
+use Rattle.std.proofs.lemmas.Bool.{not-true as not_true}
+use Rattle.fc_record.proofs.KindLemmas.{and_first, and_second}
 
 -- ---- in new space
 
@@ -137,10 +138,6 @@ pub file_fresh : (m : Map) (objects : List Object) (dir : Path) (n id : ℕ) (pa
 file_fresh m objects dir n id parts o (inl shared) some = absurd (let none = ap (λ (ps : List ZoneRun). length ps) shared.nothing in omega (arith, none, some))
 file_fresh m objects dir n id parts o (inr (inl new)) some = new_id_unused m id new.1.is_new
 file_fresh m objects dir n id parts o (inr (inr none)) some = absurd (let x = ap (λ (ps : List ZoneRun). length ps) none.nothing in omega (arith, x, some))
-
-none_at : (layout : Layout) (address : ℕ) (sectors : List ℕ) → sectors_at layout address 0 ≡ Some sectors → sectors ≡ []
-unfolding sectors_at
-none_at layout address sectors h = sym (same_some [] sectors h)
 
 module _ {c : Command} {out come : List Object} (e : Growing c out come) (o : Object) (n : ℕ) (at : IsAt (Layout.New e.m') o) (size : object_size (dir_form (Layout.New e.m')) o.entry ≡ n) where
   placed : sectors_at (Layout.New e.m') o.entry.address n ≡ Some o.sectors

@@ -2,7 +2,7 @@
 use Rattle.std.proofs.Common.{◌≡◌, ◌<◌, ◌≤◌, inl, inr, ℕ, Bool, true, false, cond, List, [], ◌∷◌, ◌++◌, length, map, refl, sym, ap, ap₂, subst, ◌∙◌, arith, Some, Option}
 use Rattle.std.specs.Prelude.{Contains, filter, not, ◌==◌}
 use Rattle.std.specs.Option.{option_map_or}
-use Rattle.std.proofs.lemmas.Bool.{eqb-true}
+use Rattle.std.proofs.lemmas.Bool.{eqb-true, false_from_ne_true as unless}
 use Rattle.std.proofs.lemmas.List.Elements.{Contains-append_right}
 use Rattle.std.proofs.lemmas.List.Sorted.{Contains-permutation}
 use Rattle.fc_names.specs.Names.{Path, is_same_path}
@@ -29,7 +29,6 @@ use Rattle.fc_image.proofs.HolesLemmas.{apart_at, in_id}
 use Rattle.fc_image.proofs.LookupLemmas.{lookup_law}
 use Rattle.fc_image.proofs.MapEditLemmas.{places_law}
 use Rattle.fc_image.proofs.MoveLemmas.{one_id}
-use Rattle.fc_image.proofs.OneZoneLemmas.{and_second}
 use Rattle.fc_image.proofs.OrderLemmas.{apart_shuffled, order_law}
 use Rattle.fc_image.proofs.PathsLemmas.{itself}
 use Rattle.fc_image.proofs.RenameLemmas.{alone, child_path}
@@ -37,14 +36,17 @@ use Rattle.fc_image.proofs.RewordLemmas.{other_long}
 use Rattle.fc_image.proofs.TreeLemmas.{folds_alike}
 use Rattle.fc_image.specs.effects.Short.{Growth, sectors_of_others}
 use Rattle.fc_image.specs.effects.Steady.{has_grown, regrown_entry}
-use Rattle.fc_changes.proofs.BasicLemmas.{cases_cons, clash, first_in, long_pushed, map_same, next_in, unless}
+use Rattle.fc_changes.proofs.BasicLemmas.{cases_cons, clash, first_in, long_pushed, map_same, next_in}
 use Rattle.fc_changes.proofs.BeforeLemmas.{child_in, listed_in, sound}
 use Rattle.fc_changes.proofs.ChangeLemmas.{opened}
 use Rattle.fc_changes.proofs.RenamedLemmas.{each_apart}
 use Rattle.fc_changes.proofs.SpaceLemmas.{still_owned}
 use Rattle.fc_growths.specs.Grown.{GrowsThere, NewPlace, TakesSpace, at_place}
-use Rattle.fc_growths.proofs.BasicLemmas.{among_flat, pick}
+use Rattle.fc_growths.proofs.BasicLemmas.{pick}
 use Rattle.fc_growths.proofs.SpaceLemmas.{Growing, after, form_stays, grown, grown_owned, grown_size, its, its_alone_now, l_directory, l_in, l_object, l_used, len_some, left_there, old_id, owns, runs_same, says_before, stay_at, stay_in, was, zones_now}
+use Rattle.fc_changes.proofs.PlacedLemmas.{is_in_flat as among_flat}
+use Rattle.fc_changes.proofs.NewPlaceLemmas.{by_new as by_map}
+use Rattle.fc_record.proofs.KindLemmas.{and_second}
 
 -- paths are the same from either side
 pub same_turned : (p q : Path) → is_same_path p q ≡ is_same_path q p
@@ -56,15 +58,6 @@ entries_grown dir o place [] = refl
 entries_grown dir o place (e ∷ es) =
     ap₂ (λ (x : Entry) (xs : List Entry). x ∷ xs)
     (ap (λ (b : Bool). cond b (record e { address = place.address; len = place.len }) e) (same_turned (dir ++ e.name ∷ []) o.path)) (entries_grown dir o place es)
-
--- some bytes lie by the map's runs
-pub by_map : (m : Map) (address n : ℕ) (sectors : List ℕ) → 0 < n → sectors_at (Layout.New m) address n ≡ Some sectors → new_sectors m address n ≡ Some sectors
-unfolding sectors_at
-by_map m address n sectors some h = by (n == 0) refl h
-  where
-    by : (b : Bool) → (n == 0) ≡ b → cond b (Some []) (new_sectors m address n) ≡ Some sectors → new_sectors m address n ≡ Some sectors
-    by true e g = absurd (let none = eqb-true n 0 e in omega (arith, none, some))
-    by false e g = g
 
 module _ {c : Command} {out come : List Object} (e : Growing c out come) where
   -- each object afterwards

@@ -2,7 +2,7 @@
 use Rattle.std.proofs.Common.{◌≡◌, ◌<◌, ◌≤◌, inl, inr, ℕ, Bool, true, false, List, [], ◌∷◌, ◌++◌, length, refl, sym, ap, ap₂, subst, ◌∙◌, arith, eq-eqb}
 use Rattle.std.specs.Prelude.{Contains, IsPermutation, filter, ◌==◌, ◌&&◌, ◌||◌, nat_le}
 use Rattle.std.specs.List.{list_any}
-use Rattle.std.proofs.lemmas.Bool.{eqb-true, le-leb, leb-true}
+use Rattle.std.proofs.lemmas.Bool.{eqb-true, le-leb, leb-true, false_from_ne_true as unless}
 use Rattle.std.proofs.lemmas.List.Elements.{Contains-append_cases, Contains-append_left, Contains-append_right}
 use Rattle.std.proofs.lemmas.List.Sorted.{Contains-permutation, IsPermutation-sym}
 use Rattle.fc_zone.specs.declared.RunKind.{RunKind}
@@ -24,16 +24,17 @@ use Rattle.fc_image.proofs.EntriesLemmas.{in_filter}
 use Rattle.fc_image.proofs.HolesLemmas.{apart_from, in_id, loose_sectors, none_loose}
 use Rattle.fc_image.proofs.MoveLemmas.{id_loose, loose_before}
 use Rattle.fc_image.proofs.OrderLemmas.{apart_shuffled}
-use Rattle.fc_image.proofs.OneZoneLemmas.{and_first, and_second}
 use Rattle.fc_image.proofs.RelistLemmas.{apart_behind, edited_apart_law}
 use Rattle.fc_image.specs.effects.Steady.{is_idle, is_given_back, is_left_by_growth}
-use Rattle.fc_changes.proofs.BasicLemmas.{any_in, cases_cons, clash, first_in, in_any, nothing_in, unless}
+use Rattle.fc_changes.proofs.BasicLemmas.{any_in, cases_cons, clash, first_in, in_any, nothing_in}
 use Rattle.fc_changes.proofs.ChangeLemmas.{opened}
 use Rattle.fc_changes.proofs.OutsideLemmas.{AreBusy, low_owned, owned_busy}
 use Rattle.fc_changes.proofs.SpaceLemmas.{no_runs, not_given, still_owned}
 use Rattle.fc_growths.specs.Grown.{IsGrowing, NewPlace}
-use Rattle.fc_growths.proofs.SpaceLemmas.{Growing, Grows, after, grown, grown_owns, its, its_high, its_taken, its_was, l_owned, left_alone, left_elsewhere, left_there, lies, none_same, old_id, owned_by, owner_id, owns, runs_same, stay_in, was, zones_now}
+use Rattle.fc_growths.proofs.SpaceLemmas.{Growing, Grows, after, grown, grown_owns, its, its_high, its_taken, its_was, l_owned, left_alone, left_elsewhere, left_there, lies, none_same, old_id, owned_by, owns, runs_same, stay_in, was, zones_now}
 use Rattle.fc_growths.proofs.ObjectLemmas.{apart_before, grown_apart, one_of_both, some_now, stays}
+use Rattle.fc_changes.proofs.NewPlaceLemmas.{owner_id}
+use Rattle.fc_record.proofs.KindLemmas.{and_first, and_second}
 
 -- where a new object lies, beside a directory that grows
 pub record IsApartNew {c : Command} {out come : List Object} (e : Growing c out come) (o : Object) : Type 0 where

@@ -21,7 +21,7 @@ use Rattle.fc_image.proofs.RewordLemmas.{other_long}
 use Rattle.fc_image.specs.effects.Short.{growth_in, object_units}
 use Rattle.fc_image.specs.effects.Placed.{GrowthPlacedIn, holes_left, made_object, object_parts}
 use Rattle.fc_image.specs.effects.Steady.{AreWritten, DirectoriesSteady, DirectorySteady, HasName, IsRewritten, MapOutside, NewMapSteady, edited, expected_zone, gets_parent, has_grown, has_new_holder, holds_named, idle_sectors, is_renamed_by, named_entry, path_after, regrown_entry}
-use Rattle.fc_changes.proofs.BasicLemmas.{cases_cons, clash, long_pushed, or_left, unless}
+use Rattle.fc_changes.proofs.BasicLemmas.{cases_cons, clash, long_pushed}
 use Rattle.fc_changes.proofs.DirectoriesLemmas.{IsPlain}
 use Rattle.fc_changes.proofs.ReadsLemmas.{lies_in}
 use Rattle.fc_changes.proofs.SpaceLemmas.{owned_same}
@@ -32,6 +32,7 @@ use Rattle.fc_growths.proofs.OpeningLemmas.{NewObject}
 use Rattle.fc_growths.proofs.ListingsLemmas.{again_in, again_other, comes, keep_other, keep_stored, l', opens_now, rest, writes}
 use Rattle.fc_growths.proofs.SteadyLemmas.{grown_there, holder_is, l_there, objects_now, rest_there, sound_now, v, w, written_now}
 use Rattle.fc_growths.proofs.MapNowLemmas.{Finds, entries_is, growth_placed as growth_lies, space_now as map_steady, outside_now as map_outside, behind_now as image_behind}
+use Rattle.std.proofs.lemmas.Bool.{false_from_ne_true as unless, or_left}
 
 module _ {c : Command} {o : Object} (e : Growing c [] (o ∷ [])) (n : NewObject e) where
   finds : Finds e (opens_now e n).0.found

@@ -38,7 +38,7 @@ use Rattle.fc_image.specs.effects.Short.{is_copied, new_length}
 use Rattle.fc_image.specs.effects.Placed.{NewObjectPlaced, holes_left, made_object, object_parts}
 use Rattle.fc_image.specs.effects.Steady.{AreWritten, EntrySteady, IsDirLength, IsKept, IsRewritten, IsWrittenAnew, NamedStays, gets_parent, has_new_holder, holds_named, is_moved_by, is_renamed_by}
 use Rattle.fc_changes.specs.Changed.{IsChanged}
-use Rattle.fc_changes.proofs.BasicLemmas.{cases_cons, clash, first_in, holder_pushed, next_in, nothing_in, or_left, or_second, without_it}
+use Rattle.fc_changes.proofs.BasicLemmas.{cases_cons, clash, first_in, holder_pushed, next_in, nothing_in, without_it}
 use Rattle.fc_changes.proofs.BeforeLemmas.{had, other_path}
 use Rattle.fc_changes.proofs.ChangeLemmas.{opened}
 use Rattle.fc_changes.proofs.ReadsLemmas.{reads_back}
@@ -53,6 +53,7 @@ use Rattle.fc_growths.proofs.WrittenLemmas.{Writes, file_stored, rooted, stored}
 use Rattle.fc_growths.proofs.MovingLemmas.{Renaming, again_apart, keep', keep_by_move, not_here, now, no_grown, not_in}
 use Rattle.fc_growths.proofs.MovedOpenLemmas.{Lists, in_grown_now, now_there, old_there, opens_now}
 use Rattle.fc_growths.proofs.MovedSteadyLemmas.{HeadsSteady, KeepSteady, changed_now, kept_name, renamed_is, renamed_not}
+use Rattle.std.proofs.lemmas.Bool.{or_left, or_right as or_second}
 
 -- what the directories around say afterwards: those that are written again stay where they are, and hold nothing that moves
 pub record AroundNow (image' : List ℕ) (m' : Map) (again' keep : List Listing) (o : Object) (own : Directory) (mv : Object → Object) : Type 0 where

@@ -138,7 +138,7 @@ module _ (s : List ℕ) (root size : ℕ) (long : 64 ≤ length s) where
 
 -- ---- agreement
 
-no_difference : (r s own : DiscRecord) (d : Option ℕ) → agreement r s d ≡ Ok own → d ≡ None
+pub no_difference : (r s own : DiscRecord) (d : Option ℕ) → agreement r s d ≡ Ok own → d ≡ None
 no_difference r s own (Some at) e = absurd (cc)
 no_difference r s own None e = refl
 
@@ -150,7 +150,7 @@ agrees r s d none right size_right = ap (agreement r s) none ∙ by (is_root_rig
     by false b x y = absurd (cc)
     by true false x y = absurd (cc)
 
-raw_of : (kind : Kind) (r : DiscRecord) → IsNewKind kind r → IsKind kind → r ≡ record_of r.raw
+pub raw_of : (kind : Kind) (r : DiscRecord) → IsNewKind kind r → IsKind kind → r ≡ record_of r.raw
 raw_of (Boot s) r new is = subst (λ (t : DiscRecord). t ≡ record_of t.raw) new is.from_raw
 raw_of (OneZone s) r new is = subst (λ (t : DiscRecord). t ≡ record_of t.raw) new is.0.from_raw
 raw_of DiscD r new is = absurd new

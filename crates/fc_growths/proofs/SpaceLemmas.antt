@@ -3,7 +3,7 @@ use Rattle.std.proofs.Common.{◌≡◌, ◌<◌, ◌≤◌, inl, inr, ℕ, ◌+
 use Rattle.std.specs.Prelude.{Ok, Contains, IsPermutation, filter, not, ◌==◌, ◌&&◌, ◌||◌, nat_lt}
 use Rattle.std.specs.List.{list_any, range_with_len}
 use Rattle.std.specs.Option.{option_and_then, option_map_or}
-use Rattle.std.proofs.lemmas.Bool.{cases_lt, eqb-true, lt-ltb}
+use Rattle.std.proofs.lemmas.Bool.{cases_lt, eqb-true, lt-ltb, false_from_ne_true as unless, or_right as or_second, not-true as not_true}
 use Rattle.std.proofs.lemmas.List.Elements.{Contains-append_right}
 use Rattle.std.proofs.lemmas.List.Sorted.{Contains-permutation, IsPermutation-sym}
 use Rattle.fc_names.specs.Names.{is_directory}
@@ -28,21 +28,21 @@ use Rattle.fc_image.proofs.MapEditLemmas.{places_law}
 use Rattle.fc_image.specs.Order.{directories, held, listed}
 use Rattle.fc_image.proofs.EntriesLemmas.{in_filter, in_mapped}
 use Rattle.fc_image.proofs.HolesLemmas.{Lies, OpenMap, in_id}
-use Rattle.fc_image.proofs.OneZoneLemmas.{and_first, and_second}
 use Rattle.fc_plan.proofs.Shorts.{are_new_ids}
 use Rattle.fc_plan.proofs.Units.{units_some}
 use Rattle.fc_image.specs.effects.Short.{Growth, gain_in, growth_in, has_room, is_alone, moved_growth}
 use Rattle.fc_image.specs.effects.Steady.{is_given_back, is_left_by_growth}
 use Rattle.fc_plan.specs.Giving.{is_one_of}
 use Rattle.fc_changes.specs.Owed.{IsBefore}
-use Rattle.fc_changes.proofs.BasicLemmas.{any_in, cases_cons, clash, first_in, next_in, not_zero, nothing_in, or_second, unless}
+use Rattle.fc_changes.proofs.BasicLemmas.{any_in, cases_cons, clash, first_in, next_in, not_zero, nothing_in}
 use Rattle.fc_changes.proofs.BeforeLemmas.{Had, had, id_high, listed_in, object_lies, parts}
 use Rattle.fc_changes.proofs.ChangeLemmas.{a_sector, opened}
 use Rattle.fc_changes.proofs.PlacedLemmas.{filter_test}
 use Rattle.fc_changes.proofs.SpaceLemmas.{no_runs, still_owned}
-use Rattle.fc_image.proofs.MoveLemmas.{not_true}
 use Rattle.fc_growths.specs.Grown.{GivesBackGrown, GrowsAlone, GrowsElsewhere, GrowsThere, HasRoot, IsGrownAt, IsGrowthSpace, IsMapGrown, NewPlace, TakesSpace, at_place}
 use Rattle.fc_growths.proofs.BasicLemmas.{alone_passes, grown_some, read_some}
+use Rattle.fc_changes.proofs.NewPlaceLemmas.{some_there as sectors_some, owner_id}
+use Rattle.fc_record.proofs.KindLemmas.{and_first, and_second}
 
 -- what the growth of a directory leaves, by whatever command: `come` are the objects that come, and `out` those that go
 pub record Grows (kind : Kind) (r : DiscRecord) (image image' : List ℕ) (m m' : Map) (ls : List Listing) (c : Command) (l : Listing) (place : NewPlace) (out come stay : List Object) (id : ℕ)
@@ -85,14 +85,6 @@ pub record Growing (c : Command) (out come : List Object) : Type 0 where
 pub some_sector : (sectors : List ℕ) → nat_lt 0 (length sectors) ≡ true → (s : ℕ) × (is_among sectors s ≡ true)
 some_sector [] h = absurd (cc)
 some_sector (x ∷ sectors) h = (x, ap (λ b. b || is_among sectors x) (eq-eqb x x refl))
-
-pub sectors_some : (xs : List ℕ) (t : ℕ) → is_among xs t ≡ true → nat_lt 0 (length xs) ≡ true
-sectors_some [] t h = absurd (cc)
-sectors_some (x ∷ xs) t h = lt-ltb 0 (length (x ∷ xs)) (omega arith)
-
--- the identifier of an owner
-pub owner_id : (k : ℕ) (o : Object) → is_owner_of k o ≡ true → id_of o.entry.address ≡ k
-owner_id k o own = eqb-true (id_of o.entry.address) k (and_second (has_sectors o) (id_of o.entry.address == k) own)
 
 pub owns : (o : Object) (s : ℕ) → is_among o.sectors s ≡ true → is_owner_of (id_of o.entry.address) o ≡ true
 owns o s h = ap₂ (λ (a b : Bool). a && b) (sectors_some o.sectors s h) (eq-eqb (id_of o.entry.address) (id_of o.entry.address) refl)

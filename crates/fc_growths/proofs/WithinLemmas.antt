@@ -22,7 +22,7 @@ use Rattle.fc_image.proofs.RelistLemmas.{relisting_law}
 use Rattle.fc_image.proofs.RenameLemmas.{child_stays, moved_itself}
 use Rattle.fc_image.proofs.RewordLemmas.{other_long}
 use Rattle.fc_image.specs.effects.Steady.{AreWritten, DirectorySteady, IsRewritten, edited, holds_named, is_renamed_by, path_after, regrown_entry, replaced_entry, with_made, without_name}
-use Rattle.fc_changes.proofs.BasicLemmas.{cases_cons, first_in, long_pushed, next_in, nothing_in, or_left, without_it}
+use Rattle.fc_changes.proofs.BasicLemmas.{cases_cons, first_in, long_pushed, next_in, nothing_in, without_it}
 use Rattle.fc_changes.proofs.BeforeLemmas.{sound}
 use Rattle.fc_changes.proofs.ChangeLemmas.{opened}
 use Rattle.fc_changes.proofs.ReadsLemmas.{entry_at, lies_in, reads_back, same_name_turned}
@@ -35,6 +35,7 @@ use Rattle.fc_growths.proofs.MovingLemmas.{Renaming, f, f_itself, f_kind, f_othe
 use Rattle.fc_growths.proofs.MovedOpenLemmas.{Lists, in_found, opens_now}
 use Rattle.fc_growths.proofs.MovedSteadyLemmas.{HeadsSteady, from_holds, named_now, some_steady, written_steady}
 use Rattle.fc_growths.proofs.RelocatedLemmas.{sibling}
+use Rattle.std.proofs.lemmas.Bool.{or_left}
 
 -- Entry i of the directory is that of o, and gets another name and place.
 pub record IsWithin {from to : Path} (e : Growing (Command.Rename from to) [] []) (o : Object) (mv : Object → Object) (i : ℕ) (entry : Entry) : Type 0 where

@@ -1,7 +1,7 @@
 -- What a command by which a directory grows writes, and what keeps its bytes.
 use Rattle.std.proofs.Common.{◌≡◌, ◌⊎◌, inl, inr, ℕ, Bool, true, false, cond, List, [], ◌∷◌, ◌++◌, length, refl, sym, ap, ap₂, subst, ◌∙◌, arith, eq-eqb}
 use Rattle.std.specs.Prelude.{Ok, Err, Contains, ◌==◌}
-use Rattle.std.proofs.lemmas.Bool.{eqb-true}
+use Rattle.std.proofs.lemmas.Bool.{eqb-true, false_from_ne_true as unless}
 use Rattle.std.proofs.lemmas.List.Elements.{Contains-append_cases}
 use Rattle.fc_names.specs.Names.{Path, is_directory, is_same_path}
 use Rattle.fc_record.specs.declared.DiscRecord.{DiscRecord}
@@ -25,7 +25,7 @@ use Rattle.fc_image.proofs.OpenedLemmas.{edited_image_law}
 use Rattle.fc_image.proofs.PathsLemmas.{itself}
 use Rattle.fc_image.proofs.RewordLemmas.{other_long}
 use Rattle.fc_changes.specs.Owed.{IsWritten}
-use Rattle.fc_changes.proofs.BasicLemmas.{cases_cons, clash, first_in, next_in, nothing_in, unless}
+use Rattle.fc_changes.proofs.BasicLemmas.{cases_cons, clash, first_in, next_in, nothing_in}
 use Rattle.fc_changes.proofs.BeforeLemmas.{boot_stays, chosen_copies, map_of_new}
 use Rattle.fc_changes.proofs.ChangeLemmas.{opened}
 use Rattle.fc_changes.proofs.OutsideLemmas.{AreBusy, both_busy, object_busy}

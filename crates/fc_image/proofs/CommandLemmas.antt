@@ -79,7 +79,7 @@ other_path from path h = both_ways (is_same_path from path) false (λ same.
     is_prefix_of (folded_path from) (folded_path path) (folds ∙ sym (take_all (length (folded_path from)) (folded_path path) (let n = ap (λ (p : Path). length p) folds in omega (arith, n)))) in
     sym h ∙ begins) (λ no'. absurd (cc))
 
-map_both : (f : List ℕ → List ℕ) (xs ys : Path) → map f (xs ++ ys) ≡ map f xs ++ map f ys
+pub map_both : (f : List ℕ → List ℕ) (xs ys : Path) → map f (xs ++ ys) ≡ map f xs ++ map f ys
 map_both f [] ys = refl
 map_both f (x ∷ xs) ys = ap (λ (zs : Path). f x ∷ zs) (map_both f xs ys)
 

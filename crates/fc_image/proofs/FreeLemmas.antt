@@ -29,6 +29,7 @@ use Rattle.fc_names.specs.Names.{Path}
 use Rattle.fc_dirs.specs.declared.Entry.{Entry}
 use Rattle.fc_image.specs.Stays.{HasSectorsOf, IsNewKind, SameKindPlace, stored_object, stored_objects}
 use Rattle.fc_image.proofs.WalkLemmas.{bind_ok, walk-Tells, open_as-spelled}
+use Rattle.fc_newmap.proofs.PlaceLemmas.{either}
 
 -- ---- lists of sectors
 
@@ -49,10 +50,6 @@ among_range from (suc n) s low high = by (from == s) refl (λ ne. among_range (f
     by : (c : Bool) → (from == s) ≡ c → ((from ≡ s → ⊥) → is_among (range_with_len (from + 1) n) s ≡ true) → (c || is_among (range_with_len (from + 1) n) s) ≡ true
     by true e rest = refl
     by false e rest = rest (eqb-false from s e)
-
-either : (a b : Bool) → (a || b) ≡ true → Result (a ≡ true) (b ≡ true)
-either true b e = Ok refl
-either false b e = Err e
 
 pub range_bounds : (from n s : ℕ) → is_among (range_with_len from n) s ≡ true → (from ≤ s) × (s < from + n)
 range_bounds from zero s e = absurd (cc)
@@ -180,7 +177,7 @@ pub object_same : (size : ℕ) (image other : List ℕ) (layout : Layout) (o : O
 object_same size image other layout o is same =
     bytes_same (sector_bytes layout) image other o.sectors _ (subst (λ (n : ℕ). HasSectorsOf n o.sectors image other) (sym is) same)
 
-stored_same : (size : ℕ) (image other : List ℕ) (layout : Layout) (objects : List Object) → sector_bytes layout ≡ size
+pub stored_same : (size : ℕ) (image other : List ℕ) (layout : Layout) (objects : List Object) → sector_bytes layout ≡ size
     → ((o : Object) → Contains objects o → HasSectorsOf size o.sectors image other) → map (stored_object other layout) objects ≡ map (stored_object image layout) objects
 stored_same size image other layout [] is same = refl
 stored_same size image other layout (o ∷ objects) is same =

@@ -4,7 +4,7 @@ use Rattle.std.proofs.Math.Nat.{mul-le-mul_right}
 use Rattle.std.specs.Prelude.{Result, Ok, Err, Contains, filter, nat_le, ◌==◌, ◌||◌, slice_index_or, is_none}
 use Rattle.std.specs.List.{flat_map, range_with_len, list_any, zip}
 use Rattle.std.specs.Int.{div_ceil}
-use Rattle.std.proofs.lemmas.Bool.{eqb-true}
+use Rattle.std.proofs.lemmas.Bool.{eqb-true, false_from_ne_true as unless}
 use Rattle.std.proofs.lemmas.List.{length-take, length-drop, length-map}
 use Rattle.std.proofs.lemmas.List.FromFn.{length-range_with_len}
 use Rattle.fc_device.specs.Sectors.{sector_at}
@@ -40,6 +40,7 @@ use Rattle.fc_image.specs.Moves.{BootApartLaw}
 use Rattle.fc_image.proofs.WalkLemmas.{bind_ok}
 use Rattle.fc_image.proofs.KindLemmas.{kind_place}
 use Rattle.fc_image.proofs.FreeLemmas.{layout_by, layout_is, parts_of, among_here, free_opens, free_stored}
+use Rattle.fc_image.specs.Edits.{IsAt as IsPlaced}
 
 -- ---- the map that is found
 
@@ -121,7 +122,7 @@ copy_sectors r w image is long z low =
     ap length (copy_at g.sector image (copy_start g w) g.zones z low)
     ∙ whole_sector g.sector (g.map_sector + 2 * r.zones) (copy_start g w + z) image (omega arith) (omega arith)
 
-new_size : (kind : Kind) (r : DiscRecord) → IsNewKind kind r → disc_size kind ≡ r.size
+pub new_size : (kind : Kind) (r : DiscRecord) → IsNewKind kind r → disc_size kind ≡ r.size
 new_size (Boot s) r is = ap (λ (t : DiscRecord). t.size) is
 new_size (OneZone s) r is = ap (λ (t : DiscRecord). t.size) is
 new_size DiscD r is = absurd is
@@ -143,7 +144,7 @@ zones_of_valid r zones is right = zones_of_map (record { geometry = geometry r; 
 abbrev pub loose_sectors : Map → List Object → List ℕ
 loose_sectors m objects = sectors_of m.geometry (filter (λ p. is_hole_or_movable objects p.1.kind) (all_runs m))
 
-some_least : (n : ℕ) (ns : List ℕ) → least_of (n ∷ ns) ≡ None → ⊥
+pub some_least : (n : ℕ) (ns : List ℕ) → least_of (n ∷ ns) ≡ None → ⊥
 some_least n ns e = cc
 
 -- Two lists that have no least number have none together.
@@ -218,9 +219,6 @@ open_map image kind r v new e =
     )
 
 -- ---- where objects lie
-
-abbrev pub IsPlaced : Layout → Object → Type 0
-IsPlaced layout o = sectors_at layout o.entry.address (object_size (dir_form layout) o.entry) ≡ Some o.sectors
 
 abbrev pub Each : (Object → Type 0) → List Object → Type 0
 Each P [] = Unit {0}
@@ -326,7 +324,7 @@ in_take (suc n) (x ∷ xs) s e = by (x == s) e (in_take n xs s)
     by true h more = refl
     by false h more = more h
 
-in_drop : (n : ℕ) (xs : List ℕ) (s : ℕ) → is_among (drop n xs) s ≡ true → is_among xs s ≡ true
+pub in_drop : (n : ℕ) (xs : List ℕ) (s : ℕ) → is_among (drop n xs) s ≡ true → is_among xs s ≡ true
 in_drop zero xs s e = e
 in_drop (suc n) [] s e = e
 in_drop (suc n) (x ∷ xs) s e = in_back (x ∷ []) xs s (in_drop n xs s e)
@@ -368,10 +366,6 @@ id_no_hole m is has some id s a b =
     let q_in = filter_in (λ x. is_hole x.1.kind) (all_runs m) q.0 q.1.0 in
     let same = runs_apart m is has p.0 q.0 p_in.0 q_in.0 s p.1.1 q.1.1 in
     not_hole id q.0.1.kind q_in.1 (subst (λ (x : ZoneRun). has_id id x.1.kind ≡ true) same p_in.1)
-
-unless : (b : Bool) → (b ≡ true → ⊥) → b ≡ false
-unless true never = absurd (never refl)
-unless false never = refl
 
 pub apart_from : (xs ys : List ℕ) → ((s : ℕ) → is_among xs s ≡ true → is_among ys s ≡ true → ⊥) → is_apart xs ys ≡ true
 apart_from xs ys never = ap (λ b. cond b false true) (none xs (λ s e. e))

@@ -15,10 +15,11 @@ use Rattle.fc_newmap.specs.Map.{map_sectors}
 use Rattle.fc_newmap.proofs.GeometryLemmas.{ValidFacts}
 use Rattle.fc_image.specs.Opening.{boot_place}
 use Rattle.fc_image.specs.Stays.{HasSectorsOf, IsNewKind, SameKindPlace}
+use Rattle.fc_record.proofs.KindLemmas.{and_second as second, and_first as first}
 
 -- ---- parts of lists
 
-none_left : (n : ℕ) → take {A = ℕ} n [] ≡ []
+pub none_left : (n : ℕ) → take {A = ℕ} n [] ≡ []
 none_left zero = refl
 none_left (suc n) = refl
 
@@ -72,14 +73,6 @@ boot_bytes r l image other low high same = elim (cases_order l 9) [
 ]
 
 -- ---- the map of one zone
-
-second : (a b : Bool) → (a && b) ≡ true → b ≡ true
-second true b e = e
-second false b e = absurd (cc)
-
-first : (a b : Bool) → (a && b) ≡ true → a ≡ true
-first true b e = refl
-first false b e = absurd (cc)
 
 pub first_place : (image : List ℕ) → bytes_at image 0 1024 ≡ sector_at 1024 image 0
 unfolding sector_at

@@ -32,17 +32,12 @@ use Rattle.fc_image.proofs.WalkLemmas.{walk-Tells, open_as-spelled}
 use Rattle.fc_image.proofs.FreeLemmas.{parts_of}
 use Rattle.fc_image.proofs.KindLemmas.{first_place, second_place}
 use Rattle.fc_image.proofs.HolesLemmas.{found_map, valid_of}
-use Rattle.fc_image.proofs.OneZoneLemmas.{and_first, and_second, place, one_copy, whole_sound, SaysOf, choice_says, one_whole, zone_fits}
+use Rattle.fc_image.proofs.OneZoneLemmas.{place, one_copy, whole_sound, SaysOf, choice_says, one_whole, zone_fits}
 use Rattle.fc_image.proofs.MoveLemmas.{found_with, found_kind}
 use Rattle.fc_image.proofs.RecordLemmas.{agrees_itself}
+use Rattle.fc_record.proofs.KindLemmas.{Choice as KindChoice, or_first, or_second, and_first, and_second}
 
 -- ---- the kind that is found
-
--- the first of five kinds whose test passes
-abbrev KindChoice : Bool → Bool → Bool → Bool → Bool → List ℕ → Option Kind
-KindChoice boot first second discd discl image =
-    cond boot (Some (Boot (boot_record image))) (cond first (Some (OneZone (map_record (bytes_at image 0 1024))))
-    (cond second (Some (OneZone (map_record (bytes_at image 1024 1024)))) (cond discd (Some DiscD) (cond discl (Some (DiscL (old_units image))) None))))
 
 kind_by : (image : List ℕ) (boot first second discd discl : Bool) → is_boot image ≡ boot → is_whole_map (bytes_at image 0 1024) ≡ first
     → is_whole_map (bytes_at image 1024 1024) ≡ second → (is_old_map image && (old_units image == 3200)) ≡ discd
@@ -144,14 +139,6 @@ later_boot image r v e =
     let same : boot_record image ≡ r = ap record_of raw ∙ sym e.kind_right.from_raw in
     let kind : kind_of image ≡ Some (Boot r) = kind_by image true _ _ _ _ boot refl refl refl refl ∙ ap (λ (t : DiscRecord). Some (Boot t)) same in
     (v, ap (open_as_some image) kind ∙ e.opened, refl, refl)
-
-or_first : (a b : Bool) → (a || b) ≡ false → a ≡ false
-or_first true b e = absurd (cc)
-or_first false b e = refl
-
-or_second : (a b : Bool) → (a || b) ≡ false → b ≡ false
-or_second true b e = absurd (cc)
-or_second false b e = e
 
 later_d : (image : List ℕ) (v : Opened) → OpensAs image DiscD v → looks_earlier image DiscD ≡ false → Later image v
 unfolding open_image

@@ -9,7 +9,8 @@ use Rattle.fc_image.specs.Sound.{AreSound, LookupLaw}
 use Rattle.fc_image.proofs.PathsLemmas.{many, is_at, listed_few}
 use Rattle.fc_image.proofs.EditLemmas.{walk_gives, root_first}
 use Rattle.fc_image.proofs.TreeLemmas.{sound_few}
-use Rattle.fc_image.proofs.EntriesLemmas.{here, later, one_passes, same_some}
+use Rattle.fc_image.proofs.EntriesLemmas.{later, one_passes, same_some}
+use Rattle.fc_zone.proofs.ZoneLemmas.{Contains-head as here}
 
 -- the first that passes is one, and where one passes there is a first
 module _ {X : Type 0} (t : X → Bool) where

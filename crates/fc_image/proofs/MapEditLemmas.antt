@@ -34,8 +34,9 @@ use Rattle.fc_image.proofs.RoomLemmas.{new_room}
 use Rattle.fc_image.proofs.ShuffleLemmas.{same_first}
 use Rattle.fc_image.proofs.OrderLemmas.{order_law, apart_shuffled, stay_shuffled, stay_append}
 use Rattle.fc_image.proofs.RelistLemmas.{all_before, root_once, root_path_stays, root_name_stays, map_itself, apart_behind, apart_mapped, listed_itself, edited_walk_law, relisting_law}
-use Rattle.fc_image.proofs.EntriesLemmas.{listings_law}
+use Rattle.fc_image.proofs.EntriesLemmas.{listings_law, later}
 use Rattle.fc_image.proofs.OpenedLemmas.{edited_image_law}
+use Rattle.fc_zone.proofs.ZoneLemmas.{Contains-head as here}
 
 -- ---- places
 
@@ -65,12 +66,6 @@ places_law m m' o geometry keeps at =
 
 -- ---- elements
 
-here : {X : Type 0} (x : X) (xs : List X) → Contains (x ∷ xs) x
-here x xs = (0, omega arith, refl)
-
-later : {X : Type 0} (y x : X) (xs : List X) → Contains xs x → Contains (y ∷ xs) x
-later y x xs at = (suc at.0, omega (arith, at.1), at.2)
-
 behind : {X : Type 0} (xs ys : List X) (x : X) → Contains ys x → Contains (xs ++ ys) x
 behind [] ys x at = at
 behind (y ∷ xs) ys x at = later y x (xs ++ ys) (behind xs ys x at)
@@ -85,7 +80,7 @@ held_in [] k o at child = absurd (omega (arith, at.1))
 held_in (l ∷ listings) k o (zero, low, e) child = before l.children (held listings) o (subst (λ (x : Listing). Contains x.children o) (sym e) child)
 held_in (l ∷ listings) k o (suc i, low, e) child = behind l.children (held listings) o (held_in listings k o (i, omega (arith, low), e) child)
 
-stays_listed : (read : Reader) (layout : Layout) (listings : List Listing) (k : Listing) → StayListed read layout listings → Contains listings k → IsListing read layout k
+pub stays_listed : (read : Reader) (layout : Layout) (listings : List Listing) (k : Listing) → StayListed read layout listings → Contains listings k → IsListing read layout k
 stays_listed read layout [] k stay at = absurd (omega (arith, at.1))
 stays_listed read layout (l ∷ listings) k stay (zero, low, e) = subst (IsListing read layout) e stay.0
 stays_listed read layout (l ∷ listings) k stay (suc i, low, e) = stays_listed read layout listings k stay.1 (i, omega (arith, low), e)
@@ -101,13 +96,13 @@ stay_behind : (read : Reader) (layout : Layout) (xs ys : List Listing) → StayL
 stay_behind read layout [] ys stay = stay
 stay_behind read layout (x ∷ xs) ys stay = stay_behind read layout xs ys stay.1
 
-come_apart' : (taken : List ℕ) (others come : List Object) → Apart taken others → EachApartFrom taken others come → Apart taken (come ++ others)
+pub come_apart' : (taken : List ℕ) (others come : List Object) → Apart taken others → EachApartFrom taken others come → Apart taken (come ++ others)
 come_apart' taken others [] a each = a
 come_apart' taken others (o ∷ come) a each = apart_law.added taken [] (come ++ others) o (come_apart' taken others come a each.1) each.0
 
 -- ---- what an opened image has
 
-abbrev at_zones : Map → List (List ℕ) → Map
+abbrev pub at_zones : Map → List (List ℕ) → Map
 at_zones m zs = record { geometry = m.geometry; zones = zs }
 
 -- the old walk, its root, and what it found
@@ -207,16 +202,6 @@ all_listed kind r own image image' v m m' root e l others found =
     (IsPermutation-append_left files (root ∷ directories (held v.listings)) (l.object ∷ listed others)
     (IsPermutation-trans (root ∷ directories (held v.listings)) (listed v.listings) (l.object ∷ listed others)
     (IsPermutation-sym (listed v.listings) (root ∷ directories (held v.listings)) old.all.all) (IsPermutation-map (λ (k : Listing). k.object) v.listings (l ∷ others) found)))
-
--- a listed directory is an object
-pub listed_object : (kind : Kind) (r own : DiscRecord) (image image' : List ℕ) (v : Opened) (m m' : Map) (root : Object) → IsMapEdit kind r own image image' v m m' root
-    → (l : Listing) → Contains v.listings l → Contains (objects_of v.listings) l.object
-listed_object kind r own image image' v m m' root e l at =
-    let cut = (listings_law.one v.listings l at) in
-    subst (λ (os : List Object). Contains os l.object) (sym (objects_known kind r own image image' v m m' root e))
-    (Contains-permutation (l.object ∷ (listed cut.0 ++ filter is_file (held v.listings))) (root ∷ held v.listings) l.object
-    (IsPermutation-sym (root ∷ held v.listings) (l.object ∷ (listed cut.0 ++ filter is_file (held v.listings))) (all_listed kind r own image image' v m m' root e l cut.0 cut.1))
-    (0, omega arith, refl))
 
 -- ---- any edit
 

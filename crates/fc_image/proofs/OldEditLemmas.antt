@@ -43,7 +43,7 @@ abbrev is_old : Layout → Bool
 is_old (Layout.Old space) = true
 is_old (Layout.New m) = false
 
-found_ok : (x y : MapAndRoot) → (let q : Result MapAndRoot ImageFault = Ok x in q) ≡ Ok y → x ≡ y
+pub found_ok : (x y : MapAndRoot) → (let q : Result MapAndRoot ImageFault = Ok x in q) ≡ Ok y → x ≡ y
 found_ok x y h = cc
 
 old_found : (o : Option ℕ) (space : OldMapContent) (a s : ℕ) (found : MapAndRoot) → holes_or (Layout.Old space, a, s) o ≡ Ok found → (let p : ℕ × ℕ = (a, s) in p) ≡ (found.1, found.2)

@@ -26,6 +26,7 @@ use Rattle.fc_image.proofs.FreeLemmas.{parts_of}
 use Rattle.fc_image.proofs.HolesLemmas.{Each, Each-append, Each-objects, Each-contains, Lies, apart_at, found_map, walk_lies}
 use Rattle.fc_image.specs.OldMaps.{LiesOnOldMap, OldMapLaw}
 use Rattle.fc_image.proofs.EditLemmas.{walk_gives}
+use Rattle.fc_record.proofs.KindLemmas.{or_second as or_right}
 
 -- ---- the map
 
@@ -35,10 +36,10 @@ record IsOldMapAt (space : OldMapContent) (root : ℕ) : Type 0 where
   pub holes : AreHoles space.disc_units space.sector_units (map_units space.sector_units) space.holes
   pub begins : root ≡ map_units space.sector_units
 
-old_same : (x y : OldMapContent) → Layout.Old x ≡ Layout.Old y → x ≡ y
+pub old_same : (x y : OldMapContent) → Layout.Old x ≡ Layout.Old y → x ≡ y
 old_same x y e = cc
 
-not_old : (m : Map) (space : OldMapContent) → Layout.New m ≡ Layout.Old space → ⊥
+pub not_old : (m : Map) (space : OldMapContent) → Layout.New m ≡ Layout.Old space → ⊥
 not_old m space e = cc
 
 right_holes : (image : List ℕ) (units : ℕ) → hole_fault image units ≡ None → AreHoles (u24_at image 252) units (map_units units) (stored_holes image)
@@ -112,10 +113,6 @@ root_alone read layout address size root (l ∷ listings) is follows = (
     weaker (o ∷ objects) (deep, all) = ((λ none. absurd (deep none)), weaker objects all)
 
 -- ---- an object
-
-or_right : (a b : Bool) → (a || b) ≡ false → b ≡ false
-or_right true b e = absurd (cc)
-or_right false b e = e
 
 lies_old : (space : OldMapContent) (o : Object) → Lies (Layout.Old space) (map_place (Layout.Old space) ++ hole_sectors (Layout.Old space)) o
     → RootAt (map_units space.sector_units) o → has_sectors o ≡ true → LiesOnOldMap space o

@@ -3,7 +3,7 @@ use Rattle.std.proofs.Common.{◌≡◌, ◌≤◌, ℕ, ◌+◌, ◌^◌, Bool,
 use Rattle.std.specs.Prelude.{Result, Ok, Err, ◌==◌, ◌&&◌, ◌||◌, slice_index, slice_index_or, is_none}
 use Rattle.std.specs.List.{range_with_len}
 use Rattle.std.specs.Int.Bits.{xor_zero_l}
-use Rattle.std.proofs.lemmas.Bool.{eq-eqb}
+use Rattle.std.proofs.lemmas.Bool.{eq-eqb, and_from as both}
 use Rattle.fc_bytes.specs.Words.{bytes_at}
 use Rattle.fc_device.specs.Sectors.{sector_at}
 use Rattle.fc_record.specs.declared.DiscRecord.{DiscRecord}
@@ -19,18 +19,7 @@ use Rattle.fc_image.specs.Opening.{MapAndRoot, map_and_root, agreement, differen
 use Rattle.fc_image.proofs.KindLemmas.{first_place, second_place, map_at_front}
 use Rattle.fc_image.proofs.HolesLemmas.{found_map, copy_sectors, valid_of}
 use Rattle.fc_image.proofs.RecordLemmas.{Agreed, agreed_valid, agreed_own}
-
-pub and_first : (a b : Bool) → (a && b) ≡ true → a ≡ true
-and_first true b e = refl
-and_first false b e = absurd (cc)
-
-pub and_second : (a b : Bool) → (a && b) ≡ true → b ≡ true
-and_second true b e = e
-and_second false b e = absurd (cc)
-
-pub both : (a b : Bool) → a ≡ true → b ≡ true → (a && b) ≡ true
-both true b e f = f
-both false b e f = absurd (cc)
+use Rattle.fc_record.proofs.KindLemmas.{and_first, and_second}
 
 -- ---- the map of one zone
 

@@ -2,7 +2,7 @@
 use Rattle.std.proofs.Common.{◌≡◌, ℕ, ◌+◌, ◌*◌, ◌^◌, Bool, true, false, cond, List, [], ◌∷◌, refl, sym, ap, ap₂, ◌∙◌, Option, Some, None}
 use Rattle.std.specs.Prelude.{Result, Ok, Err, not, ◌==◌, slice_index}
 use Rattle.std.specs.List.{find}
-use Rattle.std.proofs.lemmas.Bool.{eqb-true, eq-eqb}
+use Rattle.std.proofs.lemmas.Bool.{eqb-true, eq-eqb, not-false as not_false}
 use Rattle.std.proofs.lemmas.List.{get_or-drop}
 use Rattle.fc_bytes.specs.Words.{u16_at, u32_at}
 use Rattle.fc_record.specs.declared.DiscRecord.{DiscRecord}
@@ -26,10 +26,6 @@ none_pass t (x ∷ xs) e = by (t x) e (none_pass t xs)
     by : (b : Bool) → cond b (Some x) (find t xs) ≡ None → (find t xs ≡ None → NonePass t xs) → (b ≡ false) × NonePass t xs
     by true h rest = absurd (cc)
     by false h rest = (refl, rest h)
-
-not_false : (b : Bool) → not b ≡ false → b ≡ true
-not_false true e = refl
-not_false false e = absurd (cc)
 
 same_byte : (a b : ℕ) → not (a == b) ≡ false → b ≡ a
 same_byte a b e = sym (eqb-true a b (not_false (a == b) e))

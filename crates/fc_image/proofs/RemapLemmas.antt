@@ -16,6 +16,7 @@ use Rattle.fc_image.specs.Walk.{Object, Listing, Reader, at_path, object_of, pla
 use Rattle.fc_image.specs.Moves.{Carried}
 use Rattle.fc_image.proofs.WalkLemmas.{bind_ok}
 use Rattle.fc_image.proofs.HolesLemmas.{Each, Each-append, Each-filter, children_each, apart_from, apart_at}
+use Rattle.fc_image.proofs.EditLemmas.{ok_object, ok_children, ok_listings}
 
 -- ---- a list of sectors for another
 
@@ -25,7 +26,7 @@ moved_to [] new s = s
 moved_to (o ∷ old) [] s = s
 moved_to (o ∷ old) (n ∷ new) s = cond (o == s) n (moved_to old new s)
 
-map_agree : (f g : ℕ → ℕ) (xs : List ℕ) → ((s : ℕ) → is_among xs s ≡ true → f s ≡ g s) → map f xs ≡ map g xs
+pub map_agree : (f g : ℕ → ℕ) (xs : List ℕ) → ((s : ℕ) → is_among xs s ≡ true → f s ≡ g s) → map f xs ≡ map g xs
 map_agree f g [] same = refl
 map_agree f g (x ∷ xs) same =
     ap₂ (λ (y : ℕ) (ys : List ℕ). y ∷ ys) (same x (ap (λ b. b || is_among xs x) (eq-eqb x x refl))) (map_agree f g xs (λ s e. same s (in_back (x ∷ []) xs s e)))
@@ -182,15 +183,6 @@ carry_filter f (x ∷ xs) = by (is_directory_object x) (carry_filter f xs)
         ≡ cond b (carry f x ∷ filter is_directory_object (map (carry f) xs)) (filter is_directory_object (map (carry f) xs))
     by true e = ap (λ (zs : List Object). carry f x ∷ zs) e
     by false e = e
-
-ok_object : (x y : Object) → (let q : Result Object ImageFault = Ok x in q) ≡ Ok y → x ≡ y
-ok_object x y g = cc
-
-ok_children : (x y : List Object × List ℕ) → (let q : Result (List Object × List ℕ) ImageFault = Ok x in q) ≡ Ok y → x ≡ y
-ok_children x y g = cc
-
-ok_listings : (x y : List Listing) → (let q : Result (List Listing) ImageFault = Ok x in q) ≡ Ok y → x ≡ y
-ok_listings x y g = cc
 
 abbrev pub AllIn : (ℕ → Type 0) → List ℕ → Type 0
 AllIn D xs = (s : ℕ) → is_among xs s ≡ true → D s

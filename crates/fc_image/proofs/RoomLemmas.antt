@@ -2,7 +2,7 @@
 use Rattle.std.proofs.Common.{◌≡◌, ◌<◌, ◌≤◌, ℕ, zero, suc, ◌+◌, ◌-◌, ◌*◌, ◌/◌, ◌%◌, Bool, true, false, cond, List, [], ◌∷◌, ◌++◌, length, take, refl, sym, ap, subst, ◌∙◌, arith, eqb, Some, None, Option, leb-true, lt_of_lt_of_le}
 use Rattle.std.specs.Prelude.{Result, Ok, Err, Contains, filter, ◌==◌, ◌||◌, ◌&&◌, nat_le}
 use Rattle.std.specs.List.{flat_map, list_any, range_with_len, IsDistinct, AllByRecursion}
-use Rattle.std.proofs.lemmas.Bool.{eqb-true, eqb-false, eq-eqb, ne_eqb}
+use Rattle.std.proofs.lemmas.Bool.{eqb-true, eqb-false, eq-eqb, ne_eqb, false_from_ne_true as unless}
 use Rattle.std.proofs.lemmas.Map.Steps.{length-le_from_distinct_below}
 use Rattle.std.proofs.lemmas.List.{length-append}
 use Rattle.std.proofs.lemmas.List.Concat.{flat_map-append}
@@ -30,8 +30,7 @@ use Rattle.fc_image.specs.Edits.{Apart, RoomLaw}
 use Rattle.fc_image.proofs.FreeLemmas.{parts_of, range_bounds}
 use Rattle.fc_image.proofs.WalkLemmas.{bind_ok, walk-Tells}
 use Rattle.fc_image.proofs.HolesLemmas.{open_map, EachListed, Lies, walk_lies, in_id, apart_at}
-use Rattle.fc_image.proofs.MoveLemmas.{unless}
-use Rattle.fc_image.proofs.EditLemmas.{children_have, taken_by}
+use Rattle.fc_image.proofs.EditLemmas.{children_have, taken_by, ok_listings as listings_ok}
 
 -- the first sector of each object that has one
 firsts : List Object → List ℕ
@@ -40,11 +39,11 @@ firsts objects = flat_map (λ o. take 1 o.sectors) objects
 firsts_of : List Listing → List ℕ
 firsts_of listings = flat_map (λ l. take 1 l.object.sectors) listings
 
-first_in : (xs : List ℕ) (s : ℕ) → is_among (take 1 xs) s ≡ true → is_among xs s ≡ true
+pub first_in : (xs : List ℕ) (s : ℕ) → is_among (take 1 xs) s ≡ true → is_among xs s ≡ true
 first_in [] s e = e
 first_in (x ∷ xs) s e = in_front (x ∷ []) xs s e
 
-first_Distinct : (xs : List ℕ) → Distinct (take 1 xs)
+pub first_Distinct : (xs : List ℕ) → Distinct (take 1 xs)
 first_Distinct [] = tt
 first_Distinct (x ∷ xs) = (refl, tt)
 
@@ -80,9 +79,6 @@ are_new t taken (o ∷ objects) a = by (t o) (are_new t (o.sectors ++ taken) obj
         | Err later ↦ n.after s later
       ];
     }
-
-listings_ok : (x y : List Listing) → (let q : Result (List Listing) ImageFault = Ok x in q) ≡ Ok y → x ≡ y
-listings_ok x y g = cc
 
 record AreOnce (taken : List ℕ) (waiting : List Object) (listings : List Listing) : Type 0 where
   pub once : Distinct (firsts_of listings)
@@ -147,7 +143,7 @@ listings_once read layout (suc fuel) taken (o ∷ waiting) listings h d w =
 
 -- ---- numbers
 
-std_Distinct : (xs : List ℕ) → Distinct xs → IsDistinct eqb xs
+pub std_Distinct : (xs : List ℕ) → Distinct xs → IsDistinct eqb xs
 unfolding IsDistinct
 std_Distinct [] d = tt
 std_Distinct (x ∷ xs) d = (differ x xs d.0, std_Distinct xs d.1)
@@ -160,7 +156,7 @@ std_Distinct (x ∷ xs) d = (differ x xs d.0, std_Distinct xs d.1)
         by true t g more = absurd (cc)
         by false t g more = (ne_eqb x y (λ same. eqb-false y x t (sym same)), more g)
 
-std_any : (q : ℕ) (xs : List ℕ) → list_any (eqb q) xs ≡ true → is_among xs q ≡ true
+pub std_any : (q : ℕ) (xs : List ℕ) → list_any (eqb q) xs ≡ true → is_among xs q ≡ true
 std_any q [] e = e
 std_any q (x ∷ xs) e = by (eqb q x) refl e (std_any q xs)
   where

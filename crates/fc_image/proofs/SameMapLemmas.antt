@@ -73,7 +73,7 @@ root_one layout address size x y a b = same_object layout x y (a.path ∙ sym b.
 
 -- ---- one map
 
-new_map : (a b : Map) → Layout.New a ≡ Layout.New b → a ≡ b
+pub new_map : (a b : Map) → Layout.New a ≡ Layout.New b → a ≡ b
 new_map a b e = cc
 
 which_one : (a b : Which) (q : Result Which (ℕ × ℕ)) → q ≡ Ok a → q ≡ Ok b → a ≡ b

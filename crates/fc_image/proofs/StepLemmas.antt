@@ -2,7 +2,7 @@
 use Rattle.std.proofs.Common.{◌≡◌, ◌<◌, ◌≤◌, ℕ, ◌+◌, ◌*◌, Bool, true, false, cond, List, [], ◌∷◌, map, refl, sym, ap, ap₂, subst, ◌∙◌, inl, inr, ◌⊎◌, Option}
 use Rattle.std.specs.Prelude.{Contains, filter, ◌==◌, ◌||◌, ◌&&◌, not, All}
 use Rattle.std.proofs.lemmas.List.Elements.{All-head, All-tail}
-use Rattle.std.proofs.lemmas.Bool.{eqb-true, eq-eqb, cases_lt}
+use Rattle.std.proofs.lemmas.Bool.{eqb-true, eq-eqb, cases_lt, false_from_ne_true as unless}
 use Rattle.fc_device.specs.Sectors.{sector_at}
 use Rattle.fc_record.specs.declared.DiscRecord.{DiscRecord}
 use Rattle.fc_record.specs.declared.Geometry.{Geometry}
@@ -23,7 +23,7 @@ use Rattle.fc_image.specs.Moves.{sectors_or_none, object_in, listing_in, with_ma
 use Rattle.fc_image.proofs.FreeLemmas.{among_here}
 use Rattle.fc_image.proofs.StoredLemmas.{stored_tree}
 use Rattle.fc_image.proofs.HolesLemmas.{OpenMap, Each, EachListed, Lies, walk_lies, none_loose, loose_sectors, holes_loose, hole_write_law}
-use Rattle.fc_image.proofs.MoveLemmas.{open_by, all_filter, unless, id_loose, fixed_stay, boot_fits, move_law, merge_law}
+use Rattle.fc_image.proofs.MoveLemmas.{open_by, all_filter, id_loose, fixed_stay, boot_fits, move_law, merge_law}
 
 -- ---- what is opened, by a map
 

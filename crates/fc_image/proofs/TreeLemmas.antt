@@ -210,10 +210,6 @@ tree_node image layout listings path = tree_get image layout listings (folded_pa
 
 -- ---- objects that go and come
 
-or_else : Option Node → Option Node → Option Node
-or_else None other = other
-or_else (Some n) other = Some n
-
 -- without the entries in front the others are found
 get_without : (t : Tree) (q : Path) (gone : List (Path × Node)) (rest : List (Path × Node)) → get t q ≡ value_at key_cmp q (gone ++ rest) → many (ties q) (gone ++ rest) ≤ 1
     → get (without_all t (map (λ e. e.0) gone)) q ≡ value_at key_cmp q rest
@@ -231,7 +227,7 @@ get_with : (t : Tree) (q : Path) (come : List (Path × Node)) (rest : List (Path
 get_with t q [] rest is = is
 get_with t q (e ∷ come) rest is = get-insert key_total (with_all t come) e.0 e.1 q ∙ ap (λ (r : Option Node). cond (ties q e) (Some e.1) r) (get_with t q come rest is)
 
-map_both : {X Y : Type 0} (f : X → Y) (xs ys : List X) → map f (xs ++ ys) ≡ map f xs ++ map f ys
+pub map_both : {X Y : Type 0} (f : X → Y) (xs ys : List X) → map f (xs ++ ys) ≡ map f xs ++ map f ys
 map_both f [] ys = refl
 map_both {Y = Y} f (x ∷ xs) ys = ap (λ (zs : List Y). f x ∷ zs) (map_both f xs ys)
 

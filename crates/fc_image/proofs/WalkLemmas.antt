@@ -92,7 +92,7 @@ walk-any read other layout reserved address size listings e tells =
     let root = bind_ok (object_of layout reserved [] (root_entry address (directory_size (dir_form layout) size))) _ listings e in
     rw root.1 (listings_from-any read other layout _ _ _ listings root.2 tells)
 
-not_below : (b : Bool) (m n : ℕ) → nat_lt m n ≡ b → n ≤ m → b ≡ false
+pub not_below : (b : Bool) (m n : ℕ) → nat_lt m n ≡ b → n ≤ m → b ≡ false
 not_below false m n e le = refl
 not_below true m n e le = absurd (let lt = ltb-true m n e in omega arith)
 

@@ -16,15 +16,14 @@ use Rattle.fc_image.specs.Edits.{Apart, IsApartFrom}
 use Rattle.fc_image.specs.Order.{listed, held, directories}
 use Rattle.fc_image.specs.Written.{WritesOnly, WrittenLaw}
 use Rattle.fc_image.proofs.HolesLemmas.{apart_from, apart_at}
-use Rattle.fc_image.proofs.EditLemmas.{apart_law}
-use Rattle.fc_image.proofs.MoveLemmas.{unless, open_by}
+use Rattle.fc_image.proofs.EditLemmas.{apart_law, apart_turned as turned}
+use Rattle.fc_image.proofs.MoveLemmas.{open_by}
 use Rattle.fc_image.proofs.OrderLemmas.{order_law, apart_shuffled}
 use Rattle.fc_image.proofs.EntriesLemmas.{later, in_filter, from_filter, in_mapped}
+use Rattle.std.proofs.lemmas.Bool.{false_from_ne_true as unless}
+use Rattle.fc_image.proofs.MapEditLemmas.{is_file}
 
 -- ---- objects apart from one
-
-turned : (xs ys : List ℕ) → is_apart xs ys ≡ true → is_apart ys xs ≡ true
-turned xs ys e = apart_from ys xs (λ s i j. let no' = apart_at xs ys s e j in cc)
 
 from_each : (taken : List ℕ) (objects : List Object) (o p : Object) → IsApartFrom taken objects o → Contains objects p → is_apart o.sectors p.sectors ≡ true
 from_each taken [] o p a at = absurd (omega (arith, at.1))
@@ -32,10 +31,6 @@ from_each taken (q ∷ objects) o p a (zero, low, e) = subst (λ (x : Object). i
 from_each taken (q ∷ objects) o p a (suc i, low, e) = from_each taken objects o p a.1 (i, omega (arith, low), e)
 
 -- ---- one directory and all other objects
-
--- an object that isn't a directory
-abbrev is_file : Object → Bool
-is_file o = not (is_directory_object o)
 
 module _ (kind : Kind) (r : DiscRecord) (image image' : List ℕ) (v : Opened) (m : Map) (rest : List Listing) (l : Listing) (new : IsNewKind kind r) (opens : OpensAs image kind v)
     (layout : v.layout ≡ Layout.New m) (found : IsPermutation v.listings (l ∷ rest)) where

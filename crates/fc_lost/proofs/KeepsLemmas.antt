@@ -24,7 +24,7 @@ use Rattle.fc_lost.proofs.StandsLemmas.{stands_after}
 one_refusal : (a b : Refusal) → (let x : Result ℕ CommandError = Err (Refused a) in x) ≡ Err (Refused b) → a ≡ b
 one_refusal a b e = cc
 
-one_some : (a b : Refusal) → (let x : Option Refusal = Some a in x) ≡ Some b → a ≡ b
+pub one_some : (a b : Refusal) → (let x : Option Refusal = Some a in x) ≡ Some b → a ≡ b
 one_some a b e = cc
 
 -- It is refused for its reason, and for no other.

@@ -1,4 +1,4 @@
 mod OwnersLemmas
 mod PlacesLemmas
 mod StandsLemmas
-mod KeepsLemmas
+pub mod KeepsLemmas

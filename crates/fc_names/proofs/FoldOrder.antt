@@ -14,7 +14,7 @@ use Rattle.fc_names.specs.FoldLaw.{FoldLaw}
 ordered : IsTotalOrder name_cmp
 ordered = on_total folded nat_list_cmp_total
 
-less : (o : Ordering) → is_lt o ≡ true → o ≡ Less
+pub less : (o : Ordering) → is_lt o ≡ true → o ≡ Less
 less Less h = refl
 less Equal h = cc h
 less Greater h = cc h

@@ -103,11 +103,11 @@ after-none before (c ∷ bytes) none = by (c == 0) refl (after-none (before ++ c
         let none' : length (c ∷ bytes) ≤ suc (position_or_len is_end bytes) = rw (later_end c bytes h) at none in
         rw h (rest (omega (arith, none')))
 
-place-some : (b : Bool) (place at : ℕ) → (if b then Some place else None) ≡ Some at → (b ≡ true) × (place ≡ at)
+pub place-some : (b : Bool) (place at : ℕ) → (if b then Some place else None) ≡ Some at → (b ≡ true) × (place ≡ at)
 place-some true place at e = (refl, ap (λ o. unwrap_or o 0) e)
 place-some false place at e = cc e
 
-place-none : (b : Bool) (place : ℕ) → (if b then Some place else None) ≡ None → b ≡ false
+pub place-none : (b : Bool) (place : ℕ) → (if b then Some place else None) ≡ None → b ≡ false
 place-none true place e = cc e
 place-none false place e = refl
 

@@ -9,14 +9,12 @@ use Rattle.std.proofs.lemmas.List.Sums.{fails_before_first}
 use Rattle.std.proofs.lemmas.Slice.Eq.{bytes_eq-Decides}
 use Rattle.fc_names.specs.Names.{Path}
 use Rattle.fc_names.specs.Paths.{is_stop, name_of, names_of, parts_after, path_in, path_of}
+use Rattle.fc_names.proofs.PackedLemmas.{place-some, place-none}
+use Rattle.std.proofs.lemmas.Bool.{not-true as not_true, not-false as not_false}
 
 -- the place of the first full stop
 abbrev pub first_stop : List ℕ → Option ℕ
 first_stop text = if nat_lt (position_or_len is_stop text) (length text) then Some (position_or_len is_stop text) else None
-
-place-some : (b : Bool) (place at : ℕ) → (if b then Some place else None) ≡ Some at → (b ≡ true) × (place ≡ at)
-place-some true place at e = (refl, ap (λ o. unwrap_or o 0) e)
-place-some false place at e = cc e
 
 -- a text that has a full stop is cut there
 pub cut_at : (text : List ℕ) (at : ℕ) → first_stop text ≡ Some at
@@ -27,24 +25,11 @@ cut_at text at e =
     let rest : take (length text - (at + 1)) (drop (at + 1) text) ≡ drop (at + 1) text = take_all _ _ (omega (arith, size)) in
     rw (rest, ← place.1) (slice_split_first is_stop text 0 (ltb-true _ _ place.0))
 
-place-none : (b : Bool) (place : ℕ) → (if b then Some place else None) ≡ None → b ≡ false
-place-none true place e = cc e
-place-none false place e = refl
-
 -- a text with none is one part
 pub cut_nowhere : (text : List ℕ) → first_stop text ≡ None → slice_split is_stop text ≡ text ∷ []
 cut_nowhere text e =
     let end = ltb-false (position_or_len is_stop text) (length text) (place-none _ _ e) in
     slice_split_none is_stop text (λ k d below. fails_before_first is_stop text k d (omega (arith, end, below)))
-
--- whether a first part is `$`, from a test of it
-not_true : (b : Bool) → not b ≡ true → b ≡ false
-not_true true e = cc e
-not_true false e = refl
-
-not_false : (b : Bool) → not b ≡ false → b ≡ true
-not_false true e = refl
-not_false false e = cc e
 
 pub root_from_test : (r : Bool) (first dollar : List ℕ) → r ≡ not (bytes_eq first dollar) → r ≡ false → dollar ≡ 36 ∷ []
     → first ≡ 36 ∷ []

@@ -1,7 +1,7 @@
 -- A search for an identifier that begins and ends where its runs can begin and end.
 use Rattle.std.proofs.Common.{◌≡◌, ◌<◌, ◌≤◌, ℕ, zero, suc, ◌+◌, ◌-◌, Bool, false, cond, List, [], ◌∷◌, ◌++◌, refl, sym, ap, ap₂, subst, ◌∙◌, inl, inr, arith}
 use Rattle.std.specs.Prelude.{Contains, filter}
-use Rattle.std.proofs.lemmas.Bool.{cases_lt, le-leb, lt-leb}
+use Rattle.std.proofs.lemmas.Bool.{cases_lt, le-leb, lt-leb, or_parts as neither}
 use Rattle.std.proofs.lemmas.List.{append-nil, map-append}
 use Rattle.std.proofs.lemmas.List.Concat.{flat_map-append}
 use Rattle.std.proofs.lemmas.List.Elements.{Contains-append_left, filter-append}
@@ -19,7 +19,7 @@ use Rattle.fc_newmap.specs.Tally.{IsFirstIn, IsRow, IsSearch, has_run_of, zones_
 use Rattle.fc_newmap.specs.Walk.{StandsAt, StandsBefore, StandsBeforeFirst, zone_after, zone_up, zones_from}
 use Rattle.fc_newmap.proofs.ComposeLemmas.{zone_cut}
 use Rattle.fc_newmap.proofs.PlaceLemmas.{home_low}
-use Rattle.fc_newmap.proofs.RowLemmas.{any_none, any_of, contains_cut, front_before, neither, not_below}
+use Rattle.fc_newmap.proofs.RowLemmas.{any_none, any_of, contains_cut, front_before, not_below}
 use Rattle.fc_newmap.proofs.WalkLemmas.{after_last, after_other, filter_later, of_id, order_is}
 
 -- ---- zones up, and round

@@ -2,7 +2,7 @@
 use Rattle.std.proofs.Common.{◌≡◌, ◌<◌, ◌≤◌, ℕ, zero, suc, ◌+◌, ◌-◌, ◌*◌, ◌/◌, Bool, true, false, cond, List, [], ◌∷◌, ◌++◌, refl, sym, ap, subst, ◌∙◌, inl, inr, arith, ap₂}
 use Rattle.std.specs.Prelude.{◌||◌, Contains, Ok, Err, filter, ◌==◌}
 use Rattle.std.specs.List.{range_with_len}
-use Rattle.std.proofs.lemmas.Bool.{eq-eqb, cases_lt, eqb-true, eqb-false}
+use Rattle.std.proofs.lemmas.Bool.{eq-eqb, cases_lt, eqb-true, eqb-false, false_from_ne_true as unless}
 use Rattle.std.proofs.lemmas.List.Elements.{filter-append}
 use Rattle.std.proofs.lemmas.List.Concat.{flat_map-append}
 use Rattle.fc_bytes.specs.Bits.{bits}
@@ -11,10 +11,11 @@ use Rattle.fc_record.specs.Record.{base, first_bit, end_bit}
 use Rattle.fc_zone.specs.declared.Run.{Run}
 use Rattle.fc_zone.specs.Zone.{Spells}
 use Rattle.fc_newmap.specs.Map.{Map, ZoneRun, shape, sector_of, runs_of, runs_in, all_runs, id_runs, has_id, home_zone, first_sector, sector_count, run_sectors, sectors_of, search_order}
-use Rattle.fc_newmap.specs.RunsLaw.{IsGeometry, HasZones, HoldsSector}
+use Rattle.fc_newmap.specs.RunsLaw.{IsGeometry, HasZones, HoldsSector, placed}
 use Rattle.fc_newmap.proofs.RunsLemmas.{Rises, Rises-append, behind, place_sector, runs_rise, sectors_add}
 use Rattle.fc_newmap.proofs.GeometryLemmas.{ends_last}
-use Rattle.fc_newmap.proofs.PlaceLemmas.{is_in, in_front, in_back, in_either, in_range, range_in, contains_cases, contains_none, holder_of, filter_in, placed, home_low, order_in, in_order_of}
+use Rattle.fc_newmap.proofs.PlaceLemmas.{in_front, in_back, in_either, in_range, range_in, contains_cases, contains_none, holder_of, filter_in, home_low, order_in, in_order_of}
+use Rattle.fc_device.specs.Numbers.{is_listed as is_in}
 
 -- ---- each sector
 
@@ -126,10 +127,6 @@ abbrev pub Distinct : List ℕ → Type 0
 Distinct [] = Unit {0}
 Distinct (x ∷ xs) = (is_in xs x ≡ false) × Distinct xs
 
-unless : (b : Bool) → (b ≡ true → ⊥) → b ≡ false
-unless true never = absurd (never refl)
-unless false never = refl
-
 pub Distinct-append : (xs ys : List ℕ) → Distinct xs → Distinct ys → ((s : ℕ) → is_in xs s ≡ true → is_in ys s ≡ true → ⊥) → Distinct (xs ++ ys)
 Distinct-append [] ys dx dy apart = dy
 Distinct-append (x ∷ xs) ys dx dy apart = (
@@ -234,43 +231,3 @@ order_Distinct g id =
     let home = home_zone g id in
     Distinct-append (range_with_len home (g.zones - home)) (range_with_len 0 home) (Distinct-range home (g.zones - home)) (Distinct-range 0 home)
     (λ s i j. let a = range_in home (g.zones - home) s i in let b = range_in 0 home s j in omega (arith, a.0, b.1))
-
-same_runs : (m m' : Map) (z : ℕ) (zones : List ℕ) → is_in zones z ≡ false → ((y : ℕ) → is_in zones y ≡ true → (y ≡ z → ⊥) → runs_of m' y ≡ runs_of m y) → runs_in m' zones ≡ runs_in m zones
-same_runs m m' z [] out same = refl
-same_runs m m' z (x ∷ zones) out same = by (x == z) refl out (λ g. same_runs m m' z zones g (λ y i. same y (in_back (x ∷ []) zones y i)))
-  where
-    by : (b : Bool) → (x == z) ≡ b → (b || is_in zones z) ≡ false → (is_in zones z ≡ false → runs_in m' zones ≡ runs_in m zones) → runs_in m' (x ∷ zones) ≡ runs_in m (x ∷ zones)
-    by true h g more = absurd (cc)
-    by false h g more =
-        ap₂ (λ (xs ys : List ZoneRun). xs ++ ys) (ap (placed x) (same x (ap (λ b. b || is_in zones x) (eq-eqb x x refl)) (eqb-false x z h))) (more g)
-
-parts_of_id : (m : Map) (g : Geometry) (t : ZoneRun → Bool) (z : ℕ) (front rest : List ℕ)
-    → sectors_of g (filter t (runs_in m (front ++ z ∷ rest)))
-    ≡ sectors_of g (filter t (runs_in m front)) ++ (sectors_of g (filter t (placed z (runs_of m z))) ++ sectors_of g (filter t (runs_in m rest)))
-parts_of_id m g t z front rest =
-    ap (λ (ps : List ZoneRun). sectors_of g (filter t ps)) (flat_map-append (λ y. placed y (runs_of m y)) front (z ∷ rest))
-    ∙ ap (sectors_of g) (filter-append t (runs_in m front) (placed z (runs_of m z) ++ runs_in m rest))
-    ∙ flat_map-append (run_sectors g) (filter t (runs_in m front)) (filter t (placed z (runs_of m z) ++ runs_in m rest))
-    ∙ ap (λ (xs : List ℕ). sectors_of g (filter t (runs_in m front)) ++ xs)
-    (ap (sectors_of g) (filter-append t (placed z (runs_of m z)) (runs_in m rest)) ∙ flat_map-append (run_sectors g) (filter t (placed z (runs_of m z))) (filter t (runs_in m rest)))
-
-pub one_zone : (m m' : Map) (z id : ℕ) → m'.geometry ≡ m.geometry → 1 ≤ m.geometry.zones → z < m.geometry.zones
-    → ((y : ℕ) → y < m.geometry.zones → (y ≡ z → ⊥) → runs_of m' y ≡ runs_of m y)
-    → (front rest : List ℕ)
-    × (sectors_of m.geometry (id_runs m id) ≡ front ++ (sectors_of m.geometry (filter (λ p. has_id id p.1.kind) (placed z (runs_of m z))) ++ rest))
-    × (sectors_of m.geometry (id_runs m' id) ≡ front ++ (sectors_of m.geometry (filter (λ p. has_id id p.1.kind) (placed z (runs_of m' z))) ++ rest))
-one_zone m m' z id e some low same =
-    let g = m.geometry in
-    let t : ZoneRun → Bool = λ p. has_id id p.1.kind in
-    let order = search_order g id in
-    let cut = split_once order z (order_Distinct g id) (in_order_of g id z some low) in
-    let in_cut : (y : ℕ) → is_in (cut.0 ++ z ∷ cut.1) y ≡ true → y < g.zones = λ y i. order_in g id y some (subst (λ (ys : List ℕ). is_in ys y ≡ true) (sym cut.2) i) in
-    let first : runs_in m' cut.0 ≡ runs_in m cut.0 = same_runs m m' z cut.0 cut.3 (λ y i n. same y (in_cut y (in_front cut.0 (z ∷ cut.1) y i)) n) in
-    let last : runs_in m' cut.1 ≡ runs_in m cut.1 = same_runs m m' z cut.1 cut.4 (λ y i n. same y (in_cut y (in_back cut.0 (z ∷ cut.1) y (in_back (z ∷ []) cut.1 y i))) n) in
-    let old : sectors_of g (id_runs m id) ≡ sectors_of g (filter t (runs_in m cut.0)) ++ (sectors_of g (filter t (placed z (runs_of m z))) ++ sectors_of g (filter t (runs_in m cut.1))) =
-    ap (λ (zs : List ℕ). sectors_of g (filter t (runs_in m zs))) cut.2 ∙ parts_of_id m g t z cut.0 cut.1 in
-    let new : sectors_of g (id_runs m' id) ≡ sectors_of g (filter t (runs_in m cut.0)) ++ (sectors_of g (filter t (placed z (runs_of m' z))) ++ sectors_of g (filter t (runs_in m cut.1))) =
-    ap (λ (h : Geometry). sectors_of g (filter t (runs_in m' (search_order h id)))) e
-    ∙ ap (λ (zs : List ℕ). sectors_of g (filter t (runs_in m' zs))) cut.2 ∙ parts_of_id m' g t z cut.0 cut.1
-    ∙ ap₂ (λ (ps qs : List ZoneRun). sectors_of g (filter t ps) ++ (sectors_of g (filter t (placed z (runs_of m' z))) ++ sectors_of g (filter t qs))) first last in
-    (sectors_of g (filter t (runs_in m cut.0)), sectors_of g (filter t (runs_in m cut.1)), old, new)

@@ -14,14 +14,9 @@ use Rattle.fc_record.specs.Record.{geometry, base, first_bit, end_bit, condition
 use Rattle.fc_zone.specs.Zone.{IsShapeOf}
 use Rattle.fc_newmap.specs.Map.{shape}
 use Rattle.fc_newmap.specs.RunsLaw.{IsGeometry}
-
-first_part : (a b : Bool) → (a && b) ≡ true → a ≡ true
-first_part true b e = refl
-first_part false b e = e
-
-second_part : (a b : Bool) → (a && b) ≡ true → b ≡ true
-second_part true b e = e
-second_part false b e = absurd (cc)
+use Rattle.fc_zone.proofs.ReadingLemmas.{first_part}
+use Rattle.fc_record.proofs.KindLemmas.{and_second as second_part}
+use Rattle.fc_record.proofs.FaultLemmas.{AllRight}
 
 -- ---- powers of two
 
@@ -56,10 +51,6 @@ whole_bits a b = elim (cases_order a b) [
 no_fault : (o : Option (ℕ × ℕ × Bool)) → is_none (option_map (λ c. let f : RecordFault = record { field = c.0; value = c.1 } in f) o) ≡ true → o ≡ None
 no_fault None e = refl
 no_fault (Some c) e = absurd (cc)
-
-abbrev AllRight : List (ℕ × ℕ × Bool) → Type 0
-AllRight [] = Unit {0}
-AllRight (c ∷ cs) = (c.2 ≡ true) × AllRight cs
 
 all_right : (cs : List (ℕ × ℕ × Bool)) → find (λ c. not c.2) cs ≡ None → AllRight cs
 all_right [] e = tt

@@ -15,7 +15,8 @@ use Rattle.fc_newmap.specs.Map.{Map, ZoneRun, all_runs, bits_in, has_id, id_runs
 use Rattle.fc_newmap.specs.NewMap.{IsNewMap}
 use Rattle.fc_newmap.specs.RunsLaw.{placed}
 use Rattle.fc_newmap.proofs.HeldLemmas.{geometry_facts}
-use Rattle.fc_newmap.proofs.PlaceLemmas.{contains_cases, contains_here, contains_none, id_run_in, in_id_runs, range_in, zone_in}
+use Rattle.fc_newmap.proofs.PlaceLemmas.{contains_cases, contains_none, id_run_in, in_id_runs, range_in, zone_in}
+use Rattle.fc_zone.proofs.ZoneLemmas.{Contains-head as contains_here}
 
 -- ---- an identifier has runs
 
@@ -78,7 +79,7 @@ used_bits m id bits is e = by (id_runs m id) refl
 
 -- ---- the next unused identifier
 
-range_cons : (a n : ℕ) → range_with_len a (suc n) ≡ a ∷ range_with_len (a + 1) n
+pub range_cons : (a n : ℕ) → range_with_len a (suc n) ≡ a ∷ range_with_len (a + 1) n
 range_cons a zero = refl
 range_cons a (suc n) = refl
 

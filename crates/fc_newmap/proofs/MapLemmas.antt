@@ -10,13 +10,9 @@ use Rattle.fc_zone.specs.declared.Run.{Run}
 use Rattle.fc_zone.specs.declared.ZoneFault.{ZoneFault}
 use Rattle.fc_zone.specs.Zone.{Zone}
 use Rattle.fc_zone.specs.Reading.{in_zone, zone_of, runs_of as read_runs, runs_or_none}
-use Rattle.fc_zone.proofs.ReadingLemmas.{runs_from-Right, Zone-zone_of}
+use Rattle.fc_zone.proofs.ReadingLemmas.{runs_from-Right, Zone-zone_of, in_zone-Ok}
 use Rattle.fc_newmap.specs.Map.{Map, IsMap, shape, sector_of, runs_of, zone_numbers, first_fault, fault_or}
 use Rattle.fc_newmap.specs.RunsLaw.{HasZones}
-
-in_zone-Ok : (zone : ℕ) (r : Result (List Run) ℕ) (runs : List Run) → in_zone zone r ≡ Ok runs → r ≡ Ok runs
-in_zone-Ok zone (Ok others) runs e = ap (λ (rs : List Run). Ok rs) (cc)
-in_zone-Ok zone (Err place) runs e = absurd (cc)
 
 -- where the zone's bits lie in the sector
 zone_read : (g : Geometry) (z : ℕ) (sector : List ℕ) (runs : List Run) → end_bit g z ≤ 8 * length sector → zone_of (shape g z) sector ≡ Ok runs → Zone (shape g z) sector runs

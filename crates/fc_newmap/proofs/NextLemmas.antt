@@ -14,8 +14,9 @@ use Rattle.fc_newmap.specs.Map.{Map, ZoneRun, home_zone, id_runs, runs_in, runs_
 use Rattle.fc_newmap.specs.RunsLaw.{HasZones, placed}
 use Rattle.fc_newmap.specs.Walk.{IsBehind, StandsBefore, zone_after, zones_from}
 use Rattle.fc_newmap.proofs.CoverLemmas.{order_Distinct, split_once}
-use Rattle.fc_newmap.proofs.PlaceLemmas.{filter_in, home_low, in_order_of, is_in, order_in, zone_in}
+use Rattle.fc_newmap.proofs.PlaceLemmas.{filter_in, home_low, in_order_of, order_in, zone_in}
 use Rattle.fc_newmap.proofs.WalkLemmas.{IsStepOf, after_last, after_other, filter_first, of_id, order_is}
+use Rattle.fc_device.specs.Numbers.{is_listed as is_in}
 
 -- ---- the zones after one
 
@@ -103,7 +104,7 @@ cut_once (x ∷ a) b [] rest p e none_a none_b =
 cut_once (x ∷ a) b (y ∷ front) rest p e none_a none_b =
     cut_once a b front rest p ((cons_run x y (a ++ p ∷ b) (front ++ p ∷ rest) e).1) (λ c. none_a (suc c.0, (let h = c.1 in omega arith), c.2)) none_b
 
-placed_in : (z : ℕ) (runs : List Run) (p : ZoneRun) → Contains (placed z runs) p → Contains runs p.1
+pub placed_in : (z : ℕ) (runs : List Run) (p : ZoneRun) → Contains (placed z runs) p → Contains runs p.1
 placed_in z [] p (k, h, e) = absurd (omega arith)
 placed_in z (run ∷ runs) p (zero, h, e) = (0, omega arith, ap (λ (q : ZoneRun). q.1) e)
 placed_in z (run ∷ runs) p (suc k, h, e) = let r = placed_in z runs p (k, omega arith, e) in (suc r.0, (let l = r.1 in omega arith), r.2)

@@ -7,13 +7,11 @@ use Rattle.std.proofs.lemmas.List.Elements.{filter-append, Contains-append_left,
 use Rattle.fc_record.specs.declared.Geometry.{Geometry}
 use Rattle.fc_zone.specs.declared.Run.{Run}
 use Rattle.fc_newmap.specs.Map.{Map, ZoneRun, runs_of, runs_in, all_runs, id_runs, has_id, search_order, home_zone, first_sector, sector_count, run_sectors, sectors_of}
-use Rattle.fc_newmap.specs.RunsLaw.{HoldsSector}
+use Rattle.fc_newmap.specs.RunsLaw.{HoldsSector, placed}
+use Rattle.fc_device.specs.Numbers.{is_listed as is_in}
+use Rattle.fc_zone.proofs.ZoneLemmas.{Contains-head as contains_here, Contains-tail as contains_later}
 
--- the sector is one of these
-abbrev pub is_in : List ℕ → ℕ → Bool
-is_in sectors s = list_any (λ t. t == s) sectors
-
-either : (a b : Bool) → (a || b) ≡ true → Result (a ≡ true) (b ≡ true)
+pub either : (a b : Bool) → (a || b) ≡ true → Result (a ≡ true) (b ≡ true)
 either true b e = Ok refl
 either false b e = Err e
 
@@ -58,12 +56,6 @@ range_in from (suc n) s e =
     ]
 
 -- ---- sectors of places
-
-pub contains_here : {X : Type 0} (x : X) (xs : List X) → Contains (x ∷ xs) x
-contains_here x xs = (0, omega arith, refl)
-
-pub contains_later : {X : Type 0} (x : X) (xs : List X) (y : X) → Contains xs y → Contains (x ∷ xs) y
-contains_later x xs y (k, h, e) = (suc k, omega arith, e)
 
 pub contains_cases : {X : Type 0} (x : X) (xs : List X) (y : X) → Contains (x ∷ xs) y → Result (x ≡ y) (Contains xs y)
 contains_cases x xs y (zero, h, e) = Ok e
@@ -110,9 +102,6 @@ in_filter t (x ∷ places) p c e = by (t x) refl (contains_cases x places p c) (
     by false f (Err later) more = more later
 
 -- ---- runs of some zones
-
-abbrev pub placed : ℕ → List Run → List ZoneRun
-placed z runs = map (λ (run : Run). let p : ZoneRun = (z, run) in p) runs
 
 placed_zone : (z : ℕ) (runs : List Run) (p : ZoneRun) → Contains (placed z runs) p → z ≡ p.0
 placed_zone z [] p c = absurd (contains_none p c)

@@ -2,7 +2,7 @@
 use Rattle.std.proofs.Common.{◌≡◌, ◌<◌, ◌≤◌, ℕ, ◌+◌, ◌-◌, Bool, true, false, cond, List, [], ◌∷◌, ◌++◌, refl, sym, ap, subst, ◌∙◌, inl, inr, arith, eq-eqb, min, max}
 use Rattle.std.specs.Prelude.{◌⊎◌, ◌||◌, ◌==◌, Contains, Ok, Err, nat_le}
 use Rattle.std.specs.List.{list_any}
-use Rattle.std.proofs.lemmas.Bool.{cases_eq, cases_lt, ne_eqb, lt-ltb, le-ltb, le-leb, lt-leb, false_from_ne_true}
+use Rattle.std.proofs.lemmas.Bool.{cases_eq, cases_lt, ne_eqb, lt-ltb, le-ltb, le-leb, lt-leb, false_from_ne_true, or_parts as neither, or_from as none_of_both}
 use Rattle.std.proofs.lemmas.List.Elements.{Contains-append_cases, Contains-append_left, Contains-append_right}
 use Rattle.fc_record.specs.declared.Geometry.{Geometry}
 use Rattle.fc_zone.specs.declared.Run.{Run}
@@ -13,20 +13,13 @@ use Rattle.fc_newmap.specs.declared.tally.IdTally.{IdTally}
 use Rattle.fc_newmap.specs.Map.{Map, ZoneRun, bits_in, has_id, home_zone, id_runs, runs_of}
 use Rattle.fc_newmap.specs.RunsLaw.{placed}
 use Rattle.fc_newmap.specs.Tally.{IsFirst, IsRow, first_start, no_runs, row_with, zones_before}
-use Rattle.fc_newmap.proofs.PlaceLemmas.{contains_cases, contains_here, contains_later, contains_none, home_low}
+use Rattle.fc_newmap.proofs.PlaceLemmas.{contains_cases, contains_none, home_low}
+use Rattle.fc_zone.proofs.ZoneLemmas.{Contains-head as contains_here, Contains-tail as contains_later}
 
 -- ---- runs of an identifier among others
 
 abbrev pub any_of : ℕ → List Run → Bool
 any_of id runs = list_any (λ run. has_id id run.kind) runs
-
-pub neither : (a b : Bool) → (a || b) ≡ false → (a ≡ false) × (b ≡ false)
-neither true b e = absurd (cc)
-neither false b e = (refl, e)
-
-none_of_both : (a b : Bool) → a ≡ false → b ≡ false → (a || b) ≡ false
-none_of_both true b e f = absurd (cc)
-none_of_both false b e f = f
 
 pub not_both : (b : Bool) → b ≡ true → b ≡ false → ⊥
 not_both true e f = absurd (cc)

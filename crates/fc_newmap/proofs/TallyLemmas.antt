@@ -28,8 +28,9 @@ use Rattle.fc_newmap.proofs.ComposeLemmas.{runs_other}
 use Rattle.fc_newmap.proofs.CoverLemmas.{range_cut}
 use Rattle.fc_newmap.proofs.GeometryLemmas.{facts_of_valid}
 use Rattle.fc_newmap.proofs.HeldLemmas.{end_within, geometry_facts, sector_high}
-use Rattle.fc_newmap.proofs.PlaceLemmas.{contains_cases, contains_here, contains_none, home_low, id_runs_by_zones, in_id_runs, in_range, in_zone, zone_in}
+use Rattle.fc_newmap.proofs.PlaceLemmas.{contains_cases, contains_none, home_low, id_runs_by_zones, in_id_runs, in_range, in_zone, zone_in}
 use Rattle.fc_newmap.proofs.RowLemmas.{Covers, Fits, More, RunsOf, contains_placed, covers_cons, covers_edited, covers_nil, covers_none, fits_fewer, fits_kept, fits_more, fits_none, fits_row, more_back, more_there, next_after, not_both, placed_contains, row_fits, spelled_within}
+use Rattle.fc_zone.proofs.ZoneLemmas.{Contains-head as contains_here}
 
 -- ---- sums
 

@@ -124,16 +124,6 @@ moved m old walk z' more' after less stands =
 abbrev pub of_id : ℕ → ZoneRun → Bool
 of_id id p = has_id id p.1.kind
 
-pub started : (m : Map) (id home more : ℕ) (cursor : RunCursor) → cursor.id ≡ id → home ≡ home_zone m.geometry id → m.geometry.zones ≡ suc more
-    → StandsBefore m (placed home (runs_of m home) ++ runs_in m (zones_from m.geometry (zone_after m.geometry home) more)) cursor.walk → StandsAt m (id_runs m id) cursor
-started m id home more cursor is at some stands = record {
-  all = placed home (runs_of m home) ++ runs_in m (zones_from m.geometry (zone_after m.geometry home) more);
-  walk = stands;
-  of_id = sym (ap (λ (y : ℕ). filter (of_id cursor.id) (runs_in m (zones_from m.geometry y (suc more)))) at
-      ∙ ap (λ (zs : List ℕ). filter (of_id cursor.id) (runs_in m zs)) (order_is m.geometry id more some)
-      ∙ ap (λ (i : ℕ). filter (of_id i) (runs_in m (search_order m.geometry id))) is);
-}
-
 abbrev pub IsStepOf : Map → Walk → Walk → Option ZoneRun → Type 0
 IsStepOf m old new result =
     (left : List ZoneRun) → StandsBefore m left old

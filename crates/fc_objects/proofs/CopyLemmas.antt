@@ -84,7 +84,7 @@ all_done sectors done ahead cut none = ap length (cut ∙ ap (λ (xs : List ℕ)
 
 -- ---- over a disk
 
-one_told : (a b : List ℕ) → (let x : Option (List ℕ) = Some a in x) ≡ Some b → a ≡ b
+pub one_told : (a b : List ℕ) → (let x : Option (List ℕ) = Some a in x) ≡ Some b → a ≡ b
 one_told a b e = cc
 
 module _ {D : Type 0} {d : Ghosts D} (law : Laws d) (start : D) (from to : List ℕ) where

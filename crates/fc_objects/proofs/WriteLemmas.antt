@@ -14,10 +14,11 @@ use Rattle.fc_device.proofs.SectorLemmas.{sector_at-with_row_before, sector_at-w
 use Rattle.fc_objects.specs.Bytes.{first_bytes}
 use Rattle.fc_objects.specs.Written.{AreApart, HasParts, IsPartWritten, padded, part_at}
 use Rattle.fc_objects.proofs.BlockLemmas.{no_length, take_both, take_most}
+use Rattle.fc_device.proofs.MemoryLemmas.{most_of as size_most}
 
 -- ---- one sector
 
-zeros_front : (m n : ℕ) → m ≤ n → take {A = ℕ} m (replicate n 0) ≡ replicate m 0
+pub zeros_front : (m n : ℕ) → m ≤ n → take {A = ℕ} m (replicate n 0) ≡ replicate m 0
 zeros_front m n le = take-replicate m n 0 le
 
 pub padded_is : (size : ℕ) (bytes : List ℕ) → padded size bytes ≡ take size bytes ++ replicate (size - length bytes) 0
@@ -56,27 +57,19 @@ next_of sectors done after n is = record {
       ∙ ap (λ (k : ℕ). get_or (n ∷ after) k 0) (let e : length done - length done ≡ 0 = omega arith in e);
 }
 
-pub part_start : (size : ℕ) (sectors bytes was : List ℕ) → IsPartWritten size sectors bytes was was
-part_start size sectors bytes was = record { length_stays = refl; each = λ s. inl refl }
-
 -- no zeros follow as many bytes as there are
 pub padded_front : (most : ℕ) (bytes : List ℕ) → most ≤ length bytes → padded most bytes ≡ take most bytes
 unfolding padded
 padded_front most bytes le = take-append-le most bytes (replicate most 0) le
 
-pub size_most : (size : ℕ) → IsSectorSize size → size ≤ 1024
-size_most size (inl e) = omega arith
-size_most size (inr (inl e)) = omega arith
-size_most size (inr (inr e)) = omega arith
-
--- only a row of one sector isn't filled
-pub last_row : (count size left most : ℕ) → 0 < count → count ≤ most → (left < size → most ≡ 1) → (size ≤ left → most * size ≤ left) → left < count * size → count * size ≡ size
-last_row count size left most some few one enough short =
+-- Only less than a sector of bytes doesn't fill its row.
+pub end_row : (count size left most : ℕ) → 0 < count → count ≤ most → (left < size → most * size ≤ 16384) → (size ≤ left → most * size ≤ left) → left < count * size
+    → (left < size) × (size ≤ count * size) × (count * size ≤ 16384)
+end_row count size left most some few zeros enough short =
+    let up : count * size ≤ most * size = mul-le count size most size few (omega arith) in
     elim (cases_lt left size) [
-      | inl below ↦
-          let is : count ≡ 1 = omega (arith, some, few, one below) in
-          ap (λ (k : ℕ). k * size) is ∙ (let e : 1 * size ≡ size = omega arith in e)
-      | inr above ↦ absurd (omega (arith, short, enough above, mul-le count size most size few (omega arith)))
+      | inl below ↦ (below, omega (arith, mul-le 1 size count size some (omega arith)), omega (arith, up, zeros below))
+      | inr above ↦ absurd (omega (arith, short, enough above, up))
     ]
 
 -- a part of the first bytes as whole sectors

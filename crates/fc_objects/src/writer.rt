@@ -8,44 +8,52 @@ ghost use Rattle.fc_objects.specs.Extents.{sectors_in};
 ghost use Rattle.fc_objects.specs.Written.{AreApart, HasParts, IsPartWritten, StopsTear, padded};
 
 use crate::sectors::Sectors;
-use fc_device::{Disk, DiskFault, Extent, MAX_SECTOR};
+use fc_device::{Disk, DiskFault, Extent};
 
-// The first of these bytes as a sector; if there are fewer, zeros follow them.
-fn sector_of(from: &[u8], size: usize) -> [u8; MAX_SECTOR]
+// So many bytes are written at once where the bytes end and zeros follow.
+const ROW: usize = 16384;
+
+// Less than a sector of bytes, and zeros after them.
+fn ending(from: &[u8], size: usize) -> [u8; ROW]
     requires { size ≤ 1024 }
-    ensures { take size result ≡ padded size from.now }
+    ensures { length from.now < size → (whole : ℕ) → size ≤ whole → whole ≤ 16384 → take whole result ≡ padded whole from.now }
 {
-    let mut bytes = [0; MAX_SECTOR];
+    let mut bytes = [0; ROW];
     let count = size.min(from.len());
     bytes[..count].copy_from_slice(&from[..count]);
     bytes
 }
 
-// How many sectors to write at once: those that so many bytes fill, and one if they fill none.
+// How many sectors to write at once: those that so many bytes fill, or a row of zeros if they fill none.
 fn sectors_at_once(left: usize, size: usize) -> u64
-    requires { 0 < size }
+    requires some { 0 < size }
+    requires size { size ≤ 1024 }
     ensures some { 0 < result }
-    ensures one { left < size → result ≡ 1 }
+    ensures zeros { left < size → result * size ≤ 16384 }
     ensures enough { size ≤ left → result * size ≤ left }
 {
-    ((left / size) as u64).max(1)
+    if left < size {
+        (ROW / size) as u64
+    } else {
+        (left / size) as u64
+    }
 }
 
-// The first of these bytes as whole sectors. If there are fewer, those of the last sector, where zeros follow them.
-fn row_of<'a>(from: &'a [u8], whole: usize, last: &'a [u8; MAX_SECTOR]) -> &'a [u8]
-    requires few { length from.now < whole → whole ≤ 1024 }
-    requires last { length from.now < whole → take whole last.now ≡ padded whole from.now }
+// The first of these bytes as whole sectors. If there are fewer, those of their end, where zeros follow them.
+fn row_of<'a>(from: &'a [u8], whole: usize, end: &'a [u8; ROW]) -> &'a [u8]
+    requires few { length from.now < whole → whole ≤ 16384 }
+    requires end { length from.now < whole → take whole end.now ≡ padded whole from.now }
     ensures { result.now ≡ padded whole from.now }
 {
     if whole <= from.len() {
         &from[..whole]
     } else {
-        &last[..whole]
+        &end[..whole]
     }
 }
 
-/// Writes bytes into the sectors of an object, one after another, and zeros into what is left of them. Sectors that lie in a row and
-/// that the bytes fill are written in one call. Bytes for which the sectors have no room are left out. The object is given by its extents, all of which lie on the disk, and `size` is the
+/// Writes bytes into the sectors of an object, one after another, and zeros into what is left of them. Sectors that lie in a row are
+/// written in one call if the bytes fill them, and some at once where zeros follow. Bytes for which the sectors have no room are left out. The object is given by its extents, all of which lie on the disk, and `size` is the
 /// bytes of a sector. No other sector changes. Until a sync, a crash may leave each of these sectors old or new, and so
 /// does a failure. It fails only if the disk's write fails.
 pub fn write_object<D: Disk>(
@@ -72,8 +80,8 @@ pub fn write_object<D: Disk>(
     let mut left = from;
     while let Some(row) = sectors.next_row(sectors_at_once(left.len(), size)) {
         let whole = row.sectors as usize * size;
-        let last = sector_of(left, size);
-        disk.write_row(row, row_of(left, whole, &last))?;
+        let end = ending(left, size);
+        disk.write_row(row, row_of(left, whole, &end))?;
         left = &left[whole.min(left.len())..];
     }
     Ok(())

@@ -23,7 +23,7 @@ use Rattle.fc_image.proofs.HolesLemmas.{Each-contains, Each-objects, Lies, walk_
 use Rattle.fc_image.proofs.OrderLemmas.{order_law}
 use Rattle.fc_image.proofs.ShuffleLemmas.{same_first}
 use Rattle.fc_image.proofs.EntriesLemmas.{from_filter, from_map, in_mapped}
-use Rattle.fc_image.proofs.MapEditLemmas.{held_in, is_file}
+use Rattle.fc_image.proofs.MapEditLemmas.{held_in, is_file, stays_listed}
 use Rattle.fc_image.proofs.RenameLemmas.{alone, child_path}
 use Rattle.fc_image.proofs.TreeLemmas.{tree_edit_law}
 use Rattle.fc_image.proofs.PathsLemmas.{itself}
@@ -31,11 +31,6 @@ use Rattle.fc_image.proofs.WalkLemmas.{walk-Tells}
 use Rattle.fc_changes.proofs.BasicLemmas.{cases_cons, first_in, holder_pushed, in_flat, next_in}
 use Rattle.fc_changes.proofs.BeforeLemmas.{address_by}
 use Rattle.fc_changes.proofs.DirectoriesLemmas.{Lasts}
-
-stays_listed : (read : Reader) (layout : Layout) (listings : List Listing) (k : Listing) → StayListed read layout listings → Contains listings k → IsListing read layout k
-stays_listed read layout [] k stay at = absurd (omega (arith, at.1))
-stays_listed read layout (l ∷ listings) k stay (zero, low, e) = subst (IsListing read layout) e stay.0
-stays_listed read layout (l ∷ listings) k stay (suc i, low, e) = stays_listed read layout listings k stay.1 (i, omega (arith, low), e)
 
 -- what is opened is of this kind and has this layout
 pub opened_as : (kind : Kind) (image : List ℕ) (v : Opened) (y : Layout) → OpensAs image kind v → v.layout ≡ y

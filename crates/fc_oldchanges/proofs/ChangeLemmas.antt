@@ -31,17 +31,19 @@ use Rattle.fc_image.proofs.OldMapLemmas.{old_map_law}
 use Rattle.fc_image.proofs.OrderLemmas.{order_law}
 use Rattle.fc_image.proofs.MapEditLemmas.{is_file}
 use Rattle.fc_image.proofs.EntriesLemmas.{in_filter, in_mapped}
-use Rattle.fc_image.proofs.MoveLemmas.{all_filter, not_true}
-use Rattle.fc_image.proofs.OneZoneLemmas.{and_first, and_second}
+use Rattle.fc_image.proofs.MoveLemmas.{all_filter}
 use Rattle.fc_image.specs.effects.Steady.{AreWritten, IsRewritten, OutsideSteady, SameSectors, lost_sectors}
-use Rattle.fc_changes.proofs.BasicLemmas.{clash, first_in, next_in, unless}
+use Rattle.fc_changes.proofs.BasicLemmas.{clash, first_in, next_in}
 use Rattle.fc_changes.proofs.OutsideLemmas.{same_behind}
 use Rattle.fc_changes.proofs.ReadsLemmas.{reads_back}
 use Rattle.fc_oldchanges.specs.Owed.{IsBefore, IsMapAfter, IsWritten, holding}
 use Rattle.fc_oldchanges.proofs.BeforeLemmas.{Had, all_listed, had, held_object, listed_in, object_lies, parts, says_old}
 use Rattle.fc_oldchanges.proofs.HoleLemmas.{below_end, units_in}
 use Rattle.fc_oldchanges.proofs.MapLemmas.{IsOldDisc, old_disc}
-use Rattle.fc_oldchanges.proofs.PlaceLemmas.{among_flat, in_disc, pair_apart}
+use Rattle.fc_oldchanges.proofs.PlaceLemmas.{in_disc, pair_apart}
+use Rattle.std.proofs.lemmas.Bool.{false_from_ne_true as unless, not-true as not_true}
+use Rattle.fc_record.proofs.KindLemmas.{and_first, and_second}
+use Rattle.fc_changes.proofs.PlacedLemmas.{is_in_flat as among_flat}
 
 abbrev pub opened : Kind → OldMapContent → List Listing → Opened
 opened kind space ls = record { kind = kind; layout = Layout.Old space; listings = ls }

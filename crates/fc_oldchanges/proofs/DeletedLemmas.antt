@@ -40,25 +40,12 @@ use Rattle.fc_oldchanges.proofs.EditLemmas.{Change, directories_now, found, open
 use Rattle.fc_oldchanges.proofs.GrowthLemmas.{given_alone}
 use Rattle.fc_oldchanges.proofs.PlainLemmas.{holds_same, keeps_all, rest_still, same_object, still_placed}
 use Rattle.fc_oldchanges.proofs.SpaceLemmas.{spaced, AreGiven, given, right_before}
-
-none_held : (out : List Listing) (o : Object) → GoesAlone out o → held out ≡ []
-none_held [] o alone = refl
-none_held (d ∷ []) o alone = ap (λ (os : List Object). os ++ []) alone.2
-none_held (d ∷ e ∷ out) o alone = absurd alone
+use Rattle.fc_changes.proofs.DeletedLemmas.{none_held, goes_at}
 
 gone_listed : (out : List Listing) (o : Object) → GoesAlone out o → listed out ≡ directories (o ∷ [])
 gone_listed [] o alone = ap (λ (b : Bool). cond b (o ∷ []) []) (sym alone)
 gone_listed (d ∷ []) o alone = ap (λ (x : Object). x ∷ []) alone.0 ∙ ap (λ (b : Bool). cond b (o ∷ []) []) (sym alone.1)
 gone_listed (d ∷ e ∷ out) o alone = absurd alone
-
--- what goes stood at the path
-goes_at : (path : Path) (out : List Listing) (o : Object) → GoesAlone out o → is_same_path path o.path ≡ true → (k : Listing) → Contains out k → is_same_path path k.object.path ≡ true
-goes_at path [] o alone same k at = absurd (nothing_in k at)
-goes_at path (d ∷ []) o alone same k at = elim (cases_cons d [] k at) [
-  | inl is ↦ ap (λ (x : Listing). is_same_path path x.object.path) (sym is) ∙ ap (λ (x : Object). is_same_path path x.path) alone.0 ∙ same
-  | inr later ↦ absurd (nothing_in k later)
-]
-goes_at path (d ∷ e ∷ out) o alone same k at = absurd alone
 
 module _ (back : ReadsBack) (kind : Kind) (image image' : List ℕ) (space : OldMapContent) (holes : List Hole) (ls : List Listing) (path : Path) (out rest : List Listing) (l : Listing) (content : Directory)
     (i : ℕ) (o : Object) (stay : List Object) (e : IsDeleteChange kind image image' (opened kind space ls) space holes path out rest l content i o stay) where

@@ -17,8 +17,9 @@ use Rattle.fc_image.proofs.LookupLemmas.{lookup_law}
 use Rattle.fc_image.proofs.PathsLemmas.{itself}
 use Rattle.fc_image.specs.effects.Short.{growth_in}
 use Rattle.fc_image.specs.effects.Steady.{AreWritten, DirectoriesSteady, DirectorySteady, HasName, IsRewritten, edited, gets_parent, holds_named, is_gone, is_renamed_by, named_entry, path_after}
-use Rattle.fc_changes.proofs.BasicLemmas.{cases_cons, clash, or_left}
+use Rattle.fc_changes.proofs.BasicLemmas.{cases_cons, clash}
 use Rattle.fc_changes.proofs.DirectoriesLemmas.{IsPlain, Lasts, entries_now, no_new_holder}
+use Rattle.std.proofs.lemmas.Bool.{or_left}
 
 -- one that the command doesn't name
 pub record Stays (image image' : List ℕ) (y y' : Layout) (found : List Listing) (k : Listing) : Type 0 where

@@ -32,7 +32,7 @@ use Rattle.fc_image.proofs.ShuffleLemmas.{IsPermutation-flat_map, flat_map-appen
 use Rattle.fc_image.proofs.MapEditLemmas.{held_in}
 use Rattle.fc_image.specs.effects.Short.{growth_in}
 use Rattle.fc_image.specs.effects.Steady.{DirectoriesSteady, IsRewritten, edited, holds_named, is_gone, named_entry}
-use Rattle.fc_changes.proofs.BasicLemmas.{cases_cons, clash, first_in, next_in, nothing_in, unless}
+use Rattle.fc_changes.proofs.BasicLemmas.{cases_cons, clash, first_in, next_in, nothing_in}
 use Rattle.fc_changes.proofs.DirectoriesLemmas.{IsPlain, Lasts}
 use Rattle.fc_changes.proofs.RewordedLemmas.{mapped, ok_same}
 use Rattle.fc_oldchanges.specs.Owed.{IsDirectoryWritten, holding}
@@ -41,6 +41,7 @@ use Rattle.fc_oldchanges.proofs.DirectoriesLemmas.{Stays, all_steady, written_st
 use Rattle.fc_oldchanges.proofs.MapLemmas.{found_now, fits_now}
 use Rattle.fc_oldchanges.proofs.ChangeLemmas.{Start, bytes_stay, dirs_stay, disc, files_stay, is_map_now, l_in, not_hole, not_map, opened, others_in, reads, says, top}
 use Rattle.fc_oldchanges.proofs.PlaceLemmas.{apart_again, each_apart}
+use Rattle.std.proofs.lemmas.Bool.{false_from_ne_true as unless}
 
 -- The object keeps its place, and stays a file or a directory.
 pub record KeepsPlaces (g : Object → Object) : Type 0 where

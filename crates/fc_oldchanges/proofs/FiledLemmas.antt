@@ -51,6 +51,7 @@ use Rattle.fc_oldchanges.proofs.MadeLemmas.{free_name, need_some}
 use Rattle.fc_oldchanges.proofs.PlaceLemmas.{row_or_none}
 use Rattle.fc_oldchanges.proofs.PlainLemmas.{holds_same, keeps_all, rest_still, same_object, still_placed}
 use Rattle.fc_oldchanges.proofs.SpaceLemmas.{spaced, AreGiven, IsNewPlace, given, new_place, not_given, nowhere, taken}
+use Rattle.fc_changes.proofs.FiledLemmas.{kids_of, file_of, stood_at}
 
 -- the command makes a file of n bytes at the path
 record MakesFileAt (c : Command) (path : Path) (n : ℕ) : Type 0 where
@@ -104,17 +105,9 @@ makes_create path load exec len = record {
 
 -- ---- by whether there was a file
 
-abbrev kids_of : Option Object → Listing → ℕ → List Object
-kids_of None l i = l.children
-kids_of (Some p) l i = remove l.children i
-
 kids_hold : (old : Option Object) (path : Path) (l : Listing) (content : Directory) (i : ℕ) (e : Entry) → IsEntryMade old path l content i e → IsPermutation l.children (option_to_list old ++ kids_of old l i)
 kids_hold None path l content i e made = IsPermutation-refl l.children
 kids_hold (Some p) path l content i e made = without_it l.children i p made.1
-
-file_of : (old : Option Object) (path : Path) (l : Listing) (content : Directory) (i : ℕ) (o : Object) → IsEntryMade old path l content i o.entry → is_directory_object o ≡ false
-file_of None path l content i o made = ap is_directory made.2
-file_of (Some p) path l content i o made = ap is_directory made.4 ∙ made.2
 
 -- only a file is replaced
 old_files : (old : Option Object) (path : Path) (l : Listing) (content : Directory) (i : ℕ) (e : Entry) → IsEntryMade old path l content i e
@@ -140,10 +133,6 @@ holds_it layout path l content i (Some p) o made placed where_it at =
     (λ q there. child_at layout l.object.path (entries_of l.content) l.children q placed
     (Contains-permutation (p ∷ remove l.children i) l.children q (IsPermutation-sym l.children (p ∷ remove l.children i) (without_it l.children i p made.1)) (next_in p q (remove l.children i) there))) where_it at in
     record { are = subst (λ (es : List Entry). AreChildren layout l.object.path es (slice_set l.children i o)) (sym made.0) r.0; order = r.2 }
-
-stood_at : (ls : List Listing) (path : Path) (old : Option Object) → object_at ls path ≡ old → AreAt path (option_to_list old)
-stood_at ls path None h = tt
-stood_at ls path (Some p) h = ((found_in (λ (o : Object). is_same_path path o.path) (objects_of ls) p h).1, tt)
 
 module _ (back : ReadsBack) (kind : Kind) (image image' : List ℕ) (space : OldMapContent) (holes : List Hole) (ls : List Listing) (c : Command) (path : Path) (load exec : ℕ) (bytes : List ℕ)
     (rest : List Listing) (l : Listing) (content : Directory) (i : ℕ) (old : Option Object) (o : Object) (stay : List Object)

@@ -23,19 +23,13 @@ use Rattle.fc_image.specs.effects.Short.{Gain, gain_at, gain_by_new_name, gain_b
 use Rattle.fc_changes.proofs.PlacedLemmas.{found_in}
 use Rattle.fc_oldchanges.proofs.BeforeLemmas.{says_old}
 use Rattle.fc_oldchanges.proofs.ChangeLemmas.{opened}
+use Rattle.fc_changes.proofs.ReadsLemmas.{said}
 
 -- ---- directories are small
 
 abbrev IsSmall : Directory → Type 0
 IsSmall (Directory.Small dir) = Unit {0}
 IsSmall (Directory.Big dir) = ⊥
-
-said : (fault : Option DirFault) (dir content : Directory) → read_or fault dir ≡ Ok content → dir ≡ content
-said None dir content h = same dir content h
-  where
-    same : (a b : Directory) → (let q : Result Directory DirFault = Ok a in q) ≡ Ok b → a ≡ b
-    same a b g = cc
-said (Some fault) dir content h = absurd (cc)
 
 small_read : (b : Bool) (bytes : List ℕ) (content : Directory) → directory_of (cond b Ten Seven) bytes ≡ Ok content → IsSmall content
 small_read true bytes content e = subst IsSmall (said (small_fault Bytes2048 bytes) (Directory.Small (small_dir Bytes2048 bytes)) content e) tt

@@ -2,7 +2,7 @@
 use Rattle.std.proofs.Common.{◌≡◌, ◌<◌, ◌≤◌, ◌⊎◌, inl, inr, refl, ℕ, zero, suc, ◌*◌, true, false, List, [], ◌∷◌, ◌++◌, sym, ◌∙◌, arith, Some, None, Option}
 use Rattle.std.specs.Prelude.{Contains, is_some, ◌==◌}
 use Rattle.std.specs.Int.{div_ceil}
-use Rattle.std.proofs.lemmas.Bool.{eqb-true}
+use Rattle.std.proofs.lemmas.Bool.{eqb-true, false_from_ne_true as unless}
 use Rattle.std.proofs.lemmas.Grind.{div_ceil_times}
 use Rattle.fc_names.specs.Names.{Path, is_same_name, is_same_path}
 use Rattle.fc_record.specs.declared.Kind.{Kind}
@@ -16,12 +16,12 @@ use Rattle.fc_image.specs.Objects.{object_at}
 use Rattle.fc_image.specs.Stays.{OpensAs}
 use Rattle.fc_image.proofs.LookupLemmas.{lookup_law}
 use Rattle.fc_image.specs.effects.Short.{old_need}
-use Rattle.fc_changes.proofs.BasicLemmas.{unless}
 use Rattle.fc_changes.proofs.PlacedLemmas.{found_in}
 use Rattle.fc_changes.proofs.ReadsLemmas.{object_of_entry, same_path_of}
 use Rattle.fc_oldchanges.proofs.BeforeLemmas.{child_in, says_old, sound}
 use Rattle.fc_oldchanges.proofs.ChangeLemmas.{opened}
 use Rattle.fc_oldchanges.proofs.SpaceLemmas.{some_units}
+use Rattle.fc_changes.proofs.ChangeLemmas.{ceil_some}
 
 -- no entry has the name, if no object is at its path
 pub free_name : (kind : Kind) (image : List ℕ) (space : OldMapContent) (ls : List Listing) (opens : OpensAs image kind (opened kind space ls)) → (l : Listing) → Contains ls l
@@ -40,13 +40,6 @@ free_name kind image space ls opens l at path name same none = unless (has_name 
     some_entry : (q : Option Entry) → entry_named (entries_of l.content) name ≡ q → is_some q ≡ true → (x : Entry) × (entry_named (entries_of l.content) name ≡ Some x)
     some_entry None h g = absurd (cc)
     some_entry (Some x) h g = (x, h)
-
-pub ceil_some : (bytes size : ℕ) → 0 < bytes → 0 < size → 0 < div_ceil bytes size
-ceil_some bytes size some pos = by (div_ceil bytes size) (div_ceil_times bytes size pos).0
-  where
-    by : (n : ℕ) → bytes ≤ n * size → 0 < n
-    by zero h = absurd (omega (arith, h, some))
-    by (suc n) h = omega arith
 
 -- some bytes need some units
 pub need_some : (space : OldMapContent) (n : ℕ) → (space.sector_units ≡ 1) ⊎ (space.sector_units ≡ 4) → 0 < n → (old_need space n == 0) ≡ false

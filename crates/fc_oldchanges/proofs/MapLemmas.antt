@@ -4,7 +4,7 @@ use Rattle.std.specs.Prelude.{nat_le, Option, Some, None, Result, Ok, Err, if◌
 use Rattle.byteorder.specs.Endian.{little_number}
 use Rattle.std.proofs.lemmas.List.{get_or-take, drop-take, take-take, length-take-le}
 use Rattle.std.proofs.lemmas.List.FromFn.{map-range_with_len_more}
-use Rattle.std.proofs.lemmas.Bool.{and_from, leb-true, le-leb, lt-ltb, eq-eqb, eqb-true}
+use Rattle.std.proofs.lemmas.Bool.{and_from, leb-true, le-leb, lt-ltb, eq-eqb, eqb-true, and_parts}
 use Rattle.std.specs.List.{range_with_len}
 use Rattle.std.specs.Int.{is_in_range}
 use Rattle.std.proofs.Math.Seq.{take-add}
@@ -27,10 +27,9 @@ use Rattle.fc_image.specs.Opening.{MapAndRoot, holes_or, map_and_root, old_layou
 use Rattle.fc_image.specs.Stays.{HasSectorsOf}
 use Rattle.fc_image.proofs.HolesLemmas.{found_map}
 use Rattle.fc_oldchanges.specs.Owed.{IsMapAfter, MapStays, holding}
-
-and_parts : (a b : Bool) → (a && b) ≡ true → (a ≡ true) × (b ≡ true)
-and_parts true b e = (refl, e)
-and_parts false b e = absurd (cc)
+use Rattle.fc_oldmap.proofs.ReadLemmas.{holes_of-more as holes_step}
+use Rattle.fc_image.proofs.OldEditLemmas.{found_ok}
+use Rattle.fc_image.proofs.OldMapLemmas.{old_same, not_old as no_new}
 
 -- ---- what reading 512 bytes answers
 
@@ -90,10 +89,6 @@ end_front image = get_or-take 512 image 510 0 (omega arith)
 
 hole_front : (image : List ℕ) (i : ℕ) → i < 82 → stored_hole (take 512 image) i ≡ stored_hole image i
 hole_front image i low = ap₂ (λ a b. hole a b) (u24_front image (3 * i) (omega arith)) (u24_front image (256 + 3 * i) (omega arith))
-
-holes_step : (bytes : List ℕ) (n : ℕ) → holes_of bytes (n + 1) ≡ holes_of bytes n ++ stored_hole bytes n ∷ []
-unfolding holes_of
-holes_step bytes n = map-range_with_len_more (stored_hole bytes) 0 n n (omega arith)
 
 holes_front : (image : List ℕ) (n : ℕ) → n ≤ 82 → holes_of (take 512 image) n ≡ holes_of image n
 unfolding holes_of
@@ -167,15 +162,6 @@ pub record IsOldDisc (kind : Kind) (image : List ℕ) (space : OldMapContent) : 
   pub old : is_old_map image ≡ true
   pub none : hole_fault image space.sector_units ≡ None
   pub is : free_space image space.sector_units ≡ space
-
-found_ok : (x y : MapAndRoot) → (let q : Result MapAndRoot ImageFault = Ok x in q) ≡ Ok y → x ≡ y
-found_ok x y h = cc
-
-old_same : (x y : OldMapContent) → Layout.Old x ≡ Layout.Old y → x ≡ y
-old_same x y e = cc
-
-no_new : (m : Map) (space : OldMapContent) → Layout.New m ≡ Layout.Old space → ⊥
-no_new m space e = cc
 
 read_disc : (image : List ℕ) (units root a size : ℕ) (space : OldMapContent) → old_layout image units root ≡ Ok (Layout.Old space, a, size) → (hole_fault image units ≡ None) × (free_space image units ≡ space)
 read_disc image units root a size space e = go (hole_fault image units) refl e

@@ -63,12 +63,11 @@ use Rattle.std.proofs.lemmas.List.Sorted.{IsPermutation-insert}
 use Rattle.fc_image.specs.effects.Short.{Growth, is_copied}
 use Rattle.fc_image.specs.effects.Placed.{GrowthPlacedIn}
 use Rattle.fc_image.specs.effects.Steady.{is_moved_by, DirectorySteady, HasName, IsKept, IsWrittenAnew, NamedStays, RenamedHead, gets_parent, is_renamed_by, path_after, replaced_entry, without_name}
-use Rattle.fc_changes.proofs.BasicLemmas.{clash, long_pushed, or_left, or_second, holder_pushed, unless}
+use Rattle.fc_changes.proofs.BasicLemmas.{clash, long_pushed, holder_pushed}
 use Rattle.fc_changes.proofs.BeforeLemmas.{address_by}
 use Rattle.fc_oldchanges.proofs.BeforeLemmas.{held_by, opened_as}
 use Rattle.fc_oldchanges.proofs.ChangeLemmas.{opened}
 use Rattle.fc_changes.proofs.DirectoriesLemmas.{entries_now, no_new_holder}
-use Rattle.fc_changes.proofs.MadeLemmas.{turned}
 use Rattle.fc_changes.proofs.ReadsLemmas.{same_name_turned}
 use Rattle.fc_changes.proofs.RewordedLemmas.{Mapped, mapped, ok_same, same_address}
 use Rattle.fc_image.proofs.CommandLemmas.{is_prefix_of, prefix_is}
@@ -86,23 +85,13 @@ use Rattle.fc_oldchanges.specs.Owed.{IsDirectoryWritten}
 use Rattle.fc_oldchanges.proofs.BeforeLemmas.{tells as tells_of}
 use Rattle.fc_oldchanges.proofs.GrowthLemmas.{given_alone, no_growth, renames_copy_none, renames_take_none}
 use Rattle.fc_oldchanges.proofs.MovingLemmas.{OpensWithTree, across, behind_stays, cut, dir_unwritten, file_unwritten, listed_moved, outside_steady, rest_now}
-use Rattle.fc_changes.proofs.MovedLemmas.{both_apart, holder_folds}
+use Rattle.fc_changes.proofs.MovedLemmas.{both_apart, holder_folds, holder_not}
 use Rattle.std.specs.Prelude.{Result}
 use Rattle.fc_dirs.specs.declared.DirFault.{DirFault}
 use Rattle.fc_image.proofs.CommandLemmas.{both_ways}
 use Rattle.fc_changes.proofs.RenamedLemmas.{same_turned}
-
--- what isn't below a path has a holder that isn't
-holder_not : (from p : Path) → is_prefix (folded_path from) (folded_path p) ≡ false → is_prefix (folded_path from) (folded_path (holder p)) ≡ false
-holder_not from p no' = unless (is_prefix (folded_path from) (folded_path (holder p))) (λ h.
-    let n = length p - 1 in
-    let cut' = prefix_is (folded_path from) (folded_path (holder p)) h in
-    let low = prefix_long from (holder p) h in
-    let t = length-take n p in
-    let f = folded_long from in
-    clash (is_prefix (folded_path from) (folded_path p))
-    (is_prefix_of (folded_path from) (folded_path p)
-    (cut' ∙ ap (take (length (folded_path from))) (holder_folds p) ∙ take-take (length (folded_path from)) n (folded_path p) (omega (arith, low, t, f)))) no')
+use Rattle.std.proofs.lemmas.Bool.{false_from_ne_true as unless, or_left, or_right as or_second}
+use Rattle.fc_image.proofs.EditLemmas.{apart_turned as turned}
 
 module _ (back : ReadsBack) (kind : Kind) (image image' : List ℕ) (space : OldMapContent) (ls : List Listing) (from to : Path) (rest : List Listing) (src l : Listing) (src_content l_content : Directory) (i : ℕ) (o : Object)
     (said_now : Directory) (e : IsMoveChange kind image image' (opened kind space ls) space from to rest src l src_content l_content i o said_now) where

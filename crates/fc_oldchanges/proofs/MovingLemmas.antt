@@ -33,10 +33,9 @@ use Rattle.fc_image.proofs.EntriesLemmas.{entries_law, in_filter, in_mapped}
 use Rattle.fc_image.proofs.FreeLemmas.{object_same, range_bounds}
 use Rattle.fc_image.proofs.HolesLemmas.{apart_at}
 use Rattle.fc_image.proofs.MapEditLemmas.{child_at, held_in, is_file}
-use Rattle.fc_image.proofs.MoveLemmas.{all_filter, not_true}
+use Rattle.fc_image.proofs.MoveLemmas.{all_filter}
 use Rattle.fc_image.proofs.OldEditLemmas.{old_map_edit_law}
 use Rattle.fc_image.proofs.OldMapLemmas.{old_map_law}
-use Rattle.fc_image.proofs.OneZoneLemmas.{and_first, and_second}
 use Rattle.fc_image.proofs.OrderLemmas.{order_law}
 use Rattle.fc_image.proofs.PathsLemmas.{itself}
 use Rattle.fc_image.proofs.RelistLemmas.{apart_mapped, relisting_law, root_name_stays, root_path_stays}
@@ -44,13 +43,16 @@ use Rattle.fc_image.proofs.RenameLemmas.{alone, child_path, child_stays, holder_
 use Rattle.fc_image.proofs.RewordLemmas.{same_long}
 use Rattle.fc_image.proofs.ShuffleLemmas.{IsPermutation-flat_map, same_lists}
 use Rattle.fc_image.specs.effects.Steady.{OutsideSteady, SameSectors, lost_sectors}
-use Rattle.fc_changes.proofs.BasicLemmas.{clash, first_in, long_pushed, next_in, unless}
+use Rattle.fc_changes.proofs.BasicLemmas.{clash, first_in, long_pushed, next_in}
 use Rattle.fc_changes.proofs.OutsideLemmas.{same_behind}
 use Rattle.fc_oldchanges.specs.Owed.{IsBefore, IsWritten, MapStays}
 use Rattle.fc_oldchanges.proofs.BeforeLemmas.{all_listed, had, held_object, listed_in, object_lies, parts, says_old}
 use Rattle.fc_oldchanges.proofs.ChangeLemmas.{opened}
 use Rattle.fc_oldchanges.proofs.MapLemmas.{IsOldDisc, fits_now, found_now, map_kept, old_disc}
-use Rattle.fc_oldchanges.proofs.PlaceLemmas.{among_flat, in_disc, pair_apart}
+use Rattle.fc_oldchanges.proofs.PlaceLemmas.{in_disc, pair_apart}
+use Rattle.std.proofs.lemmas.Bool.{false_from_ne_true as unless, not-true as not_true}
+use Rattle.fc_record.proofs.KindLemmas.{and_first, and_second}
+use Rattle.fc_changes.proofs.PlacedLemmas.{is_in_flat as among_flat}
 
 -- the image opens with these listings, in some order, and has this tree
 pub record OpensWithTree (kind : Kind) (image : List ℕ) (space : OldMapContent) (listings : List Listing) (t : Tree) : Type 0 where

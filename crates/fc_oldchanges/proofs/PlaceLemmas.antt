@@ -13,6 +13,8 @@ use Rattle.fc_image.specs.Edits.{Apart}
 use Rattle.fc_image.proofs.FreeLemmas.{range_bounds}
 use Rattle.fc_image.proofs.HolesLemmas.{apart_at, apart_from}
 use Rattle.fc_changes.proofs.BasicLemmas.{cases_cons, clash, nothing_in}
+use Rattle.fc_image.proofs.MoveLemmas.{some_one as some_list}
+use Rattle.fc_changes.proofs.PlacedLemmas.{is_in_flat as among_flat}
 
 -- ---- an object
 
@@ -22,9 +24,6 @@ pub record IsRow (space : OldMapContent) (address bytes : ℕ) (sectors : List �
   pub row : sectors ≡ range_with_len (address / space.sector_units) (div_ceil bytes (256 * space.sector_units))
   pub long : length sectors ≡ div_ceil bytes (256 * space.sector_units)
   pub inside : address / space.sector_units + div_ceil bytes (256 * space.sector_units) ≤ space.disc_units / space.sector_units
-
-some_list : (x y : List ℕ) → Some x ≡ Some y → x ≡ y
-some_list x y e = cc
 
 -- no bytes have no sectors, and others lie in a row
 pub row_or_none : (space : OldMapContent) (address bytes : ℕ) (sectors : List ℕ) → sectors_at (Layout.Old space) address bytes ≡ Some sectors
@@ -67,13 +66,6 @@ in_disc space address bytes sectors s e h = ⊎_elim
     (row_or_none space address bytes sectors e)
 
 -- ---- apart
-
-pub among_flat : {X : Type 0} (f : X → List ℕ) (xs : List X) (x : X) (s : ℕ) → Contains xs x → is_among (f x) s ≡ true → is_among (flat_map f xs) s ≡ true
-among_flat f [] x s at h = absurd (nothing_in x at)
-among_flat f (y ∷ xs) x s at h = elim (cases_cons y xs x at) [
-  | inl is ↦ in_front (f y) (flat_map f xs) s (subst (λ (z : _). is_among (f z) s ≡ true) (sym is) h)
-  | inr later ↦ in_back (f y) (flat_map f xs) s (among_flat f xs x s later h)
-]
 
 -- an object is apart from what was taken before it
 pub each_apart : (taken : List ℕ) (os : List Object) (p : Object) → Apart taken os → Contains os p → is_apart p.sectors taken ≡ true

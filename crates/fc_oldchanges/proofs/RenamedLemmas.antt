@@ -61,12 +61,11 @@ use Rattle.std.proofs.lemmas.List.Sorted.{IsPermutation-insert}
 use Rattle.fc_image.specs.effects.Short.{Growth, is_copied}
 use Rattle.fc_image.specs.effects.Placed.{GrowthPlacedIn}
 use Rattle.fc_image.specs.effects.Steady.{is_moved_by, DirectorySteady, HasName, IsKept, IsWrittenAnew, NamedStays, RenamedHead, gets_parent, is_renamed_by, path_after, replaced_entry, without_name}
-use Rattle.fc_changes.proofs.BasicLemmas.{clash, long_pushed, or_left, or_second, holder_pushed, unless}
+use Rattle.fc_changes.proofs.BasicLemmas.{clash, long_pushed, holder_pushed}
 use Rattle.fc_changes.proofs.BeforeLemmas.{address_by}
 use Rattle.fc_oldchanges.proofs.BeforeLemmas.{held_by, opened_as}
 use Rattle.fc_oldchanges.proofs.ChangeLemmas.{opened}
 use Rattle.fc_changes.proofs.DirectoriesLemmas.{entries_now, no_new_holder}
-use Rattle.fc_changes.proofs.MadeLemmas.{turned}
 use Rattle.fc_changes.proofs.ReadsLemmas.{same_name_turned}
 use Rattle.fc_changes.proofs.RewordedLemmas.{Mapped, mapped, ok_same, same_address}
 use Rattle.fc_oldmap.specs.Laws.{ReadsBack}
@@ -86,6 +85,8 @@ use Rattle.std.specs.Prelude.{Result}
 use Rattle.fc_dirs.specs.declared.DirFault.{DirFault}
 use Rattle.fc_image.proofs.CommandLemmas.{both_ways}
 use Rattle.fc_changes.proofs.RenamedLemmas.{same_turned}
+use Rattle.std.proofs.lemmas.Bool.{false_from_ne_true as unless, or_left, or_right as or_second}
+use Rattle.fc_image.proofs.EditLemmas.{apart_turned as turned}
 
 module _ (back : ReadsBack) (kind : Kind) (image image' : List ℕ) (space : OldMapContent) (ls : List Listing) (from to : Path) (rest : List Listing) (l : Listing) (content : Directory) (i : ℕ) (o : Object)
     (said_now : Directory) (e : IsRenameChange kind image image' (opened kind space ls) space from to rest l content i o said_now) where

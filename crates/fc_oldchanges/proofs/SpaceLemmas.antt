@@ -4,7 +4,7 @@ use Rattle.std.specs.Prelude.{All, Contains, nat_le, nat_lt, ◌==◌}
 use Rattle.std.specs.List.{flat_map, range_with_len}
 use Rattle.std.specs.Option.{option_to_list}
 use Rattle.std.specs.Int.{div_ceil}
-use Rattle.std.proofs.lemmas.Bool.{leb-true, leb-false, ltb-true}
+use Rattle.std.proofs.lemmas.Bool.{leb-true, leb-false, ltb-true, false_from_ne_true as unless}
 use Rattle.std.proofs.lemmas.List.Elements.{All-cons, All-nil}
 use Rattle.fc_record.specs.declared.Kind.{Kind}
 use Rattle.fc_oldmap.specs.declared.Hole.{Hole}
@@ -23,7 +23,7 @@ use Rattle.fc_image.proofs.HolesLemmas.{Lies, apart_at}
 use Rattle.fc_image.proofs.OldMapLemmas.{old_map_law}
 use Rattle.fc_newmap.proofs.PlaceLemmas.{in_back, in_front}
 use Rattle.fc_image.specs.effects.Short.{holes_without, old_need, space_of, with_space_of}
-use Rattle.fc_changes.proofs.BasicLemmas.{cases_cons, clash, first_in, nothing_in, unless}
+use Rattle.fc_changes.proofs.BasicLemmas.{cases_cons, clash, first_in, nothing_in}
 use Rattle.fc_oldchanges.specs.Owed.{holding}
 use Rattle.fc_oldchanges.proofs.BeforeLemmas.{object_lies}
 use Rattle.fc_oldchanges.proofs.ChangeLemmas.{opened}

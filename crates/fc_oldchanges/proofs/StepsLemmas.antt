@@ -4,8 +4,9 @@ use Rattle.std.specs.Prelude.{◌==◌, ◌||◌}
 use Rattle.fc_device.proofs.SectorLemmas.{length-with_sector, sector_at-with_sector_other}
 use Rattle.fc_newmap.proofs.PlaceLemmas.{in_back, in_front}
 use Rattle.fc_image.specs.Layout.{Layout, is_among, map_place, sector_bytes}
-use Rattle.fc_changes.proofs.BasicLemmas.{clash, unless}
+use Rattle.fc_changes.proofs.BasicLemmas.{clash}
 use Rattle.fc_oldchanges.specs.Laws.{WritesLaw}
+use Rattle.std.proofs.lemmas.Bool.{false_from_ne_true as unless}
 
 pub writes_law : WritesLaw
 writes_law = record {

@@ -9,10 +9,7 @@ use Rattle.std.proofs.lemmas.Bool.{cases_eq}
 use Rattle.fc_tree.specs.declared.node.Node.{Node}
 use Rattle.fc_tree.proofs.SlotLemmas.{other}
 use Rattle.fc_laws.specs.nodes.Edits.{Nodes, with_edited}
-
-pub there_of : (o : Option Node) → IsSome o → (x : Node) × (o ≡ Some x)
-there_of None some = absurd (cc)
-there_of (Some x) some = (x, refl)
+use Rattle.fc_volume.proofs.MadeLemmas.{there_of}
 
 -- A node of a new number comes, and then one that was there changes.
 module _ (nodes mid : Nodes) (dir n : ℕ) (x old : Node) (there : get nodes dir ≡ Some old) (free : get nodes n ≡ None) (added : mid ≡ put nodes n x) where

@@ -47,7 +47,6 @@ use Rattle.fc_volume.specs.Compacting.{UnlessFault}
 use Rattle.fc_volume.specs.Making.{AnswersSpace}
 use Rattle.fc_volume.specs.Volume.{StandsFor, Volume, parts_of}
 use Rattle.fc_volume.proofs.JudgedLemmas.{refused_by}
-use Rattle.fc_volume.proofs.PieceLemmas.{all_low}
 use Rattle.fc_volume.proofs.TargetLemmas as target_of
 use Rattle.fc_oldvolume.specs.declared.making.Making.{Making}
 use Rattle.fc_oldvolume.specs.Changing.{ChangeKeeps, IsOldLayout}
@@ -59,6 +58,8 @@ use Rattle.fc_oldvolume.proofs.OwnersLemmas.{each_at}
 use Rattle.fc_oldvolume.proofs.SetVolumeLemmas.{HasMap}
 use Rattle.fc_oldvolume.proofs.TakingLemmas.{taken_edit}
 use Rattle.fc_oldvolume.proofs.TargetLemmas.{addressed}
+use Rattle.fc_volume.proofs.CdirAskedLemmas.{IsVacantIn, unless_any, one_error}
+use Rattle.fc_tree.proofs.ReadingLemmas.{all_on_disk as all_low}
 
 -- ---- the directory that gets an entry
 
@@ -207,10 +208,6 @@ module _ (layout : Layout) (nodes : Nodes) (listings : List Listing) (sound : Ar
 
 -- ---- the volume
 
--- The directory is right for each walk whose objects the nodes of a volume hold.
-abbrev pub IsVacantIn : Volume → Path → ℕ → Type 0
-IsVacantIn v path dir = (layout : Layout) (listings : List Listing) → AreSound layout listings → HoldObjects (nodes_of v.tree) listings → IsVacant (nodes_of v.tree) listings path dir
-
 -- `w` is the same volume as `v`, by its parts.
 module _ (laws : MakingLaws) (w v : Volume) (same : w ≡ v) (space : OldMapContent) (layout : layout_of v.space ≡ Layout.Old space) (maps : HasMap w) (behind : LieBehind space) (path : Path) (dir : ℕ)
     (vacant : IsVacantIn w path dir) (agree : (kind : Kind) × Agree kind (parts_of v)) where
@@ -307,14 +304,6 @@ no_fault : (e : CommandError) (o : Option Refusal) → AnswersSpace {T = Making}
 no_fault (Refused r) o h is = let clash : Refused r ≡ DiskFault = is in cc
 no_fault NoMemory o h is = let clash : NoMemory ≡ DiskFault = is in cc
 no_fault DiskFault o h is = h
-
-pub unless_any : (e : CommandError) (P : Type 0) → P → UnlessFault {T = Unit {0}} (Err e) P
-unless_any (Refused r) P p = p
-unless_any NoMemory P p = p
-unless_any DiskFault P p = tt
-
-one_error : (a b : CommandError) → (let r : Result (Unit {0}) CommandError = Err a in r) ≡ Err b → a ≡ b
-one_error a b e = cc
 
 -- A volume that answers without a change is kept.
 pub kept_as_it_was : {D : Type 0} (d : Ghosts D) (law : Laws d) (disk : D) (v : Volume) (e : CommandError) (o : Option Refusal) → AnswersSpace {T = Making} (Err e) o → StandsFor d v disk → IsFalse (d.pending disk)

@@ -3,7 +3,7 @@ use Rattle.std.proofs.Common.{◌≡◌, ◌<◌, ◌≤◌, ◌+◌, ◌*◌, �
 use Rattle.std.specs.Prelude.{Contains, IsPermutation, Option}
 use Rattle.std.specs.Int.{div_ceil}
 use Rattle.std.specs.FinMap.{get, insert as put}
-use Rattle.std.proofs.lemmas.Bool.{lt-ltb}
+use Rattle.std.proofs.lemmas.Bool.{lt-ltb, and_from as both}
 use Rattle.std.proofs.lemmas.List.Sorted.{IsPermutation-append_comm, IsPermutation-refl}
 use Rattle.fc_names.specs.Names.{Path, is_directory, is_same_name, is_same_path}
 use Rattle.fc_names.specs.declared.name.NameForm.{NameForm}
@@ -45,12 +45,11 @@ use Rattle.fc_refusals.proofs.HolderLemmas.{named}
 use Rattle.fc_oldlaws.specs.agree.Laws.{AgreesNow}
 use Rattle.fc_oldchanges.specs.Changed.{IsFirstFitted}
 use Rattle.fc_oldchanges.specs.Owed.{IsBefore, IsWritten, holding}
-use Rattle.fc_oldchanges.proofs.MadeLemmas.{ceil_some}
 use Rattle.fc_oldchanges.proofs.PlaceLemmas.{row_or_none}
 use Rattle.fc_oldlaws.specs.takeover.Laws.{TakesOver}
 use Rattle.fc_oldlaws.specs.takeover.Steps.{IsMadeInSteps}
 use Rattle.fc_volume.specs.Owners.{entry_owner, with_owner}
-use Rattle.fc_volume.proofs.RewriteLemmas.{says_it, size_of_form}
+use Rattle.fc_volume.proofs.RewriteLemmas.{size_of_form}
 use Rattle.fc_volume.proofs.TargetLemmas as target_of
 use Rattle.fc_oldvolume.specs.declared.making.Making.{Making}
 use Rattle.fc_oldvolume.specs.Changing.{WritesPlaces}
@@ -59,21 +58,16 @@ use Rattle.fc_oldvolume.specs.Making.{IsMakingReady, IsWrittenWith, nodes_made}
 use Rattle.fc_oldvolume.specs.MakingLaws.{MakingLaws}
 use Rattle.fc_oldvolume.specs.Spaces.{LieBehind}
 use Rattle.fc_oldvolume.specs.Taking.{IsAddressFor, IsTaken}
-use Rattle.fc_oldvolume.proofs.MakingLemmas.{new_size, some_bytes}
+use Rattle.fc_oldvolume.proofs.MakingLemmas.{some_bytes}
 use Rattle.fc_oldvolume.proofs.RewriteLemmas.{IsDirectoryBytes}
 use Rattle.fc_oldvolume.proofs.RewriteLemmas as rewrite
 use Rattle.fc_oldvolume.proofs.TakingLemmas.{taken_after, taken_holes, taken_only, taken_step}
+use Rattle.fc_changes.proofs.ChangeLemmas.{ceil_some}
+use Rattle.fc_volume.proofs.CdirLemmas.{whole_path, no_entries}
+use Rattle.fc_volume.proofs.MakingLemmas.{new_size}
+use Rattle.fc_laws.proofs.lemmas.agree.SayLemmas.{as_directory as says_it}
 
 -- ---- paths
-
-whole_path : (path : Path) → 0 < length path → path ≡ holder path ++ last_name path ∷ []
-whole_path [] some = absurd (omega (arith, some))
-whole_path (x ∷ path) some = (named (x ∷ path) (last_name (x ∷ path)) refl).whole
-
-both : (a b : Bool) → a ≡ true → b ≡ true → (a && b) ≡ true
-both true true e f = refl
-both true false e f = absurd (cc)
-both false b e f = absurd (cc)
 
 -- what stands in a directory under the last name of a path is at the path
 pub at_path : (path dir : Path) (name : List ℕ) → 0 < length path → is_same_path (holder path) dir ≡ true → name ≡ last_name path → is_same_path path (dir ++ name ∷ []) ≡ true
@@ -95,11 +89,6 @@ entered_form space len parent e old new is has = subst (HasForm (dir_form (Layou
     by false (Directory.Small dir) h = h
     by true (Directory.Big dir) h = absurd h
     by false (Directory.Big dir) h = absurd h
-
-no_entries : (form : NameForm) (parent : ℕ) (name : List ℕ) → entries_of (new_directory form parent name) ≡ []
-no_entries forms.Seven parent name = refl
-no_entries forms.Ten parent name = refl
-no_entries forms.Long parent name = refl
 
 -- the bytes of a new directory, by its entry
 size_by_entry : (space : OldMapContent) (e : Entry) → is_directory e.attrs ≡ true → object_size (dir_form (Layout.Old space)) e ≡ new_dir_size (dir_form (Layout.Old space))

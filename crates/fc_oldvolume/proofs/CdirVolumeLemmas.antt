@@ -32,11 +32,7 @@ use Rattle.fc_oldvolume.specs.MakingLaws.{MakingLaws}
 use Rattle.fc_oldvolume.specs.Spaces.{LieBehind}
 use Rattle.fc_oldvolume.proofs.CdirLemmas.{IsReady}
 use Rattle.fc_oldvolume.proofs.CdirLemmas as made
-
--- The room of a tree is none of its nodes.
-pub same_nodes : (t : Numbers) (room : ℕ) → nodes_of (record t { room = room }) ≡ nodes_of t
-unfolding nodes_of
-same_nodes t room = refl
+use Rattle.fc_volume.proofs.CdirVolumeLemmas.{same_nodes}
 
 module _ {D : Type 0} (d : Ghosts D) (laws : MakingLaws) (space : OldMapContent) (v : Volume) (old : D) (path : Path) (dir : ℕ) (r : Making)
     (layout : layout_of v.space ≡ Layout.Old space) (is : IsReady space (nodes_of v.tree) path dir (next_number v.tree) r) (stands : StandsFor d v old) where

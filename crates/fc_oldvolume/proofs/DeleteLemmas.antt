@@ -43,7 +43,7 @@ use Rattle.fc_oldlaws.specs.takeover.Writes.{IsMapStep}
 use Rattle.fc_refusals.specs.declared.target.Target.{Target}
 use Rattle.fc_refusals.specs.Targets.{IsRemovable, IsTarget}
 use Rattle.fc_volume.proofs.DeleteLemmas.{entries_left, form_left, owners_left}
-use Rattle.fc_volume.proofs.RewriteLemmas.{says_it, size_of_form}
+use Rattle.fc_volume.proofs.RewriteLemmas.{size_of_form}
 use Rattle.fc_volume.proofs.TargetLemmas as target_of
 use Rattle.fc_oldvolume.specs.declared.removal.Removal.{Removal}
 use Rattle.fc_oldvolume.specs.Changing.{WritesPlaces}
@@ -57,6 +57,7 @@ use Rattle.fc_oldvolume.proofs.JudgedLemmas.{with_none, with_some}
 use Rattle.fc_oldvolume.proofs.OwnersLemmas.{owner_is}
 use Rattle.fc_oldvolume.proofs.RewriteLemmas.{IsDirectoryBytes}
 use Rattle.fc_oldvolume.proofs.RewriteLemmas as rewrite
+use Rattle.fc_laws.proofs.lemmas.agree.SayLemmas.{as_directory as says_it}
 
 -- ---- the map
 

@@ -36,7 +36,6 @@ use Rattle.fc_volume.specs.declared.copies.Copies.{Copies}
 use Rattle.fc_volume.specs.Changing.{AnswersBy, HasChanged}
 use Rattle.fc_volume.proofs.JudgedLemmas.{refused_by}
 use Rattle.fc_volume.specs.Volume.{HasCopies, HoldsMap, StandsFor, Volume, parts_of}
-use Rattle.fc_volume.proofs.PieceLemmas.{all_low}
 use Rattle.fc_oldvolume.specs.declared.removal.Removal.{Removal}
 use Rattle.fc_oldvolume.specs.Changing.{WritesPlaces}
 use Rattle.fc_oldvolume.specs.Deleting.{CanFree, HasRemoved, IsDeleteReady, IsWrittenWithout, RefusesFull, map_after}
@@ -47,6 +46,7 @@ use Rattle.fc_oldvolume.proofs.DeleteLemmas as deleted
 use Rattle.fc_oldvolume.proofs.GoingLemmas.{MayGoIn}
 use Rattle.fc_oldvolume.proofs.GoingLemmas as going
 use Rattle.fc_oldvolume.proofs.SetVolumeLemmas.{HasMap}
+use Rattle.fc_tree.proofs.ReadingLemmas.{all_on_disk as all_low}
 
 -- ---- what is asked before the writing
 

@@ -31,7 +31,7 @@ use Rattle.fc_volume.proofs.SavingLemmas.{JudgesSave, of_both}
 use Rattle.fc_oldvolume.specs.declared.filing.Filing.{Filing}
 use Rattle.fc_oldvolume.specs.Filing.{IsFileWritten}
 use Rattle.fc_oldvolume.specs.Saving.{IsFileAccepted}
-use Rattle.fc_oldvolume.proofs.JudgedLemmas.{first_last}
+use Rattle.fc_volume.proofs.CdirAskedLemmas.{first_none as first_last}
 
 -- ---- the judge
 

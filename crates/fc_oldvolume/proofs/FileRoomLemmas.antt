@@ -29,8 +29,9 @@ use Rattle.fc_oldvolume.specs.Replacing.{WantsOver}
 use Rattle.fc_oldvolume.specs.Spaces.{GivesBack, IsTooFull, space_at, units_of}
 use Rattle.fc_oldvolume.specs.Taking.{HasTaken, taking_refusal}
 use Rattle.fc_oldvolume.proofs.FilingLemmas.{given_few, given_holes, taken_few, with_space}
-use Rattle.fc_oldvolume.proofs.JudgedLemmas.{first_last, first_some}
 use Rattle.fc_oldvolume.proofs.TakingLemmas.{taken_after, taken_holes}
+use Rattle.fc_volume.proofs.AcceptedLemmas.{first_some}
+use Rattle.fc_volume.proofs.CdirAskedLemmas.{first_none as first_last}
 
 -- the directory that gets a name has no room for it
 abbrev is_full_in : Opened → Command → Bool

@@ -1,7 +1,7 @@
 -- Files on discs with old maps: which sectors are written, and the maps.
 use Rattle.std.proofs.Common.{◌≡◌, ◌≤◌, ◌-◌, ◌==◌, ◌||◌, inl, inr, ℕ, Bool, true, false, cond, List, ◌++◌, length, Option, Some, None, refl, sym, ap, ap₂, subst, ◌∙◌}
 use Rattle.std.specs.Prelude.{nat_lt, Ok}
-use Rattle.std.proofs.lemmas.Bool.{lt-ltb}
+use Rattle.std.proofs.lemmas.Bool.{lt-ltb, or_parts as none_of_both}
 use Rattle.std.proofs.lemmas.List.Folds.{list_any-append}
 use Rattle.fc_bytes.specs.Words.{bytes_at}
 use Rattle.fc_device.specs.Sectors.{sector_at}
@@ -23,10 +23,6 @@ use Rattle.fc_oldvolume.specs.Writing.{IsMapWritten}
 use Rattle.fc_oldvolume.proofs.JudgedLemmas.{has_units, space_is}
 
 -- ---- what is written
-
-none_of_both : (a b : Bool) → (a || b) ≡ false → (a ≡ false) × (b ≡ false)
-none_of_both true b e = absurd (cc)
-none_of_both false b e = (refl, e)
 
 -- A write to some sectors is one to more.
 module _ (space : OldMapContent) (xs ys image image' : List ℕ) where

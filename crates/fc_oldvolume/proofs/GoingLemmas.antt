@@ -29,7 +29,8 @@ use Rattle.fc_oldvolume.specs.Laws.{OldLaws}
 use Rattle.fc_oldvolume.specs.Spaces.{GivesBack, IsTooFull, LieBehind, space_at, units_of}
 use Rattle.fc_oldvolume.proofs.ChangeLemmas.{one_space}
 use Rattle.fc_oldvolume.proofs.JudgedLemmas.{full, not_full, some_sectors, space_is}
-use Rattle.fc_oldvolume.proofs.OwnersLemmas.{each_at, object_as}
+use Rattle.fc_oldvolume.proofs.OwnersLemmas.{each_at}
+use Rattle.fc_volume.proofs.RenameLemmas.{object_as}
 
 -- The target may go, by each walk whose objects the nodes hold.
 abbrev pub MayGoIn : FinMap nat_cmp Node → Path → Target → Type 0

@@ -21,19 +21,11 @@ use Rattle.fc_oldlaws.specs.agree.Spaces.{SpaceLaw}
 use Rattle.fc_oldchanges.proofs.GrowthLemmas.{none_needed}
 use Rattle.fc_volume.specs.Changing.{refusal_in}
 use Rattle.fc_oldvolume.specs.Spaces.{GivesBack, IsTooFull, space_at, units_of}
+use Rattle.fc_volume.proofs.AcceptedLemmas.{first_some}
+use Rattle.fc_volume.proofs.CdirAskedLemmas.{first_none as first_last}
+use Rattle.fc_volume.proofs.JudgedLemmas.{none_below as below_zero}
 
 -- ---- the first refusal
-
-pub first_some : (xs : List (Option Refusal)) (o : Option Refusal) (r : Refusal) → first_of xs ≡ Some r → first_of (xs ++ o ∷ []) ≡ Some r
-first_some [] o r e = absurd (cc)
-first_some (None ∷ xs) o r e = first_some xs o r e
-first_some (Some x ∷ xs) o r e = e
-
-pub first_last : (xs : List (Option Refusal)) (o : Option Refusal) → first_of xs ≡ None → first_of (xs ++ o ∷ []) ≡ o
-first_last [] None e = refl
-first_last [] (Some r) e = refl
-first_last (None ∷ xs) o e = first_last xs o e
-first_last (Some x ∷ xs) o e = absurd (cc)
 
 -- a command that its judge refuses is refused so
 pub judged_first : (v : Opened) (image : List ℕ) (read_only : Bool) (c : Command) (r : Refusal) → Some r ≡ first_of (reasons (tree_of image v.layout v.listings) (dir_form v.layout) read_only c)
@@ -46,9 +38,6 @@ pub judged_last : (v : Opened) (image : List ℕ) (read_only : Bool) (c : Comman
 judged_last v image read_only c is = first_last (reasons (tree_of image v.layout v.listings) (dir_form v.layout) read_only c) (short v c) (sym is)
 
 -- ---- want of space
-
-below_zero : (n : ℕ) → nat_lt n 0 ≡ false
-below_zero n = grind (arith, nat_tests)
 
 -- the refusal if there are so many holes
 abbrev full_at : ℕ → Option Refusal

@@ -30,13 +30,9 @@ use Rattle.fc_volume.specs.Making.{AnswersSpace}
 use Rattle.fc_volume.proofs.SettingLemmas.{one_content}
 use Rattle.fc_oldvolume.specs.Making.{CanGain, CanHoldNew, CanMakeIn}
 use Rattle.fc_oldvolume.specs.Taking.{taking_refusal}
+use Rattle.fc_volume.proofs.MakingLemmas.{new_size, other_value}
 
 -- ---- sizes
-
-pub new_size : (form : NameForm) (parent : ℕ) (name : List ℕ) → size_of (new_directory form parent name) ≡ new_dir_size form
-new_size forms.Seven parent name = refl
-new_size forms.Ten parent name = refl
-new_size forms.Long parent name = refl
 
 pub some_bytes : (form : NameForm) → 0 < new_dir_size form
 some_bytes forms.Seven = omega arith
@@ -115,10 +111,3 @@ module _ (nodes : FinMap nat_cmp Node) (layout : Layout) (n : ℕ) (name : List 
 
   pub holds_new : CanHoldNew layout name node
   holds_new = subst (CanHoldNew layout name) node_is can.3
-
--- ---- answers
-
-pub other_value : (A B : Type 0) (e : CommandError) (o : Option Refusal) → AnswersSpace {T = A} (Err e) o → AnswersSpace {T = B} (Err e) o
-other_value A B (Refused r) o h = h
-other_value A B NoMemory o h = h
-other_value A B DiskFault o h = absurd h

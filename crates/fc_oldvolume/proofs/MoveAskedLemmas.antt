@@ -22,7 +22,6 @@ use Rattle.fc_image.specs.Objects.{listing_at, object_at}
 use Rattle.fc_image.specs.Opening.{Opened}
 use Rattle.fc_image.specs.Sound.{AreSound}
 use Rattle.fc_image.specs.Walk.{Listing, Object}
-use Rattle.fc_image.proofs.PathsLemmas.{unless}
 use Rattle.fc_objects.specs.Extents.{sectors_in}
 use Rattle.fc_space.specs.Space.{PlacesSuffice, layout_of}
 use Rattle.fc_tree.specs.declared.node.Node.{Node}
@@ -54,6 +53,7 @@ use Rattle.fc_oldvolume.proofs.RenameAskedLemmas as asked
 use Rattle.fc_oldvolume.proofs.RenameSpaceLemmas.{full_short, lacks_room, rename_takes_none}
 use Rattle.fc_oldvolume.proofs.SmallLemmas.{old_form, small_holds, small_names, small_of}
 use Rattle.fc_oldvolume.proofs.TargetLemmas.{addressed}
+use Rattle.std.proofs.lemmas.Bool.{false_from_ne_true as unless}
 
 -- what is asked, and what is ready, of either of two volumes that are the same by their parts
 pub can_move_at : (w v : Volume) → w ≡ v → (space : OldMapContent) → layout_of v.space ≡ Layout.Old space → (t : Target) (dir : ℕ) (name : List ℕ) → CanMove (nodes_of v.tree) (Layout.Old space) t dir name

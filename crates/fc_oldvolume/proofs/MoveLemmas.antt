@@ -20,7 +20,6 @@ use Rattle.fc_drafts.specs.Entries.{renamed_entry}
 use Rattle.fc_drafts.specs.Rewriting.{HasEntered, HasLeft, HasMoved}
 use Rattle.fc_image.specs.effects.Steady.{AreWritten, IsRewritten, has_grown, has_new_holder}
 use Rattle.fc_image.proofs.CommandLemmas.{is_prefix_of}
-use Rattle.fc_image.proofs.PathsLemmas.{unless}
 use Rattle.fc_image.specs.Layout.{Layout, dir_form, is_apart, map_place, sector_bytes}
 use Rattle.fc_image.specs.Edits.{IsAt}
 use Rattle.fc_image.specs.EditedWalk.{moved_object}
@@ -37,7 +36,7 @@ use Rattle.fc_tree.specs.Agree.{Agree, HasForm}
 use Rattle.fc_tree.specs.Counts.{address_in}
 use Rattle.fc_tree.specs.Nodes.{HoldObjects, body_in, number_of}
 use Rattle.fc_tree.specs.Parts.{AreOwners, Parts}
-use Rattle.fc_tree.proofs.MemberLemmas.{contains_later, found_passes}
+use Rattle.fc_tree.proofs.MemberLemmas.{found_passes}
 use Rattle.fc_tree.proofs.SoundLemmas.{folds_alike}
 use Rattle.fc_tree.proofs.WalkedLemmas.{child_is_object, child_path, contained, listed_directory, same_some}
 use Rattle.fc_laws.specs.nodes.Edits.{IsTransferred, Nodes, NodesFollow, OwnersEdited, OwnersFollow, as_moved, owner_with, owners_with, relisted, with_body, with_entry, with_holder, with_own_body}
@@ -56,10 +55,10 @@ use Rattle.fc_volume.specs.Moving.{IsMoveReady, held_by}
 use Rattle.fc_volume.specs.Relocating.{more_sectors, relocated, sectors_of_relocation, with_owner}
 use Rattle.fc_volume.specs.Renaming.{IsTurned}
 use Rattle.fc_volume.specs.Storing.{AreStored}
-use Rattle.fc_volume.proofs.AcrossLemmas.{entered_form, entered_small, left_form, left_small}
+use Rattle.fc_volume.proofs.AcrossLemmas.{entered_form, entered_small, left_form, left_small, prefix_self}
 use Rattle.fc_volume.proofs.MoveLemmas.{with_source}
 use Rattle.fc_volume.proofs.RenameLemmas.{IsLongOwn, can_say, moved_at, named_in, second_true, too_long, turned_round}
-use Rattle.fc_volume.proofs.RewriteLemmas.{says_it, size_of_form}
+use Rattle.fc_volume.proofs.RewriteLemmas.{size_of_form}
 use Rattle.fc_volume.proofs.TurnedLemmas.{Turns, now_of, sectors_turned, turns, with_turned}
 use Rattle.fc_volume.proofs.TargetLemmas as target_of
 use Rattle.fc_oldvolume.specs.Changing.{WritesPlaces}
@@ -70,6 +69,9 @@ use Rattle.fc_oldvolume.proofs.OwnersLemmas.{owner_is}
 use Rattle.fc_oldvolume.proofs.RewriteLemmas.{IsDirectoryBytes}
 use Rattle.fc_oldvolume.proofs.RewriteLemmas as rewrite
 use Rattle.fc_oldvolume.proofs.TurnedLemmas.{IsOwnWritten, own_written, turned_off}
+use Rattle.std.proofs.lemmas.Bool.{false_from_ne_true as unless, or_right as or_second}
+use Rattle.fc_image.proofs.EntriesLemmas.{later as contains_later}
+use Rattle.fc_laws.proofs.lemmas.agree.SayLemmas.{as_directory as says_it}
 
 -- ---- owners
 
@@ -83,13 +85,6 @@ owner_edited law false node dir owners own change single found is =
     subst (λ (x : Option Owner). OwnersEdited owners (with_owner x owners) [] []) (sym (is ∙ ap (λ (x : Option Owner). option_map (held_by dir) x) found)) (law.unchanged owners)
 
 -- ---- paths
-
-or_second : (a b : Bool) → b ≡ true → (a || b) ≡ true
-or_second true b e = refl
-or_second false b e = e
-
-prefix_self : (p q : Path) → p ≡ q → is_prefix p q ≡ true
-prefix_self p q same = is_prefix_of p q (sym (take_all (length p) p (omega arith)) ∙ ap (λ (x : Path). take (length p) x) same)
 
 -- a directory that isn't at or below what is renamed isn't renamed itself
 into_itself : (path dir from : Path) → is_same_path from path ≡ true → is_same_path dir from ≡ true → is_prefix (folded_path path) (folded_path dir) ≡ false → ⊥

@@ -31,7 +31,6 @@ use Rattle.fc_volume.specs.declared.changes.putting.FileWords.{FileWords}
 use Rattle.fc_volume.specs.declared.lines.CommandError.{CommandError}
 use Rattle.fc_volume.specs.Making.{AnswersSpace}
 use Rattle.fc_volume.specs.Volume.{StandsFor, Volume, parts_of}
-use Rattle.fc_volume.proofs.PieceLemmas.{all_low}
 use Rattle.fc_volume.proofs.SaveGainLemmas.{gains}
 use Rattle.fc_volume.proofs.SavingLemmas.{of_both}
 use Rattle.fc_volume.proofs.SettingLemmas.{one_content}
@@ -47,6 +46,7 @@ use Rattle.fc_oldvolume.proofs.NewFileLemmas.{IsReady}
 use Rattle.fc_oldvolume.proofs.OwnersLemmas.{each_at}
 use Rattle.fc_oldvolume.proofs.SetVolumeLemmas.{HasMap}
 use Rattle.fc_oldvolume.proofs.TargetLemmas.{addressed}
+use Rattle.fc_tree.proofs.ReadingLemmas.{all_on_disk as all_low}
 
 -- `w` is the same volume as `v`, by its parts.
 module _ (laws : FilingLaws) (w v : Volume) (same : w ≡ v) (space : OldMapContent) (layout : layout_of v.space ≡ Layout.Old space) (maps : HasMap w) (behind : LieBehind space) (path : Path) (dir : ℕ) (words : FileWords)

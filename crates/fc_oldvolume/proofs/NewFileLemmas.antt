@@ -46,7 +46,7 @@ use Rattle.fc_volume.specs.declared.changes.putting.FileWords.{FileWords}
 use Rattle.fc_volume.specs.Owners.{entry_owner, with_owner}
 use Rattle.fc_volume.proofs.OwnersLemmas.{sectors_long}
 use Rattle.fc_volume.proofs.ReplaceLemmas.{may_rewrite, not_renamed}
-use Rattle.fc_volume.proofs.RewriteLemmas.{says_it, size_of_form}
+use Rattle.fc_volume.proofs.RewriteLemmas.{size_of_form}
 use Rattle.fc_volume.proofs.TargetLemmas as target_of
 use Rattle.fc_oldvolume.specs.declared.putting.NewFile.{NewFile}
 use Rattle.fc_oldvolume.specs.Changing.{WritesPlaces}
@@ -62,6 +62,7 @@ use Rattle.fc_oldvolume.proofs.FileStepLemmas as steps_of
 use Rattle.fc_oldvolume.proofs.RewriteLemmas.{IsDirectoryBytes}
 use Rattle.fc_oldvolume.proofs.RewriteLemmas as rewrite
 use Rattle.fc_oldvolume.proofs.TakingLemmas.{taken_after, taken_edit, taken_holes}
+use Rattle.fc_laws.proofs.lemmas.agree.SayLemmas.{as_directory as says_it}
 
 -- ---- what is ready
 

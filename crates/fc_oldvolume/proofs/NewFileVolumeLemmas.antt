@@ -29,10 +29,10 @@ use Rattle.fc_volume.specs.Admitting.{IsAdmitted}
 use Rattle.fc_oldvolume.specs.Changing.{WritesPlaces}
 use Rattle.fc_oldvolume.specs.Filing.{HasPut, IsFileWritten, nodes_put}
 use Rattle.fc_oldvolume.specs.FilingLaws.{FilingLaws}
-use Rattle.fc_oldvolume.proofs.CdirVolumeLemmas.{same_nodes}
 use Rattle.fc_oldvolume.proofs.NewFileLemmas.{IsReady}
 use Rattle.fc_oldvolume.proofs.NewFileLemmas as new_file
 use Rattle.fc_oldvolume.proofs.SpacedLemmas.{HasNow, has_changed as space_changed, stands_now as space_stands}
+use Rattle.fc_volume.proofs.CdirVolumeLemmas.{same_nodes}
 
 module _ {D : Type 0} (d : Ghosts D) (laws : FilingLaws) (space : OldMapContent) (v : Volume) (old : D) (path : Path) (dir : ℕ) (words : FileWords) (r : NewFile)
     (layout : layout_of v.space ≡ Layout.Old space) (is : IsReady space (nodes_of v.tree) path dir (next_number v.tree) words r) (stands : StandsFor d v old) where

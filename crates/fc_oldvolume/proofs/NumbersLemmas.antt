@@ -114,9 +114,6 @@ module _ (form : NameForm) (move : ℕ → ℕ) (nodes now next : Nodes) (spares
     each = λ n s more at. left.each n s (omega (arith, more)) (sym (set_other spares k n spare (λ e. omega (arith, e, more))) ∙ at);
   }
 
-pub all_left : (nodes : Nodes) (spares : List Spare) (bound : ℕ) → AreSpares nodes bound spares → AreLeft nodes spares bound 0
-all_left nodes spares bound r = record { many = r.many; each = λ n s more at. r.each n s at }
-
 module _ (form : NameForm) (move : ℕ → ℕ) (nodes now next : Nodes) (k : ℕ) (r : AreAddressed form move nodes now k) where
   pub addressed_next : next ≡ with_edited k (addressed form move) now → AreAddressed form move nodes next (k + 1)
   addressed_next is = record {

@@ -32,7 +32,6 @@ use Rattle.fc_volume.specs.Making.{AnswersSpace}
 use Rattle.fc_volume.specs.Replacing.{CanSaveOver}
 use Rattle.fc_volume.specs.Rewrites.{HoldsEntry}
 use Rattle.fc_volume.specs.Volume.{StandsFor, Volume, parts_of}
-use Rattle.fc_volume.proofs.PieceLemmas.{all_low}
 use Rattle.fc_volume.proofs.ReplaceLemmas.{no_gain}
 use Rattle.fc_volume.proofs.SavingLemmas.{of_both}
 use Rattle.fc_volume.proofs.SettingLemmas.{one_content}
@@ -46,9 +45,11 @@ use Rattle.fc_oldvolume.proofs.CdirAskedLemmas.{fits_small}
 use Rattle.fc_oldvolume.proofs.ChangeLemmas.{one_space}
 use Rattle.fc_oldvolume.proofs.JudgedLemmas.{some_sectors, space_is}
 use Rattle.fc_oldvolume.proofs.OverFileLemmas.{IsOver, file_among, file_entry, file_node, file_there}
-use Rattle.fc_oldvolume.proofs.OwnersLemmas.{each_at, object_as}
+use Rattle.fc_oldvolume.proofs.OwnersLemmas.{each_at}
 use Rattle.fc_oldvolume.proofs.SetVolumeLemmas.{HasMap}
 use Rattle.fc_oldvolume.proofs.TargetLemmas.{holds_entry}
+use Rattle.fc_volume.proofs.RenameLemmas.{object_as}
+use Rattle.fc_tree.proofs.ReadingLemmas.{all_on_disk as all_low}
 
 -- `w` is the same volume as `v`, by its parts.
 module _ (laws : FilingLaws) (w v : Volume) (same : w ≡ v) (space : OldMapContent) (layout : layout_of v.space ≡ Layout.Old space) (maps : HasMap w) (behind : LieBehind space) (path : Path) (t : Target) (words : FileWords)

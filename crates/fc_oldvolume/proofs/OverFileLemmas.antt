@@ -51,7 +51,7 @@ use Rattle.fc_volume.specs.Replacing.{HasOwnerNow, owners_with_room}
 use Rattle.fc_volume.proofs.OwnersLemmas.{sectors_long}
 use Rattle.fc_volume.proofs.ReplaceLemmas.{may_rewrite, not_renamed}
 use Rattle.fc_volume.proofs.ReplacedOwnersLemmas.{owners_after}
-use Rattle.fc_volume.proofs.RewriteLemmas.{says_it, size_of_form}
+use Rattle.fc_volume.proofs.RewriteLemmas.{size_of_form}
 use Rattle.fc_volume.proofs.SetLemmas.{entries_now, form_stays}
 use Rattle.fc_volume.proofs.TargetLemmas as target_of
 use Rattle.fc_oldvolume.specs.declared.replacing.Replacement.{Replacement}
@@ -65,10 +65,12 @@ use Rattle.fc_oldvolume.specs.Taking.{IsAddressFor, IsTaken}
 use Rattle.fc_oldvolume.proofs.DeleteVolumeLemmas.{edit_of as given_edit}
 use Rattle.fc_oldvolume.proofs.FilingLemmas.{edit_twice, given_few, given_holes, taken_few, twice_after}
 use Rattle.fc_oldvolume.proofs.FileStepLemmas as steps_of
-use Rattle.fc_oldvolume.proofs.OwnersLemmas.{each_at, object_as}
+use Rattle.fc_oldvolume.proofs.OwnersLemmas.{each_at}
 use Rattle.fc_oldvolume.proofs.RewriteLemmas.{IsDirectoryBytes}
 use Rattle.fc_oldvolume.proofs.RewriteLemmas as rewrite
 use Rattle.fc_oldvolume.proofs.TakingLemmas.{taken_after, taken_edit, taken_holes}
+use Rattle.fc_volume.proofs.RenameLemmas.{object_as}
+use Rattle.fc_laws.proofs.lemmas.agree.SayLemmas.{as_directory as says_it}
 
 -- ---- what is ready
 

@@ -22,8 +22,10 @@ use Rattle.fc_tree.specs.Nodes.{HoldObjects, number_of}
 use Rattle.fc_tree.specs.Parts.{AreOwners, owner_of}
 use Rattle.fc_tree.proofs.MemberLemmas.{found_passes, from_map, in_filter, in_map}
 use Rattle.fc_tree.proofs.PlaceLemmas.{one_path}
-use Rattle.fc_tree.proofs.SoundLemmas.{same_by_folds, same_object}
+use Rattle.fc_tree.proofs.SoundLemmas.{same_object}
 use Rattle.fc_tree.proofs.WalkedLemmas.{find_only, one_object, place_of}
+use Rattle.fc_volume.proofs.RenameLemmas.{object_as}
+use Rattle.fc_image.proofs.CommandLemmas.{same_by_folds}
 
 from_kept : {X : Type 0} (t : X → Bool) (xs : List X) (x : X) → Contains (filter t xs) x → Contains xs x × (t x ≡ true)
 from_kept t [] x at = absurd (omega (arith, at.1))
@@ -86,12 +88,6 @@ module _ (layout : Layout) (nodes : FinMap nat_cmp Node) (listings : List Listin
       by true some (Some own) found = let f = found_passes (is_node node) owners own found in ap (λ (w : Owner). let r : Option Owner = Some w in r) (from_owners own f.0 (eqb-true own.node node f.1)).0
       by false empty None none = refl
       by false empty (Some own) found = let f = found_passes (is_node node) owners own found in absurd (clash (has_sectors o) (from_owners own f.0 (eqb-true own.node node f.1)).1 empty)
-
--- what stands at a path, however it is spelled
-pub object_as : (layout : Layout) (listings : List Listing) → AreSound layout listings → (path : Path) (x : Object) → Contains (objects_of listings) x → is_same_path path x.path ≡ true → object_at listings path ≡ Some x
-object_as layout listings sound path x among same =
-    let w = place_of (objects_of listings) x among in
-    find_only (λ (y : Object). is_same_path path y.path) (objects_of listings) w.0 x w.1 same (λ j y at_y e. one_object layout listings sound path w.0 j x y w.1 at_y same e)
 
 -- each object of a sound walk lies at its address
 pub each_at : (layout : Layout) (listings : List Listing) → AreSound layout listings → (o : Object) → Contains (objects_of listings) o → IsAt layout o

@@ -46,7 +46,6 @@ use Rattle.fc_volume.specs.Renaming.{CanRename, CanTurn, IsRenameReady, IsTurnab
 use Rattle.fc_volume.specs.Rewrites.{HoldsEntry}
 use Rattle.fc_volume.specs.Volume.{StandsFor, Volume, parts_of}
 use Rattle.fc_volume.proofs.AcceptedLemmas.{JudgesRename}
-use Rattle.fc_volume.proofs.PieceLemmas.{all_low}
 use Rattle.fc_volume.proofs.RenameLemmas.{both_same, listed_as, object_as}
 use Rattle.fc_volume.proofs.SettingLemmas.{one_content}
 use Rattle.fc_volume.proofs.TargetLemmas as target_of
@@ -60,6 +59,7 @@ use Rattle.fc_oldvolume.proofs.RenameSpaceLemmas.{lacks_room, rename_takes_none}
 use Rattle.fc_oldvolume.proofs.SetVolumeLemmas.{HasMap}
 use Rattle.fc_oldvolume.proofs.SmallLemmas.{old_form, small_called, small_names, small_of}
 use Rattle.fc_oldvolume.proofs.TargetLemmas.{addressed, holds_entry}
+use Rattle.fc_tree.proofs.ReadingLemmas.{all_on_disk as all_low}
 
 -- what the judge has accepted
 pub accepted_by : (v : Volume) (from to : Path) (form : NameForm) (result : Result Renaming Refusal) → form ≡ dir_form (layout_of v.space) → JudgesRename v from to form result

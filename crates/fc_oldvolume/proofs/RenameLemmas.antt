@@ -27,13 +27,11 @@ use Rattle.fc_image.specs.Report.{holder_address}
 use Rattle.fc_image.specs.Sound.{AreSound}
 use Rattle.fc_image.specs.Stays.{OpensAs}
 use Rattle.fc_image.specs.Walk.{Listing, Object, is_directory_object, object_bytes, object_size}
-use Rattle.fc_image.proofs.PathsLemmas.{unless}
 use Rattle.fc_objects.specs.Extents.{sectors_in}
 use Rattle.fc_tree.specs.Agree.{Agree, HasForm}
 use Rattle.fc_tree.specs.Counts.{address_in}
 use Rattle.fc_tree.specs.Nodes.{HoldObjects, body_in}
 use Rattle.fc_tree.specs.Parts.{AreOwners, Parts}
-use Rattle.fc_tree.proofs.MemberLemmas.{contains_later}
 use Rattle.fc_tree.proofs.WalkedLemmas.{child_is_object, child_path, contained, holder-push, listed_directory, listing_found, same_some}
 use Rattle.fc_laws.specs.nodes.Edits.{IsRenamed, Nodes, NodesFollow, OwnersFollow, as_moved, relisted, with_body, with_entry, with_own_body}
 use Rattle.fc_oldchanges.specs.Owed.{IsBefore, IsWritten}
@@ -48,7 +46,7 @@ use Rattle.fc_volume.specs.declared.changes.relocate.Relocation.{Relocation}
 use Rattle.fc_volume.specs.Relocating.{more_sectors, relocated, sectors_of_relocation}
 use Rattle.fc_volume.specs.Renaming.{IsRenameReady, IsTurned}
 use Rattle.fc_volume.proofs.RenameLemmas.{IsLongOwn, can_say, moved_at, named_in, renamed_form, renamed_small, second_true, too_long, turned_round, without_source}
-use Rattle.fc_volume.proofs.RewriteLemmas.{says_it, size_of_form}
+use Rattle.fc_volume.proofs.RewriteLemmas.{size_of_form}
 use Rattle.fc_volume.proofs.TurnedLemmas.{Turns, now_of, sectors_turned, turns, with_turned}
 use Rattle.fc_volume.proofs.TargetLemmas as target_of
 use Rattle.fc_oldvolume.specs.Changing.{WritesPlaces}
@@ -58,6 +56,9 @@ use Rattle.fc_oldvolume.specs.Spaces.{LieBehind}
 use Rattle.fc_oldvolume.proofs.RewriteLemmas.{IsDirectoryBytes}
 use Rattle.fc_oldvolume.proofs.RewriteLemmas as rewrite
 use Rattle.fc_oldvolume.proofs.TurnedLemmas.{own_written, turned_off}
+use Rattle.std.proofs.lemmas.Bool.{false_from_ne_true as unless}
+use Rattle.fc_image.proofs.EntriesLemmas.{later as contains_later}
+use Rattle.fc_laws.proofs.lemmas.agree.SayLemmas.{as_directory as says_it}
 
 -- ---- the edit
 

@@ -5,7 +5,7 @@ use Rattle.std.specs.Int.{div_ceil}
 use Rattle.std.specs.List.{flat_map, range_with_len}
 use Rattle.std.specs.Option.{option_map}
 use Rattle.std.specs.FinMap.{get}
-use Rattle.std.proofs.lemmas.Bool.{cases_lt, eqb-true}
+use Rattle.std.proofs.lemmas.Bool.{cases_lt, eqb-true, false_from_ne_true as unless}
 use Rattle.std.proofs.lemmas.List.FromFn.{get_or-range_with_len, length-range_with_len}
 use Rattle.fc_record.specs.declared.Kind.{Kind}
 use Rattle.fc_names.specs.declared.name.NameForm.{NameForm}
@@ -26,9 +26,9 @@ use Rattle.fc_image.proofs.FreeLemmas.{among_range}
 use Rattle.fc_image.proofs.HolesLemmas.{Each-contains, Each-objects, Lies, walk_lies}
 use Rattle.fc_objects.specs.Extents.{sectors_in}
 use Rattle.fc_objects.specs.Written.{IsPartWritten}
-use Rattle.fc_changes.proofs.BasicLemmas.{clash, unless}
+use Rattle.fc_changes.proofs.BasicLemmas.{clash}
 use Rattle.fc_oldchanges.specs.Owed.{IsWritten, holding}
-use Rattle.fc_oldchanges.proofs.PlaceLemmas.{among_flat, row_or_none}
+use Rattle.fc_oldchanges.proofs.PlaceLemmas.{row_or_none}
 use Rattle.fc_tree.specs.declared.node.Body.{Body}
 use Rattle.fc_tree.specs.declared.node.Body.TheVariants as bodies
 use Rattle.fc_tree.specs.declared.node.Node.{Node}
@@ -41,7 +41,7 @@ use Rattle.fc_oldlaws.specs.moves.Nodes.{AreMoved, body_after, node_after}
 use Rattle.fc_oldlaws.specs.moves.Writes.{AreDirectoriesPlaced, IsDirAt, row_of}
 use Rattle.fc_oldlaws.proofs.lemmas.moves.PlaceLemmas.{Case, Start, came_from, case_of, had, holes_as, in_now, no_sectors, root_in, root_stays}
 use Rattle.fc_oldlaws.proofs.lemmas.moves.StartLemmas.{body, of_body}
-use Rattle.fc_oldlaws.proofs.lemmas.moves.WritesLemmas.{in_row, listing_by}
+use Rattle.fc_oldlaws.proofs.lemmas.moves.WritesLemmas.{in_row, listing_by, small_was}
 use Rattle.fc_device.specs.declared.disk.Disk.{Ghosts}
 use Rattle.fc_squash.specs.Places.{ChangesRoom, ChangesRow, Leaves}
 use Rattle.fc_squash.proofs.RoomLemmas.{leaves_then}
@@ -49,6 +49,7 @@ use Rattle.fc_squash.specs.Squashing.{KeepsBodies}
 use Rattle.fc_oldvolume.specs.Compacting.{HaveDirectories, IsRoom, WritesOnlyRoom, room_of, slide_by}
 use Rattle.fc_oldvolume.proofs.ChangeLemmas.{written_then}
 use Rattle.fc_oldvolume.proofs.RowsLemmas.{one_row}
+use Rattle.fc_changes.proofs.PlacedLemmas.{is_in_flat as among_flat}
 
 -- ---- what is written
 
@@ -150,11 +151,6 @@ only_room view space image other w = record {
     ])
 
 -- ---- where directories slide to
-
-small_was : (form : NameForm) (move : ℕ → ℕ) (a : ℕ) (b : Body) (dir : SmallDir) → body_after form move a b ≡ bodies.Small dir → (d : SmallDir) × (b ≡ bodies.Small d)
-small_was form move a bodies.File dir e = absurd (cc)
-small_was form move a (bodies.Small d) dir e = (d, refl)
-small_was form move a (bodies.Big d) dir e = absurd (cc)
 
 module _ (s : Slide) (nodes nodes' : Nodes) (listings : List Listing) (sound : AreSound (Layout.Old s.space) listings) (held : HoldObjects nodes listings) (moved : AreMoved s nodes nodes') where
   abbrev form : NameForm

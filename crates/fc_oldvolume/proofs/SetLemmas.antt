@@ -37,18 +37,15 @@ use Rattle.fc_refusals.specs.Targets.{IsTarget}
 use Rattle.fc_volume.specs.declared.changes.reword.Rewording.{Rewording}
 use Rattle.fc_volume.specs.Setting.{IsSetReady}
 use Rattle.fc_volume.specs.Storing.{AreStored}
-use Rattle.fc_volume.proofs.RewriteLemmas.{says_it, size_of_form}
-use Rattle.fc_volume.proofs.SetLemmas.{entries_now, form_stays}
+use Rattle.fc_volume.proofs.RewriteLemmas.{size_of_form}
+use Rattle.fc_volume.proofs.SetLemmas.{entries_now, form_stays, set_own}
 use Rattle.fc_volume.proofs.TargetLemmas as target_of
 use Rattle.fc_oldvolume.specs.Changing.{WritesPlaces}
 use Rattle.fc_oldvolume.specs.Laws.{OldLaws}
 use Rattle.fc_oldvolume.specs.Spaces.{LieBehind}
 use Rattle.fc_oldvolume.proofs.RewriteLemmas.{IsDirectoryBytes}
 use Rattle.fc_oldvolume.proofs.RewriteLemmas as rewrite
-
-set_own : (path : Path) (load exec access : ℕ) (o : Object) → is_same_path path o.path ≡ true → (set_object path load exec access o).entry ≡ set_entry o.entry load exec access
-set_own path load exec access o same =
-    ap (λ (b : Bool). (cond b (record o { entry = set_entry o.entry load exec access }) o).entry) same
+use Rattle.fc_laws.proofs.lemmas.agree.SayLemmas.{as_directory as says_it}
 
 -- ---- the edit
 

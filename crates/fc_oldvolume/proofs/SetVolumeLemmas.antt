@@ -33,7 +33,6 @@ use Rattle.fc_volume.specs.Rewrites.{HoldsEntry}
 use Rattle.fc_volume.specs.Setting.{HasReworded, IsSetReady}
 use Rattle.fc_volume.specs.Storing.{AreStored}
 use Rattle.fc_volume.specs.Volume.{HasCopies, HoldsMap, StandsFor, Volume, parts_of}
-use Rattle.fc_volume.proofs.PieceLemmas.{all_low}
 use Rattle.fc_oldvolume.specs.Changing.{WritesNoMap, WritesPlaces}
 use Rattle.fc_oldvolume.specs.Laws.{OldLaws}
 use Rattle.fc_oldvolume.specs.Spaces.{LieBehind}
@@ -42,6 +41,8 @@ use Rattle.fc_oldvolume.proofs.WritingLemmas.{kept_to}
 use Rattle.fc_oldvolume.proofs.SetLemmas.{IsReady}
 use Rattle.fc_oldvolume.proofs.SetLemmas as set
 use Rattle.fc_oldvolume.proofs.TargetLemmas.{holds_entry}
+use Rattle.fc_volume.proofs.SetVolumeLemmas.{IsAimed}
+use Rattle.fc_tree.proofs.ReadingLemmas.{all_on_disk as all_low}
 
 -- ---- what is known of a volume with an old map
 
@@ -137,10 +138,6 @@ module _ {D : Type 0} (d : Ghosts D) (laws : OldLaws) (space : OldMapContent) (v
     }
 
 -- ---- what is asked before the writing
-
--- The target is right for each walk whose objects the nodes of a volume hold.
-abbrev pub IsAimed : Volume → Path → Target → Type 0
-IsAimed v path t = (layout : Layout) (listings : List Listing) → AreSound layout listings → HoldObjects (nodes_of v.tree) listings → IsTarget (nodes_of v.tree) listings path t
 
 -- `w` is the same volume as `v`, by its parts.
 module _ (w v : Volume) (same : w ≡ v) (space : OldMapContent) (layout : layout_of v.space ≡ Layout.Old space) (maps : HasMap w) (path : Path) (t : Target) (aimed : IsAimed w path t) where

@@ -2,7 +2,7 @@
 use Rattle.std.proofs.Common.{◌≡◌, ◌≤◌, ◌&&◌, ◌==◌, ℕ, Bool, true, false, cond, List, length, refl, sym, subst, ◌∙◌}
 use Rattle.std.specs.Prelude.{nat_le}
 use Rattle.std.specs.Int.{is_in_range}
-use Rattle.std.proofs.lemmas.Bool.{leb-true}
+use Rattle.std.proofs.lemmas.Bool.{leb-true, and_parts as both_true}
 use Rattle.fc_names.specs.declared.name.NameForm.{NameForm}
 use Rattle.fc_names.specs.declared.name.NameForm.TheVariants as forms
 use Rattle.fc_names.specs.Names.{is_writable}
@@ -52,11 +52,6 @@ small_holds forms.Ten a b (Directory.Small x) (Directory.Small y) e is h k can =
 small_holds forms.Ten a b (Directory.Big x) y e is h k can = absurd h
 small_holds forms.Ten a b (Directory.Small x) (Directory.Big y) e is h k can = absurd k
 small_holds forms.Long a b old new e is h k can = absurd is
-
-both_true : (a b : Bool) → (a && b) ≡ true → (a ≡ true) × (b ≡ true)
-both_true true true e = (refl, refl)
-both_true true false e = absurd (cc)
-both_true false b e = absurd (cc)
 
 short_name : (name : List ℕ) (b : Bool) → (is_in_range 1 10 (length name) && b) ≡ true → length name ≤ 10
 short_name name b e = leb-true (length name) 10 (both_true (nat_le 1 (length name)) (nat_le (length name) 10) (both_true (is_in_range 1 10 (length name)) b e).0).1

@@ -74,12 +74,6 @@ never_so_many space n is many =
 pub whole_need : (space : OldMapContent) (n : ℕ) → IsOldMap space → old_need space n % space.sector_units ≡ 0
 whole_need space n is = none_over space.sector_units is.units (div_ceil n (256 * space.sector_units))
 
-pub some_need : (space : OldMapContent) (n : ℕ) → IsOldMap space → 0 < n → 0 < old_need space n
-some_need space n is some = let e = need_some space n is.units some in positive (old_need space n) e
-  where
-    positive : (k : ℕ) → (k == 0) ≡ false → 0 < k
-    positive k e = grind (arith, nat_tests, e)
-
 -- ---- what is answered
 
 -- the refusal, by what it is judged on
@@ -89,29 +83,8 @@ lack less some place = first_of (when less refusals.DiscFull ∷ when (some && i
 never_both : (start : ℕ) (e : TakeError) → (let r : Result ℕ TakeError = Ok start in r) ≡ Err e → ⊥
 never_both start e is = cc
 
-one_error : (a b : TakeError) → (let r : Result ℕ TakeError = Err a in r) ≡ Err b → a ≡ b
-one_error a b is = cc
-
 one_start : (a b : ℕ) → (let r : Result ℕ TakeError = Ok a in r) ≡ Ok b → a ≡ b
 one_start a b is = cc
-
-refusal_for : (a b : TakeError) → a ≡ b → (let o : Option Refusal = Some (refused_take a) in o) ≡ Some (refused_take b)
-refusal_for a b same = ap (λ (e : TakeError). let o : Option Refusal = Some (refused_take e) in o) same
-
--- Where the map answers an error, the command is refused for it.
-pub lacks : (space : OldMapContent) (n : ℕ) (e : TakeError) → IsOldMap space → 0 < n → take_answer (old_need space n) space.holes ≡ Err e → taking_refusal space n ≡ Some (refused_take e)
-lacks space n e is some answer = by (first_fit_place (old_need space n) space.holes) (nat_lt (hole_sum space.holes) (old_need space n)) refl refl
-  where
-    by : (o : Option ℕ) (b : Bool) → first_fit_place (old_need space n) space.holes ≡ o → nat_lt (hole_sum space.holes) (old_need space n) ≡ b → taking_refusal space n ≡ Some (refused_take e)
-    by (Some start) b at t = absurd (never_both start e (sym (take_answer-some (old_need space n) start space.holes at) ∙ answer))
-    by None true at t =
-        ap (λ (x : Bool). lack x (nat_lt 0 (old_need space n)) (first_fit_place (old_need space n) space.holes)) t
-        ∙ refusal_for DiscFull e (one_error DiscFull e (sym (take_answer-none (old_need space n) space.holes at ∙ ap shortage t) ∙ answer))
-    by None false at t =
-        ap (λ (x : Bool). lack x (nat_lt 0 (old_need space n)) (first_fit_place (old_need space n) space.holes)) t
-        ∙ ap (λ (x : Bool). lack false x (first_fit_place (old_need space n) space.holes)) (lt-ltb 0 (old_need space n) (some_need space n is some))
-        ∙ ap (lack false true) at
-        ∙ refusal_for CompactionRequired e (one_error CompactionRequired e (sym (take_answer-none (old_need space n) space.holes at ∙ ap shortage t) ∙ answer))
 
 -- Where it answers a place, that is the first fit,
 pub fits_at : (n start : ℕ) (holes : List Hole) → take_answer n holes ≡ Ok start → first_fit_place n holes ≡ Some start

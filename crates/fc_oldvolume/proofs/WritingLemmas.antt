@@ -12,7 +12,6 @@ use Rattle.fc_device.specs.Sectors.{row_at, sector_at}
 use Rattle.std.specs.Prelude.{All, Option, Some}
 use Rattle.fc_device.specs.declared.disk.Disk.{Ghosts}
 use Rattle.fc_device.specs.Calls.{StopsAndExitsLeave}
-use Rattle.fc_volume.proofs.PieceLemmas.{all_low}
 use Rattle.fc_image.proofs.FreeLemmas.{range_bounds}
 use Rattle.fc_image.specs.Layout.{Layout, is_among, map_place}
 use Rattle.fc_objects.specs.Bytes.{first_bytes}
@@ -22,6 +21,7 @@ use Rattle.fc_objects.proofs.BlockLemmas.{row_bytes}
 use Rattle.fc_oldmap.specs.OldMap.{OldMapContent, map_units, with_holes}
 use Rattle.fc_oldchanges.specs.Owed.{IsWritten, holding}
 use Rattle.fc_oldvolume.specs.Writing.{ChangesFront, IsFrontWritten, IsMapWritten}
+use Rattle.fc_tree.proofs.ReadingLemmas.{all_on_disk as all_low}
 
 pub row_is : (row : Extent) → row.first ≡ 0 → sectors_in (row ∷ []) ≡ range_with_len 0 row.sectors
 row_is row first = append-nil (range_with_len row.first row.sectors) ∙ ap (λ (n : ℕ). range_with_len n row.sectors) first

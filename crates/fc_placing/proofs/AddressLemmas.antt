@@ -23,18 +23,12 @@ use Rattle.fc_changes.proofs.BasicLemmas.{in_flat}
 use Rattle.fc_changes.proofs.PlacedLemmas.{found_in}
 use Rattle.fc_placing.specs.Places.{IsOwnPlan, slack_left}
 use Rattle.fc_placing.proofs.SpaceLemmas.{low_in_range}
+use Rattle.fc_space.proofs.GeometryLemmas.{share_of}
 
 -- ---- the geometry's numbers
 
 pub bit_positive : (g : Geometry) → IsOfRecord g → 1 ≤ g.bit_bytes
 bit_positive g is = subst (λ (h : Geometry). 1 ≤ h.bit_bytes) is.1.1 (pow_pos is.0.log2_bit)
-
-share_of : (r : DiscRecord) → is_valid r ≡ true → r.log2_share < 16 → (geometry r).share ≤ 2 ^ 25
-share_of r is low =
-    let facts = facts_of_valid r is in
-    let small : 2 ^ r.log2_sector ≤ 2 ^ 10 = pow-le-pow_right {n = 2} (omega arith) facts.sector_high in
-    let few : 2 ^ r.log2_share ≤ 2 ^ 15 = pow-le-pow_right {n = 2} (omega arith) (let e : r.log2_share ≤ 15 = omega arith in e) in
-    mul-le (2 ^ r.log2_sector) (2 ^ r.log2_share) (2 ^ 10) (2 ^ 15) small few
 
 pub share_low : (g : Geometry) → IsOfRecord g → g.share ≤ 2 ^ 25
 share_low g is = subst (λ (h : Geometry). h.share ≤ 2 ^ 25) is.1.1 (share_of is.0 is.1.0 is.1.2)

@@ -4,7 +4,7 @@ use Rattle.std.specs.Prelude.{Contains, IsPermutation, filter, not, is_some, nat
 use Rattle.std.specs.List.{list_any}
 use Rattle.std.specs.FinMap.{FinMap}
 use Rattle.std.specs.Option.{option_map_or, unwrap_or}
-use Rattle.std.proofs.lemmas.Bool.{eqb-true, lt-ltb, ltb-true}
+use Rattle.std.proofs.lemmas.Bool.{eqb-true, lt-ltb, ltb-true, false_from_ne_true as unless, not-true as not_true}
 use Rattle.std.proofs.lemmas.List.Sorted.{IsPermutation-remove}
 use Rattle.fc_names.specs.Names.{Path, folded_path, is_same_path}
 use Rattle.fc_alloc.specs.declared.owner.Owner.{Owner}
@@ -19,25 +19,24 @@ use Rattle.fc_image.specs.Edits.{IsAt}
 use Rattle.fc_image.specs.Objects.{has_sectors, is_owner_of, objects_of, owner_count}
 use Rattle.fc_image.specs.Sound.{AreSound}
 use Rattle.fc_image.proofs.LookupLemmas.{lookup_law}
-use Rattle.fc_image.proofs.MoveLemmas.{not_true}
-use Rattle.fc_image.proofs.OneZoneLemmas.{and_first}
 use Rattle.fc_image.proofs.PathsLemmas.{many}
 use Rattle.fc_image.proofs.RelistLemmas.{folded_long}
 use Rattle.fc_image.proofs.RenameLemmas.{many_shuffled}
 use Rattle.fc_image.specs.effects.Sharing.{units}
 use Rattle.fc_image.specs.effects.Short.{is_copied, is_sharing, new_length, object_units, slack_for}
-use Rattle.fc_changes.proofs.BasicLemmas.{unless}
 use Rattle.fc_changes.proofs.BesideLemmas.{counted, three}
 use Rattle.fc_changes.proofs.MovedLemmas.{holder_folds}
 use Rattle.fc_tree.specs.declared.node.Node.{Node}
 use Rattle.fc_tree.specs.Nodes.{HoldObjects, number_of}
 use Rattle.fc_tree.specs.Parts.{AreOwners, owner_of}
 use Rattle.fc_tree.proofs.PlaceLemmas.{one_path, same_number}
-use Rattle.fc_tree.proofs.SoundLemmas.{folds_alike, same_by_folds}
+use Rattle.fc_tree.proofs.SoundLemmas.{folds_alike}
 use Rattle.fc_tree.proofs.WalkedLemmas.{same_some}
 use Rattle.fc_placing.specs.Copying.{CopiesLaw, SaysCopied, copied_among, copied_of}
 use Rattle.fc_placing.proofs.LeavingLemmas.{others_are, owner_is}
 use Rattle.fc_placing.proofs.PlacesLemmas.{none_refused, short_is, space_refusal}
+use Rattle.fc_record.proofs.KindLemmas.{and_first}
+use Rattle.fc_image.proofs.CommandLemmas.{same_by_folds}
 
 -- one passes, if some do
 any_many : (t : Object → Bool) (xs : List Object) → list_any t xs ≡ nat_lt 0 (many t xs)

@@ -43,6 +43,8 @@ use Rattle.fc_placing.specs.Places.{IsOwnPlan}
 use Rattle.fc_placing.specs.Space.{HasTaken}
 use Rattle.fc_placing.proofs.AddressLemmas.{bit_positive}
 use Rattle.fc_placing.proofs.SpaceLemmas.{low_in_range}
+use Rattle.fc_slack.proofs.LowLemmas.{not_le as over}
+use Rattle.fc_plan.proofs.Applies.{and_true}
 
 -- ---- lists
 
@@ -53,10 +55,6 @@ take_append zero xs ys = by (0 - length xs) (omega arith)
     by k e = sym (ap (λ (j : ℕ). take j ys) e)
 take_append (suc n) [] ys = ap (λ (k : ℕ). take k ys) (let e : suc n ≡ suc n - length (let none : List ℕ = [] in none) = omega arith in e)
 take_append (suc n) (x ∷ xs) ys = ap (λ (zs : List ℕ). x ∷ zs) (take_append n xs ys) ∙ ap (λ (k : ℕ). x ∷ (take n xs ++ take k ys)) (let e : n - length xs ≡ suc n - suc (length xs) = omega arith in e)
-
-take_none : (n : ℕ) → take n (let none : List ℕ = [] in none) ≡ []
-take_none zero = refl
-take_none (suc n) = refl
 
 pub sectors_append : (g : Geometry) (xs ys : List ZoneRun) → sectors_of g (xs ++ ys) ≡ sectors_of g xs ++ sectors_of g ys
 sectors_append g xs ys = flat_map-append (run_sectors g) xs ys
@@ -120,13 +118,6 @@ filter_same t s (p ∷ ps) same = ap₂ (λ (b : Bool) (qs : List ZoneRun). cond
 not_both : (a b : ℕ) → (a ≡ b → ⊥) → (a == b) ≡ false
 not_both a b ne = ne_eqb a b ne
 
-over : (a b : ℕ) → b < a → nat_le a b ≡ false
-over a b less = by (nat_le a b) refl
-  where
-    by : (t : Bool) → nat_le a b ≡ t → t ≡ false
-    by true e = absurd (let h = leb-true a b e in omega arith)
-    by false e = refl
-
 module _ (a n : ℕ) where
   at_first : (p : ZoneRun) → p.0 ≡ a → ((p.0 == a) ≡ true) × (within (a + 1) n p ≡ false) × (within a (suc n) p ≡ true)
   unfolding within
@@ -188,10 +179,6 @@ by_zones zero a ps rising = sym (no_filter (within a 0) ps (λ p at. outside p))
     ]
 by_zones (suc zero) a ps rising = ap (λ (qs : List ZoneRun). filter (λ p. p.0 == a) ps ++ qs) (by_zones zero (a + 1) ps rising) ∙ one_zone a zero ps rising
 by_zones (suc (suc n)) a ps rising = ap (λ (qs : List ZoneRun). filter (λ p. p.0 == a) ps ++ qs) (by_zones (suc n) (a + 1) ps rising) ∙ one_zone a (suc n) ps rising
-
-and_true : (b : Bool) → (b && true) ≡ b
-and_true true = refl
-and_true false = refl
 
 -- first those that are met before the search turns, then the others
 pub ordered : (g : Geometry) (id : ℕ) (parts : List ZoneRun) → AllPairs BeginsBefore parts → ((p : ZoneRun) → Contains parts p → p.0 < g.zones)

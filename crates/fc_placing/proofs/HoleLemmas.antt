@@ -36,7 +36,7 @@ front_holds g hole part s size front holds =
     let to = holds.to in
     record { from = omega (arith, first, from); to = omega (arith, first, to, count) }
 
-taken_from : (n : ℕ) (xs : List ℕ) (s : ℕ) → is_among (take n xs) s ≡ true → is_among xs s ≡ true
+pub taken_from : (n : ℕ) (xs : List ℕ) (s : ℕ) → is_among (take n xs) s ≡ true → is_among xs s ≡ true
 taken_from n xs s h = subst (λ (ys : List ℕ). is_among ys s ≡ true) (take-append-drop n xs) (in_front (take n xs) (drop n xs) s h)
 
 module _ (m : Map) (is : IsNewMap m) (bytes : ℕ) (plan : Plan) (own : IsOwnPlan m bytes plan) where

@@ -25,9 +25,10 @@ use Rattle.fc_tree.specs.Nodes.{HoldObjects, number_of}
 use Rattle.fc_tree.specs.Parts.{AreOwners, owner_of}
 use Rattle.fc_tree.proofs.MemberLemmas.{found_passes, from_map, in_filter, in_map, many_permuted, some_many}
 use Rattle.fc_tree.proofs.PlaceLemmas.{one_path}
-use Rattle.fc_tree.proofs.SoundLemmas.{same_by_folds, same_object}
+use Rattle.fc_tree.proofs.SoundLemmas.{same_object}
 use Rattle.fc_tree.proofs.WalkedLemmas.{few_objects}
 use Rattle.fc_placing.specs.Leaving.{LeavesIds, OwnOnly, has_other, is_kept, left_among, left_of}
+use Rattle.fc_image.proofs.CommandLemmas.{same_by_folds}
 
 -- ---- lists
 
@@ -53,7 +54,7 @@ any_append p (x ∷ xs) ys = ap (λ (b : Bool). p x || b) (any_append p xs ys) �
     or_assoc true b c = refl
     or_assoc false b c = refl
 
-from_kept : {X : Type 0} (t : X → Bool) (xs : List X) (x : X) → Contains (filter t xs) x → Contains xs x × (t x ≡ true)
+pub from_kept : {X : Type 0} (t : X → Bool) (xs : List X) (x : X) → Contains (filter t xs) x → Contains xs x × (t x ≡ true)
 from_kept t [] x at = absurd (omega (arith, at.1))
 from_kept {X} t (y ∷ xs) x at = by (t y) refl at (from_kept t xs x)
   where
@@ -64,7 +65,7 @@ from_kept {X} t (y ∷ xs) x at = by (t y) refl at (from_kept t xs x)
     ]
     by false e h more = let r = more h in (next_in y x xs r.0, r.1)
 
-none_or_some : {X : Type 0} (t : X → Bool) (xs : List X) (x : X) → Contains xs x → t x ≡ true → (find t xs ≡ None → ⊥)
+pub none_or_some : {X : Type 0} (t : X → Bool) (xs : List X) (x : X) → Contains xs x → t x ≡ true → (find t xs ≡ None → ⊥)
 none_or_some t [] x at h none = omega (arith, at.1)
 none_or_some {X} t (y ∷ xs) x at h none = by (t y) refl none (cases_cons y xs x at) (λ later is. none_or_some t xs x later h is)
   where

@@ -36,7 +36,7 @@ use Rattle.fc_placing.proofs.SlackLemmas.{same_slack}
 alone : (m : Map) (bytes low : ℕ) (plan : Plan) (o : Object) → IsOwnPlan m bytes plan → o.entry.address ≡ 256 * plan.id + low → IsInNewSpace m bytes low plan.id (fronts plan.parts.items) o
 alone m bytes low plan o own address = record { some = own.some; is_new = own.is_new; plan = own.plan; address = address }
 
-id_at : (id low : ℕ) → low < 256 → id_of (256 * id + low) ≡ id
+pub id_at : (id low : ℕ) → low < 256 → id_of (256 * id + low) ≡ id
 id_at id low small = omega (arith, small)
 
 low_small : (b : Bool) → cond b 1 0 < 256

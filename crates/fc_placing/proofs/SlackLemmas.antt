@@ -28,10 +28,11 @@ use Rattle.fc_tree.specs.declared.node.Node.{Node}
 use Rattle.fc_tree.specs.Nodes.{HoldObjects, number_of}
 use Rattle.fc_tree.specs.Parts.{AreOwners, owner_of}
 use Rattle.fc_tree.proofs.PlaceLemmas.{one_path, same_number}
-use Rattle.fc_tree.proofs.SoundLemmas.{folds_alike, same_by_folds}
+use Rattle.fc_tree.proofs.SoundLemmas.{folds_alike}
 use Rattle.fc_tree.proofs.WalkedLemmas.{same_some}
 use Rattle.fc_changes.proofs.BasicLemmas.{first_in, next_in}
 use Rattle.fc_placing.specs.Places.{SlackLaw}
+use Rattle.fc_image.proofs.CommandLemmas.{same_by_folds}
 
 -- ---- lists
 

@@ -39,12 +39,14 @@ use Rattle.fc_device.specs.Sectors.{sector_at}
 use Rattle.fc_image.specs.Layout.{is_among}
 use Rattle.fc_changes.specs.Owed.{IsMapAfter, IsSpaceEdit, IsWritten}
 use Rattle.fc_changes.proofs.BasicLemmas.{cases_cons, clash, first_in, next_in, or_false}
-use Rattle.fc_changes.proofs.CommittedLemmas.{geometry_same, index_part, kept_links, record_same, steady_zone}
+use Rattle.fc_changes.proofs.CommittedLemmas.{geometry_same, index_part, kept_links, record_same, steady_zone, all_same}
 use Rattle.fc_placing.specs.Space.{HasTaken, IsMapEdited, StepsLaw, zones_changed}
+use Rattle.fc_record.proofs.KindLemmas.{or_first, or_second}
+use Rattle.fc_placing.proofs.LeavingLemmas.{any_append}
 
 -- ---- the zones that change
 
-range_rises : (from n : ℕ) → IsStrictlyIncreasing (range_with_len from n)
+pub range_rises : (from n : ℕ) → IsStrictlyIncreasing (range_with_len from n)
 range_rises from n k lt =
     let size = length-range_with_len from n in
     omega (arith, get_or-range_with_len from n k 0 (omega (arith, lt, size)), get_or-range_with_len from n (k + 1) 0 (omega (arith, lt, size)))
@@ -65,14 +67,6 @@ module _ (m : Map) (plan : Option Plan) (gone zones : List ℕ) (are : zones ≡
 
   pub unlisted : (z : ℕ) → z < m.geometry.zones → (Contains zones z → ⊥) → is_changed m plan None gone z ≡ false
   unlisted z low none = not_listed (is_changed m plan None gone) m.geometry.zones z [] zones are low none
-
-or_first : (a b : Bool) → (a || b) ≡ false → a ≡ false
-or_first true b h = absurd (cc)
-or_first false b h = refl
-
-or_second : (a b : Bool) → (a || b) ≡ false → b ≡ false
-or_second true b h = absurd (cc)
-or_second false b h = h
 
 -- zones in which nothing goes back stay
 pub others_given : (m mid : Map) (gone zones : List ℕ) → zones ≡ zones_changed m None gone → KeepsZones (λ z. has_run_of gone (runs_of m z)) m mid
@@ -105,10 +99,6 @@ pub gave : (m mid : Map) (gone : List ℕ) → AreEdits m mid
 gave m mid gone edits holes of_ids = record { edits = edits; holes = holes; of_ids = of_ids }
 
 -- ---- a map with the same runs
-
-all_same : (m m' : Map) → KeepsRuns m m' → (zones : List ℕ) → runs_in m' zones ≡ runs_in m zones
-all_same m m' kept [] = refl
-all_same m m' kept (z ∷ zones) = ap₂ (λ (runs : List Run) (others : List ZoneRun). placed z runs ++ others) (kept.runs z) (all_same m m' kept zones)
 
 holes_same : (m m' : Map) → KeepsRuns m m' → hole_runs m' ≡ hole_runs m
 holes_same m m' kept =
@@ -234,14 +224,6 @@ taken_then m mid m' id parts gone is a taken b given stays = record {
 }
 
 -- ---- the zones of what goes back later
-
-any_append : {X : Type 0} (p : X → Bool) (xs ys : List X) → list_any p (xs ++ ys) ≡ (list_any p xs || list_any p ys)
-any_append p [] ys = refl
-any_append p (x ∷ xs) ys = ap (λ (b : Bool). p x || b) (any_append p xs ys) ∙ or_assoc (p x) (list_any p xs) (list_any p ys)
-  where
-    or_assoc : (a b c : Bool) → (a || (b || c)) ≡ ((a || b) || c)
-    or_assoc true b c = refl
-    or_assoc false b c = refl
 
 module _ (gone : List ℕ) (id : ℕ) (parts : List ZoneRun) (stays : is_one_of gone id ≡ false) (z : ℕ) where
   abbrev goes : Run → Bool

@@ -4,7 +4,7 @@ use Rattle.std.specs.Prelude.{Contains}
 use Rattle.std.specs.List.{find}
 use Rattle.std.specs.FinMap.{FinMap}
 use Rattle.std.specs.Option.{option_and_then, option_to_list}
-use Rattle.std.proofs.lemmas.Bool.{eqb-true, ltb-true}
+use Rattle.std.proofs.lemmas.Bool.{eqb-true, ltb-true, false_from_ne_true as unless}
 use Rattle.std.proofs.lemmas.List.Sorted.{Contains-permutation}
 use Rattle.fc_alloc.specs.declared.owner.Owner.{Owner}
 use Rattle.fc_alloc.specs.Owners.{is_node}
@@ -19,7 +19,7 @@ use Rattle.fc_image.specs.Edits.{IsAt}
 use Rattle.fc_image.proofs.EntriesLemmas.{from_filter}
 use Rattle.fc_image.proofs.HolesLemmas.{Each-contains, Each-objects, Lies, walk_lies}
 use Rattle.fc_plan.specs.Giving.{is_one_of}
-use Rattle.fc_changes.proofs.BasicLemmas.{or_false, unless}
+use Rattle.fc_changes.proofs.BasicLemmas.{or_false}
 use Rattle.fc_changes.proofs.PlacedLemmas.{filter_test}
 use Rattle.fc_changes.proofs.SpaceLemmas.{no_runs}
 use Rattle.fc_tree.specs.declared.node.Node.{Node}

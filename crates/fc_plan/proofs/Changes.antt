@@ -10,7 +10,7 @@ use Rattle.fc_newmap.specs.Map.{ZoneRun}
 use Rattle.fc_newmap.specs.RunsLaw.{placed}
 use Rattle.fc_image.specs.effects.Steady.{has_id_that}
 use Rattle.fc_plan.specs.Giving.{has_run_of, is_one_of}
-use Rattle.fc_plan.proofs.MapLemmas.{either_test}
+use Rattle.std.proofs.lemmas.Bool.{cases_Bool as either_test}
 
 -- ---- the runs of a zone
 
@@ -36,9 +36,6 @@ pub record ArePassed (t : ℕ → Bool) (n at : ℕ) (old now : List ℕ) : Type
   pub is : now ≡ old ++ more
   pub rest : more ++ filter t (range_with_len at (n - at)) ≡ filter t (range_with_len 0 n)
 
-pub none_passed : (t : ℕ → Bool) (n : ℕ) (old : List ℕ) → ArePassed t n 0 old old
-none_passed t n old = record { more = []; is = sym (append-nil old); rest = ap (λ (k : ℕ). filter t (range_with_len 0 k)) (let e : n - 0 ≡ n = omega arith in e) }
-
 pub one_passed : (t : ℕ → Bool) (n at : ℕ) (old now then : List ℕ) → ArePassed t n at old now → at < n → t at ≡ true → then ≡ now ++ at ∷ [] → ArePassed t n (at + 1) old then
 one_passed t n at old now then so_far low test is = record {
   more = so_far.more ++ at ∷ [];
@@ -63,10 +60,6 @@ step_passed t n at old now then false so_far low test is = subst (λ (xs : List 
 pub on_ok : {A E : Type 0} (P Q : Type 0) (r : Result A E) → (P → Q) → OnOk r P → OnOk r Q
 on_ok P Q (Ok x) f h = f h
 on_ok P Q (Err e) f h = tt
-
-pub all_passed : (t : ℕ → Bool) (n at : ℕ) (old now : List ℕ) → ArePassed t n at old now → n - at ≡ 0 → now ≡ old ++ filter t (range_with_len 0 n)
-all_passed t n at old now so_far none =
-    so_far.is ∙ ap (λ (xs : List ℕ). old ++ xs) (sym (append-nil so_far.more) ∙ ap (λ (k : ℕ). so_far.more ++ filter t (range_with_len at k)) (sym none) ∙ so_far.rest)
 
 -- what is not listed fails the test
 in_filter_of : (t : ℕ → Bool) (xs : List ℕ) (x : ℕ) → Contains xs x → t x ≡ true → Contains (filter t xs) x

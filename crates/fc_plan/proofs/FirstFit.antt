@@ -152,12 +152,6 @@ fit_some g holes bits e = ap (in_one_or g bits holes) e
 
 -- ---- the parts can be cut, and what they leave
 
-pairs_of : (ps : List ZoneRun) → Rising ps → AllPairs BeginsBefore ps
-pairs_of [] r i j d less in' = absurd (omega arith)
-pairs_of (p ∷ ps) r i zero d less in' = absurd (omega arith)
-pairs_of (p ∷ ps) r zero (suc j) d less in' = All-from_recursion (BeginsBefore p) ps r.0 j d (omega arith)
-pairs_of (p ∷ ps) r (suc i) (suc j) d less in' = pairs_of ps r.1 i j d (omega arith) (omega arith)
-
 -- the same with the kinds of holes
 as_holes : (g : Geometry) (holes parts : List ZoneRun) → Fits g holes parts → Fits g holes (map as_hole parts)
 as_holes g holes [] fits = (tt, tt, tt)

@@ -4,7 +4,7 @@ use Rattle.std.specs.Prelude.{AllPairs, ◌||◌, is_none, nat_lt, not}
 use Rattle.std.specs.List.{find}
 use Rattle.std.specs.List.Sorted.{IsPartitionedBy, IsPartitionPoint}
 use Rattle.std.proofs.Math.ListN.{get_or-map as get_or-front}
-use Rattle.std.proofs.lemmas.Bool.{cases_eq, cases_lt, eqb-true, ne_eqb, and_parts, lt-ltb, ltb-true, ltb-false}
+use Rattle.std.proofs.lemmas.Bool.{cases_eq, cases_lt, eqb-true, ne_eqb, and_parts, lt-ltb, ltb-true, ltb-false, cases_Bool as either_test}
 use Rattle.std.proofs.lemmas.List.{get_or-map, length-map}
 use Rattle.std.proofs.lemmas.List.Elements.{All-map}
 use Rattle.std.proofs.lemmas.List.Sums.{sum_by-cons}
@@ -16,7 +16,6 @@ use Rattle.fc_image.specs.effects.Placed.{BeginsBefore, HasRunLength, IsPlan, ho
 use Rattle.fc_plan.specs.declared.plan.Part.{Part}
 use Rattle.fc_plan.specs.Parts.{begins_at, begins_before, front_at, fronts, has_part, part_of}
 use Rattle.fc_plan.specs.Plan.{IsFrontOfOne}
-use Rattle.fc_plan.proofs.MapLemmas.{either_test}
 use Rattle.fc_plan.proofs.Left.{count_at-positive}
 use Rattle.fc_plan.proofs.Composed.{found_some}
 

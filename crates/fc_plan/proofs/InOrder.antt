@@ -2,7 +2,7 @@
 use Rattle.std.proofs.Common.{◌≡◌, ◌<◌, ◌≤◌, ◌&&◌, ◌==◌, ℕ, zero, suc, Bool, true, false, cond, List, [], ◌∷◌, ◌++◌, get_or, Contains, Option, Some, None, refl, sym, ap, ap₂, ◌∙◌, inl, inr, arith, eq-eqb}
 use Rattle.std.specs.Prelude.{AllPairs, filter, ◌||◌}
 use Rattle.std.specs.List.{AllByRecursion, find, flat_map, list_any}
-use Rattle.std.proofs.lemmas.Bool.{and_left, eqb-true, ne_eqb}
+use Rattle.std.proofs.lemmas.Bool.{and_left, eqb-true, ne_eqb, cases_Bool as either_test}
 use Rattle.std.proofs.lemmas.List.{map-append}
 use Rattle.std.proofs.lemmas.List.Concat.{flat_map-append}
 use Rattle.std.proofs.lemmas.List.Elements.{All-contains, Contains-get_or, recursion_from_All}
@@ -11,17 +11,19 @@ use Rattle.fc_newmap.specs.Map.{Map, ZoneRun, all_runs, has_id, hole_runs, id_ru
 use Rattle.fc_newmap.specs.NewMap.{IsNewMap}
 use Rattle.fc_newmap.specs.RunsLaw.{placed}
 use Rattle.fc_newmap.proofs.HeldLemmas.{geometry_facts}
-use Rattle.fc_newmap.proofs.PlaceLemmas.{contains_here, contains_later, filter_in, id_run_in, in_back, in_filter, is_in, order_in}
+use Rattle.fc_newmap.proofs.PlaceLemmas.{filter_in, id_run_in, in_back, in_filter, order_in}
 use Rattle.fc_image.specs.effects.Placed.{BeginsBefore, stands_at}
 use Rattle.fc_plan.specs.Plan.{AreInOrder, AreParts, EndsBefore, IsFreeRun, IsFrontOfOne}
 use Rattle.fc_plan.specs.Taking.{as_runs, own_of, own_runs, part_taken, with_id}
-use Rattle.fc_plan.proofs.MapLemmas.{count_at, count_other, either_test}
+use Rattle.fc_plan.proofs.MapLemmas.{count_at, count_other}
 use Rattle.fc_plan.proofs.Takes.{stands_at-sym}
 use Rattle.fc_plan.proofs.TakenRuns.{filter_as_map}
 use Rattle.fc_plan.proofs.Ordered.{all_taken, is_free, none_taken, same_part, taken_of, taken_others}
 use Rattle.fc_plan.proofs.Order.{ArePositive, Rising, StandsIn, begins_at, begins_then, elsewhere, ends_then_begins, filter_all, find_nothing, later_than, map_holes-free, not_both, not_both_turned, order-filter, rising_of, same_place, stands_in, weaken_all}
 use Rattle.fc_plan.proofs.GivenRuns.{at_zone, in_zone}
 use Rattle.fc_plan.proofs.Walks.{shape_of_zone}
+use Rattle.fc_device.specs.Numbers.{is_listed as is_in}
+use Rattle.fc_zone.proofs.ZoneLemmas.{Contains-head as contains_here, Contains-tail as contains_later}
 
 -- ---- holes and parts that both rise
 

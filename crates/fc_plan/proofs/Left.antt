@@ -16,6 +16,7 @@ use Rattle.fc_image.specs.effects.Placed.{HasRunLength, holes_left, left_behind,
 use Rattle.fc_plan.specs.Plan.{AreApart, IsFrontOfOne}
 use Rattle.fc_plan.proofs.Taken.{find_is, mod-rest, stands_at-same, stands_at-self}
 use Rattle.fc_plan.proofs.MapLemmas.{count_at, count_at-cons, count_here}
+use Rattle.fc_newmap.proofs.TallyLemmas.{walked_on}
 
 -- ---- one hole at a place
 
@@ -89,14 +90,6 @@ end_low g p of at =
     omega (arith, at.to, end_within g p.0 of at.zone, held.sector_high g facts)
 
 -- ---- the walk over the holes
-
-pub walked_on : (passed left rest all : List ZoneRun) (hole : ZoneRun) → passed ++ left ≡ all → left ≡ hole ∷ rest → (passed ++ hole ∷ []) ++ rest ≡ all
-walked_on passed left rest all hole e f = append_assoc passed (hole ∷ []) rest ∙ ap (λ (xs : List ZoneRun). passed ++ xs) (sym f) ∙ e
-
-pub left_more : (passed parts : List ZoneRun) (hole : ZoneRun) → holes_left (passed ++ hole ∷ []) parts ≡ holes_left passed parts ++ left_behind hole (find (stands_at hole) parts)
-left_more passed parts hole =
-    flat_map-append (λ (h : ZoneRun). left_behind h (find (stands_at h) parts)) passed (hole ∷ [])
-    ∙ ap (λ (xs : List ZoneRun). holes_left passed parts ++ xs) (append-nil (left_behind hole (find (stands_at hole) parts)))
 
 pub left_of_none : (holes : List ZoneRun) → holes_left holes [] ≡ holes
 left_of_none [] = refl

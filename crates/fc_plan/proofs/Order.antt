@@ -4,7 +4,7 @@ use Rattle.std.specs.Prelude.{AllPairs, IfSome, drop, filter}
 use Rattle.std.proofs.lemmas.List.{append_assoc}
 use Rattle.std.specs.List.{AllByRecursion, find, range_with_len}
 use Rattle.std.specs.List.Sorted.{IsSortedByKey}
-use Rattle.std.proofs.lemmas.Bool.{and_parts, cases_order, cond_both, eqb-true, eq-eqb, and_from}
+use Rattle.std.proofs.lemmas.Bool.{and_parts, cases_order, cond_both, eqb-true, eq-eqb, and_from, cases_Bool as either_test}
 use Rattle.std.proofs.lemmas.List.Elements.{All-head, All-tail, Contains-get_or, recursion_from_All}
 use Rattle.fc_bytes.specs.Bits.{bits}
 use Rattle.fc_record.specs.declared.Geometry.{Geometry}
@@ -16,9 +16,9 @@ use Rattle.fc_newmap.specs.NewMap.{IsNewMap}
 use Rattle.fc_newmap.specs.RunsLaw.{placed}
 use Rattle.fc_image.specs.effects.Placed.{BeginsBefore, HasRunLength, IsFront, holes_left, left_behind, stands_at}
 use Rattle.fc_plan.specs.Plan.{AreApart, AreFreeRuns, AreInOrder, EndsBefore, IsFreeRun, IsFrontOfOne, first_at, left_of_both, rest_at}
-use Rattle.fc_plan.proofs.MapLemmas.{count_at, count_at-cons, count_here, count_other, either_test, holes_placed}
+use Rattle.fc_plan.proofs.MapLemmas.{count_at, count_at-cons, count_here, count_other, holes_placed}
 use Rattle.fc_plan.proofs.Pairs.{in_order, pair_cmp}
-use Rattle.fc_plan.proofs.Left.{count_at-positive, end_low, left_behind-long, rest_of, same_hole}
+use Rattle.fc_plan.proofs.Left.{count_at-positive, end_low, left_behind-long, rest_of, same_hole, left_of_none as left_nothing}
 use Rattle.fc_plan.proofs.Taken.{stands_at-same}
 
 -- ---- by recursion
@@ -235,10 +235,6 @@ left_without : (part : ZoneRun) (parts holes : List ZoneRun) → AllByRecursion 
 left_without part parts [] a = refl
 left_without part parts (h ∷ holes) a =
     ap₂ (λ (b : Bool) (rest : List ZoneRun). left_behind h (cond b (Some part) (find (stands_at h) parts)) ++ rest) a.0 (left_without part parts holes a.1)
-
-left_nothing : (holes : List ZoneRun) → holes_left holes [] ≡ holes
-left_nothing [] = refl
-left_nothing (h ∷ holes) = ap (λ (hs : List ZoneRun). h ∷ hs) (left_nothing holes)
 
 abbrev pub ArePositive : List ZoneRun → Type 0
 ArePositive holes = AllByRecursion (λ (p : ZoneRun). 0 < p.1.len) holes

@@ -12,11 +12,12 @@ use Rattle.std.proofs.lemmas.List.{length-replicate}
 use Rattle.std.specs.Prelude.{replicate, ◌%◌}
 use Rattle.fc_image.specs.effects.Placed.{BeginsBefore, HasRunLength, IsPlan, IsTaken, holes_left, stands_at}
 use Rattle.fc_plan.specs.Plan.{AreApart, AreFreeRuns, AreParts, IsChoice, IsFreeRun, IsFrontOfOne, left_of_both}
-use Rattle.fc_plan.proofs.MapLemmas.{count_at, count_here, count_other, either_test}
+use Rattle.fc_plan.proofs.MapLemmas.{count_at, count_here, count_other}
 use Rattle.fc_plan.proofs.Left.{count_at-positive}
 use Rattle.fc_plan.proofs.Taken.{stands_at-same}
 use Rattle.fc_plan.proofs.Pairs.{pair_cmp}
 use Rattle.fc_plan.proofs.Order.{Rising, StandsIn, are_fronts, begins_at, elsewhere, free_apart, left-free, left_is, not_both, place_key, rising_by_place, rising_of, stands_in, weaken_all}
+use Rattle.std.proofs.lemmas.Bool.{cases_Bool as either_test}
 
 pub taken_moved : (g : Geometry) (holes : List ZoneRun) (bits : ℕ) (parts ordered : List ZoneRun) → IsPermutation parts ordered → IsTaken g holes bits parts → IsTaken g holes bits ordered
 taken_moved g holes bits parts ordered moved taken =
@@ -36,9 +37,6 @@ lens_low g holes parts free fronts k d in' =
     let low = (All-contains (IsFreeRun g) holes front.0 (All-from_recursion (IsFreeRun g) holes free) front.1).low in
     let within = front.2.within in
     omega arith
-
-pub holes_low : (g : Geometry) (holes : List ZoneRun) → AllByRecursion (IsFreeRun g) holes → All (λ (p : ZoneRun). p.1.start ≤ 8192) holes
-holes_low g holes free = All-from_recursion (λ (p : ZoneRun). p.1.start ≤ 8192) holes (weaken_all (IsFreeRun g) (λ (p : ZoneRun). p.1.start ≤ 8192) (λ p f. let low = f.low in omega arith) holes free)
 
 -- the parts of a choice in the order of their places
 pub plan_of : (g : Geometry) (holes : List ZoneRun) (bits : ℕ) (parts ordered : List ZoneRun) → 0 < g.min → AreFreeRuns g holes → IsChoice g holes bits parts

@@ -28,10 +28,11 @@ use Rattle.fc_reclaim.specs.Kept.{IsReadyBy, KeepsOwned, KeepsOwnedAll}
 use Rattle.fc_reclaim.specs.Lost.{Covers}
 use Rattle.fc_reclaim.specs.Map.{IsReclaimed, bits_back}
 use Rattle.fc_reclaim.specs.Reclaiming.{CanReclaim, CountsIn, KeepsContent, LeavesOwned, ReclaimsMap}
-use Rattle.fc_reclaim.proofs.KeptLemmas.{commit_keeps, commit_ready, frame_same, kept_same}
+use Rattle.fc_reclaim.proofs.KeptLemmas.{commit_keeps, commit_ready, kept_same}
 use Rattle.fc_reclaim.proofs.OwnedLemmas.{HasPassed}
 use Rattle.fc_reclaim.proofs.ReclaimsLemmas.{covers_kind, given_bytes, reclaims, stays_owned}
 use Rattle.std.proofs.Common.{◌*◌}
+use Rattle.fc_copies.proofs.CommitLemmas.{same_frame as frame_same}
 
 -- what an exit has led to is what is told
 pub told_keeps : {D : Type 0} {d : Ghosts D} (law : Laws d) {R : List ℕ → List ℕ → Type 0} {old new : D} → StopsAndExitsLeave d old new R → (was image : List ℕ) → d.bytes old ≡ Some was → d.bytes new ≡ Some image → R was image

@@ -11,10 +11,7 @@ use Rattle.fc_newmap.specs.NewMap.{IsNewMap}
 use Rattle.fc_newmap.proofs.ComposeLemmas.{edit_none, edit_then}
 use Rattle.fc_plan.specs.Giving.{AreTwoHoles, IsNext, joined}
 use Rattle.fc_reclaim.specs.Zone.{behind_holes, joined_all}
-
-pub kind_of_hole : (k : RunKind) → is_hole k ≡ true → k ≡ Hole
-kind_of_hole Hole e = refl
-kind_of_hole (Id id) e = absurd (cc)
+use Rattle.fc_plan.proofs.Takes.{kind_is_hole as kind_of_hole}
 
 -- what is left ahead of a hole that has been joined with some that followed the first
 pub record IsLeft (first hole : Run) (rest left : List Run) : Type 0 where

@@ -26,20 +26,10 @@ use Rattle.fc_reclaim.specs.Lost.{Covers}
 use Rattle.fc_reclaim.specs.Settled.{by_map}
 use Rattle.fc_reclaim.proofs.OwnedLemmas.{HasPassed, lost_same, owned_kept, placed_after}
 use Rattle.fc_reclaim.proofs.SettledLemmas.{settled_law}
-
-map_is : (m : Map) → IsNewMap m → IsMap m
-map_is m is =
-    let all = is.all in
-    record {
-      all = all;
-      whole = λ z lt. is.whole z (omega (arith, lt, all));
-      right = λ z lt. (runs_of m z, Zone-zone_of (shape m.geometry z) (sector_of m z) (runs_of m z) (is.right z (omega (arith, lt, all))));
-    }
+use Rattle.fc_compact.proofs.StepLemmas.{map_is}
+use Rattle.fc_copies.proofs.CommitLemmas.{same_frame as frame_same}
 
 -- ---- one image, and one after another
-
-pub frame_same : (g : Geometry) (image : List ℕ) → ChangesCopies g image image
-frame_same g image = record { same_length = refl; outside = λ s out. refl }
 
 pub frame_then : (g : Geometry) (a b c : List ℕ) → ChangesCopies g a b → ChangesCopies g b c → ChangesCopies g a c
 frame_then g a b c one two = record { same_length = two.same_length ∙ one.same_length; outside = λ s out. two.outside s out ∙ one.outside s out }

@@ -23,14 +23,13 @@ use Rattle.fc_image.specs.Walk.{Object}
 use Rattle.fc_image.specs.Objects.{is_lost, is_movable, is_owned}
 use Rattle.fc_image.specs.Opening.{boot_place, is_hole_or_movable, least_of, misplaced_sector, reserved_in}
 use Rattle.fc_image.specs.Report.{is_lost_run}
-use Rattle.fc_image.proofs.HolesLemmas.{apart_at, holes_loose, least_none, loose_sectors, none_loose}
-use Rattle.fc_image.proofs.MoveLemmas.{tight_from, unless}
+use Rattle.fc_image.proofs.HolesLemmas.{apart_at, holes_loose, least_none, loose_sectors, none_loose, some_least}
+use Rattle.fc_image.proofs.MoveLemmas.{tight_from}
 use Rattle.fc_compact.specs.Ready.{AreOwnersOf}
 use Rattle.fc_reclaim.specs.Lost.{Covers, boot_row, goes_back, is_lost_by, is_lost_kind, is_used_run}
 use Rattle.fc_reclaim.specs.Zone.{IsReclaimedIn}
-
-pub geometry_is : (m : Map) → IsNewMap m → IsGeometry m.geometry
-geometry_is m is = subst (λ (g : Geometry). IsGeometry g) is.of_record.1.1 (geometry_of_valid is.of_record.0 is.of_record.1.0)
+use Rattle.std.proofs.lemmas.Bool.{false_from_ne_true as unless}
+use Rattle.fc_compact.proofs.PreservesLemmas.{geometry_is}
 
 -- ---- lost identifiers
 
@@ -69,9 +68,6 @@ owned_stays boot owners g id p e = by p.1.kind
         (ap (is_lost_by owners) (eqb-true other id h) ∙ e)
 
 -- ---- least numbers
-
-some_least : (n : ℕ) (ns : List ℕ) → least_of (n ∷ ns) ≡ None → ⊥
-some_least n ns e = cc
 
 pub none_least : (xs ys : List ℕ) → least_of (xs ++ ys) ≡ None → (least_of xs ≡ None) × (least_of ys ≡ None)
 none_least [] ys e = (refl, e)

@@ -17,23 +17,15 @@ use Rattle.fc_newmap.specs.RunsLaw.{placed}
 use Rattle.fc_newmap.proofs.ComposeLemmas.{edit_then}
 use Rattle.fc_image.specs.safe.Reclaim.{absorbed, all_absorbed}
 use Rattle.fc_plan.specs.Giving.{as_spaces, spaces_in}
-use Rattle.fc_plan.proofs.MapLemmas.{either_test}
 use Rattle.fc_plan.proofs.Spaces.{Lie, spelled_lie}
 use Rattle.fc_reclaim.specs.Lost.{is_used_run}
 use Rattle.fc_reclaim.specs.Zone.{AreHoles, FollowsChain, IsReclaimedIn, behind_holes, chain_after, given, going, staying}
-use Rattle.fc_reclaim.proofs.JoinLemmas.{kind_of_hole}
 use Rattle.fc_reclaim.proofs.SpaceLemmas.{EndsUsed, given_kind, given_spaces}
+use Rattle.std.proofs.lemmas.Bool.{cases_Bool as either_test}
+use Rattle.fc_plan.proofs.Takes.{kind_is_hole as kind_of_hole}
+use Rattle.fc_plan.proofs.Passes.{filter_placed, one_true, one_false}
 
 -- ---- lists of runs
-
-filter_placed : (t : ZoneRun → Bool) (z : ℕ) (xs ys : List Run) → filter t (placed z (xs ++ ys)) ≡ filter t (placed z xs) ++ filter t (placed z ys)
-filter_placed t z xs ys = ap (filter t) (map-append (λ (r : Run). let p : ZoneRun = (z, r) in p) xs ys) ∙ filter-append t (placed z xs) (placed z ys)
-
-one_true : (t : ZoneRun → Bool) (z : ℕ) (run : Run) → t (z, run) ≡ true → filter t (placed z (run ∷ [])) ≡ (z, run) ∷ []
-one_true t z run e = ap (λ (b : Bool). cond b ((z, run) ∷ []) []) e
-
-one_false : (t : ZoneRun → Bool) (z : ℕ) (run : Run) → t (z, run) ≡ false → filter t (placed z (run ∷ [])) ≡ []
-one_false t z run e = ap (λ (b : Bool). cond b ((z, run) ∷ []) []) e
 
 -- the holes that come first
 abbrev holes_first : List Run → List Run

@@ -18,6 +18,7 @@ use Rattle.fc_plan.proofs.MapLemmas.{run_placed}
 use Rattle.fc_reclaim.specs.Lost.{boot_row, goes_back, is_lost_by, is_lost_kind}
 use Rattle.fc_reclaim.specs.Zone.{AreHoles, behind_holes, chain_after, given, left_after}
 use Rattle.fc_reclaim.proofs.PassLemmas.{IsPassing, go_back, stay}
+use Rattle.fc_plan.proofs.Gives.{here_in}
 
 -- ---- whether it goes
 
@@ -45,10 +46,6 @@ goes_lost boot owners g z run id place row block of_map of_boot lost kind there 
     ∙ sym (ap₂ (λ (a b : Bool). a && b && is_apart (run_sectors g (z, run)) (boot_row boot g.sector)) is_lost free)
 
 -- ---- where it lies
-
-here_in : (z : ℕ) (front rest : List Run) (run : Run) → Contains (placed z (front ++ run ∷ rest)) (z, run)
-here_in z [] rest run = (0, omega arith, refl)
-here_in z (x ∷ front) rest run = let r = here_in z front rest run in (suc r.0, omega (arith, r.1), r.2)
 
 pub in_zone : (m : Map) (z : ℕ) (front links rest : List Run) (run : Run) → IsNewMap m → z < m.geometry.zones → runs_of m z ≡ front ++ (links ++ run ∷ rest) → IsInZone m.geometry (z, run)
 in_zone m z front links rest run is low runs =

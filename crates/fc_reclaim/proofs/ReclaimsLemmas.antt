@@ -14,7 +14,7 @@ use Rattle.fc_zone.specs.declared.RunKind.{RunKind}
 use Rattle.fc_zone.specs.declared.RunKind.TheVariants as kinds
 use Rattle.fc_newmap.specs.Map.{Map, ZoneRun, all_runs, bits_in, has_id, hole_runs, is_hole, map_sectors, run_sectors, runs_in, runs_of, sector_of, sectors_of, zone_numbers}
 use Rattle.fc_newmap.specs.RunsLaw.{placed}
-use Rattle.fc_newmap.proofs.PlaceLemmas.{in_back, is_in, range_in}
+use Rattle.fc_newmap.proofs.PlaceLemmas.{in_back, range_in}
 use Rattle.fc_alloc.specs.declared.owner.Owner.{Owner}
 use Rattle.fc_copies.specs.Copies.{ChangesCopies}
 use Rattle.fc_image.specs.Layout.{Layout, is_among, is_apart}
@@ -26,7 +26,7 @@ use Rattle.fc_image.specs.Stays.{IsNewKind, OpensAs}
 use Rattle.fc_image.specs.effects.Steady.{MapOutside, SameSectors, zone_holes}
 use Rattle.fc_image.specs.safe.Reclaim.{OwnedStay, ReclaimOutside, Reclaimed, ReclaimedLayout, Reclaims, StaysOwned, all_absorbed, is_held, is_reclaimable, reclaimed_bytes, sectors_that}
 use Rattle.fc_image.proofs.HolesLemmas.{none_loose}
-use Rattle.fc_image.proofs.MoveLemmas.{all_filter, not_true, open_by}
+use Rattle.fc_image.proofs.MoveLemmas.{all_filter, open_by}
 use Rattle.fc_image.proofs.SameMapLemmas.{same_map_law}
 use Rattle.fc_changes.proofs.AfterLemmas.{behind_stays}
 use Rattle.fc_plan.proofs.GivenRuns.{holes_of_zone, spaces_of_zone}
@@ -39,12 +39,11 @@ use Rattle.fc_reclaim.specs.Zone.{staying}
 use Rattle.fc_reclaim.proofs.KeptLemmas.{by_own}
 use Rattle.fc_reclaim.proofs.OwnedLemmas.{filter_less, lost_kind_same}
 use Rattle.fc_reclaim.proofs.SettledLemmas.{beside_map}
+use Rattle.std.proofs.lemmas.Bool.{not-true as not_true}
+use Rattle.fc_device.specs.Numbers.{is_listed as is_in}
+use Rattle.fc_record.proofs.KindLemmas.{and_first}
 
 -- ---- the boot block
-
-and_first : (a b : Bool) → (a && b) ≡ true → a ≡ true
-and_first true b e = refl
-and_first false b e = absurd (cc)
 
 -- an image that opens as a disc with a boot block has one
 pub covers_kind : (was : List ℕ) (kind : Kind) → fits_kind was kind ≡ true → Covers (is_boot was) kind

@@ -3,7 +3,7 @@ use Rattle.std.proofs.Common.{◌≡◌, ◌<◌, ◌≤◌, inl, inr, ℕ, zero
 use Rattle.std.specs.Prelude.{Result, Ok, Err, Contains, filter, min, nat_le, not, ◌==◌, ◌||◌, ◌&&◌}
 use Rattle.std.specs.List.{flat_map, list_any, zip}
 use Rattle.std.specs.Int.{div_ceil}
-use Rattle.std.proofs.lemmas.Bool.{cases_eq, cases_lt, leb-true, lt-ltb, ne_eqb}
+use Rattle.std.proofs.lemmas.Bool.{cases_eq, cases_lt, leb-true, lt-ltb, ne_eqb, false_from_ne_true as unless}
 use Rattle.std.proofs.lemmas.List.{length-take-le}
 use Rattle.std.proofs.Math.Nat.{mod-add-div}
 use Rattle.fc_device.specs.Sectors.{sector_at}
@@ -28,21 +28,19 @@ use Rattle.fc_image.specs.EditedImage.{HasMap}
 use Rattle.fc_image.specs.Opening.{MapAndRoot, Opened, agreement, boot_place, difference, map_and_root, reserved_in}
 use Rattle.fc_image.specs.Edits.{Apart, AreChildren, Follows, IsAt}
 use Rattle.fc_image.specs.Stays.{HasSectorsOf, IsNewKind, OpensAs, stored_object, stored_objects}
-use Rattle.fc_image.proofs.EditLemmas.{root_first, walk_form_law}
+use Rattle.fc_image.proofs.EditLemmas.{root_first, walk_form_law, ok_listings, children_there}
 use Rattle.fc_image.proofs.FreeLemmas.{fits_same, object_same}
 use Rattle.fc_image.proofs.HolesLemmas.{Each-contains, Each-objects, EachListed, Lies, Listed-contains, OpenMap, apart_at, apart_from, none_loose, walk_lies}
 use Rattle.fc_image.proofs.MapEditLemmas.{places_law}
 use Rattle.fc_image.proofs.KindLemmas.{boot_bytes}
 use Rattle.fc_image.proofs.OneZoneLemmas.{zone_fits}
-use Rattle.fc_image.proofs.OpenedLemmas.{edited_image_law}
-use Rattle.fc_image.proofs.MoveLemmas.{found_kind, found_with, open_by, unless}
+use Rattle.fc_image.proofs.OpenedLemmas.{edited_image_law, any_there as any_of}
+use Rattle.fc_image.proofs.MoveLemmas.{found_kind, found_with, open_by, at_zones}
 use Rattle.fc_image.proofs.WalkLemmas.{bind_ok, open_as-spelled, walk-Tells}
 use Rattle.fc_reclaim.specs.Settled.{IsSettledEdit, SettledLaw, by_map}
+use Rattle.fc_tree.proofs.EndLemmas.{some_up, some_first}
 
 -- ---- walks that find the same
-
-ok_listings : (x y : List Listing) → (let r : Result (List Listing) ImageFault = Ok x in r) ≡ Ok y → x ≡ y
-ok_listings x y e = cc
 
 -- a walk finds no more directories than it has fuel
 listings_short : (read : Reader) (layout : Layout) (fuel : ℕ) (taken : List ℕ) (waiting : List Object) (listings : List Listing)
@@ -78,14 +76,6 @@ apart_less taken taken' (o ∷ objects) less a = (
         | Err other ↦ in_back o.sectors taken s (less s other)
       ]) a.1,
 )
-
-children_there : (layout layout' : Layout) (path : Path) (entries : List Entry) (objects : List Object) → AreChildren layout path entries objects
-    → ((o : Object) → Contains objects o → IsAt layout' o) → AreChildren layout' path entries objects
-children_there layout layout' path [] [] c at = tt
-children_there layout layout' path (e ∷ entries) [] c at = absurd c
-children_there layout layout' path [] (o ∷ objects) c at = absurd c
-children_there layout layout' path (e ∷ entries) (o ∷ objects) c at =
-    (c.0, c.1, at o (0, omega arith, refl), children_there layout layout' path entries objects c.3 (λ p i. at p (suc i.0, omega (arith, i.1), i.2)))
 
 follows_there : (read read' : Reader) (layout layout' : Layout) (waiting : List Object) (listings : List Listing) → Follows read layout waiting listings
     → ((l : Listing) → Contains listings l → read' l.object ≡ Ok l.content) → ((l : Listing) → Contains listings l → (o : Object) → Contains l.children o → IsAt layout' o)
@@ -137,24 +127,6 @@ module _ (read read' : Reader) (layout layout' : Layout) (reserved reserved' : L
 
 -- ---- objects at their places
 
-some_up : (x y : ℕ) → 0 < x → 0 < div_ceil x y
-some_up x y some = by (x / y) (x % y) (mod-add-div x y)
-  where
-    by : (q r : ℕ) → r + y * q ≡ x → 0 < q + min 1 r
-    by zero zero e = absurd (let none : y * 0 ≡ 0 = grind (arith) in omega (arith, e, none, some))
-    by zero (suc r) e = omega arith
-    by (suc q) r e = omega arith
-
-some_first : (n : ℕ) (xs sectors : List ℕ) → 0 < n → first_part n xs ≡ Some sectors → 0 < length sectors
-some_first n xs sectors some e = by (nat_le n (length xs)) refl e
-  where
-    by : (b : Bool) → nat_le n (length xs) ≡ b → cond b (Some (take n xs)) None ≡ Some sectors → 0 < length sectors
-    by true h f =
-        let is : take n xs ≡ sectors = cc in
-        let long = length-take-le n xs (leb-true n (length xs) h) in
-        omega (arith, some, long, ap length is)
-    by false h f = absurd (cc)
-
 has_some : (m : Map) (address bytes : ℕ) (sectors : List ℕ) → 0 < bytes → sectors_at (Layout.New m) address bytes ≡ Some sectors → 0 < length sectors
 unfolding sectors_at
 has_some m address bytes sectors some e = by (bytes == 0) (is_object_id m (id_of address)) (ne_eqb bytes 0 (λ z. omega (arith, z, some))) e
@@ -164,15 +136,6 @@ has_some m address bytes sectors some e = by (bytes == 0) (is_object_id m (id_of
     by true i h f = absurd (cc)
     by false true h f = some_first (div_ceil bytes m.geometry.sector) (drop (low_start m (low_of address)) (id_sectors m (id_of address))) sectors (some_up bytes m.geometry.sector some) f
     by false false h f = absurd (cc)
-
-any_of : {X : Type 0} (t : X → Bool) (xs : List X) (x : X) → Contains xs x → t x ≡ true → list_any t xs ≡ true
-any_of t [] x at h = absurd (omega (arith, at.1))
-any_of t (y ∷ xs) x (zero, low, e) h = ap (λ b. b || list_any t xs) (ap t e ∙ h)
-any_of t (y ∷ xs) x (suc k, low, e) h = or_true (t y) (any_of t xs x (k, omega (arith, low), e) h)
-  where
-    or_true : (b : Bool) → list_any t xs ≡ true → (b || list_any t xs) ≡ true
-    or_true true g = refl
-    or_true false g = g
 
 -- the identifier of an object with bytes isn't lost
 owned_id : (m : Map) (objects : List Object) (o : Object) → Contains objects o → IsAt (Layout.New m) o → 0 < object_size (dir_form (Layout.New m)) o.entry → is_lost objects (id_of o.entry.address) ≡ false
@@ -202,9 +165,6 @@ places_kept m m' objects geometry owned o at placed =
     positive (suc n) never = omega arith
 
 -- ---- the image
-
-abbrev at_zones : Map → List (List ℕ) → Map
-at_zones m zs = record { geometry = m.geometry; zones = zs }
 
 -- a sector that isn't the map's has its bytes
 pub beside_map : (g : Geometry) (image other : List ℕ) → ChangesCopies g image other → (s : ℕ) → is_among (map_sectors g) s ≡ false → sector_at g.sector other s ≡ sector_at g.sector image s

@@ -1,7 +1,7 @@
 -- The holes of a zone when one of its runs becomes a hole, joined with all holes around it.
 use Rattle.std.proofs.Common.{◌≡◌, ◌<◌, ◌≤◌, ℕ, ◌+◌, ◌-◌, Bool, true, false, cond, List, [], ◌∷◌, ◌++◌, refl, sym, ap, ap₂, subst, ◌∙◌, inl, inr, arith, eq-eqb}
 use Rattle.std.specs.Prelude.{nat_le, nat_lt, ◌==◌, ◌&&◌}
-use Rattle.std.proofs.lemmas.Bool.{lt-ltb, le-ltb, le-leb, ne_eqb}
+use Rattle.std.proofs.lemmas.Bool.{lt-ltb, le-ltb, le-leb, ne_eqb, cases_Bool as either_test}
 use Rattle.fc_oldmap.specs.declared.Hole.{Hole as Space}
 use Rattle.fc_oldmap.specs.Holes.{hole, hole_end}
 use Rattle.fc_zone.specs.declared.Run.{Run}
@@ -9,7 +9,6 @@ use Rattle.fc_zone.specs.declared.RunKind.TheVariants.{Hole}
 use Rattle.fc_newmap.specs.Map.{is_hole}
 use Rattle.fc_image.specs.safe.Reclaim.{absorbed, joined_over}
 use Rattle.fc_plan.specs.Giving.{freed, joined, spaces_in}
-use Rattle.fc_plan.proofs.MapLemmas.{either_test}
 use Rattle.fc_plan.proofs.Spaces.{Lie, spaces-append, spaces-hole, spaces-other}
 use Rattle.fc_reclaim.specs.Zone.{AreHoles, behind_holes, given, joined_all}
 
@@ -78,9 +77,6 @@ far space (run ∷ runs) at h less =
           (let more : hole_end space < at + run.len = omega arith in
           ap (absorbed space) (spaces-other run runs other) ∙ far space runs (at + run.len) h.2 more ∙ ap (λ (hs : List Space). space ∷ hs) (sym (spaces-other run runs other)))
     ]
-
-hole_same : (a b c d : ℕ) → a ≡ c → b ≡ d → hole a b ≡ hole c d
-hole_same a b c d e f = ap₂ hole e f
 
 -- all holes that follow the space, one after another
 pub ahead : (start at : ℕ) (rest : List Run) → start ≤ at → Lie at rest

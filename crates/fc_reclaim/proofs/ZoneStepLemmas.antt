@@ -34,25 +34,9 @@ use Rattle.fc_reclaim.specs.Lost.{goes_back, is_used_run}
 use Rattle.fc_reclaim.specs.Map.{IsReclaimed, IsReclaimedAt, IsReclaimedBelow, bits_below}
 use Rattle.fc_reclaim.specs.Zone.{IsReclaimedIn, going, staying}
 use Rattle.fc_reclaim.proofs.KeptLemmas.{commit_keeps, commit_ready}
-use Rattle.fc_reclaim.proofs.OwnedLemmas.{HasPassed, geometry_is}
-
--- ---- what is no run
-
-zone_none : (m : Map) (z : ℕ) → ZoneStays m m z
-zone_none m z = record { outside = record { header = refl; behind = refl }; links = keeps_none (shape m.geometry z) (bits (sector_of m z)) (runs_of m z) }
-
-zone_then : (a b c : Map) (z : ℕ) → b.geometry ≡ a.geometry → ZoneStays a b z → ZoneStays b c z → ZoneStays a c z
-zone_then a b c z same one two = record {
-  outside = record {
-    header = two.outside.header ∙ one.outside.header;
-    behind = subst (λ (g : Geometry). Behind g z (bits (sector_of b z)) (bits (sector_of c z))) same two.outside.behind ∙ one.outside.behind;
-  };
-  links = keeps_then (shape a.geometry z) (bits (sector_of a z)) (bits (sector_of b z)) (bits (sector_of c z)) (runs_of a z) (runs_of b z) (runs_of c z) one.links
-      (subst (λ (g : Geometry). KeepsLinks (shape g z) (bits (sector_of b z)) (bits (sector_of c z)) (runs_of b z) (runs_of c z)) same two.links);
-}
-  where
-    Behind : Geometry → ℕ → List ℕ → List ℕ → Type 0
-    Behind g y old new = drop (end_bit g y) new ≡ drop (end_bit g y) old
+use Rattle.fc_reclaim.proofs.OwnedLemmas.{HasPassed}
+use Rattle.fc_compact.proofs.PreservesLemmas.{geometry_is}
+use Rattle.fc_compact.proofs.LeadsLemmas.{zone_none, zone_then}
 
 -- ---- one zone
 

@@ -100,7 +100,7 @@ no_fault : (o : Option (ℕ × ℕ × Bool)) → option_map (λ c. let f : Recor
 no_fault None e = refl
 no_fault (Some c) e = absurd (cc)
 
-abbrev AllRight : List (ℕ × ℕ × Bool) → Type 0
+abbrev pub AllRight : List (ℕ × ℕ × Bool) → Type 0
 AllRight [] = Unit {0}
 AllRight (c ∷ cs) = (c.2 ≡ true) × AllRight cs
 

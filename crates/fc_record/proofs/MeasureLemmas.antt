@@ -8,6 +8,7 @@ use Rattle.fc_record.specs.declared.DiscRecord.{DiscRecord}
 use Rattle.fc_record.specs.declared.Geometry.{Geometry}
 use Rattle.fc_record.specs.Record.{geometry, zone_start, IsRecord}
 use Rattle.fc_record.proofs.FaultLemmas.{valid_meets}
+use Rattle.fc_record.proofs.KindLemmas.{and_second as second_part}
 
 start_small : (size z : ℕ) → size ≤ 2 ^ 13 → z ≤ 2 ^ 15 → zone_start size z ≤ 2 ^ 28
 start_small size zero h k = omega arith
@@ -48,10 +49,6 @@ map_end_fits r g zones sector is s b z zones_is sector_is =
     let small : sector ≤ 2 ^ 10 = rw sector_is (subst (λ (h : Geometry). h.sector ≤ 2 ^ 10) (sym is) (sector_small r.log2_sector s)) in
     let most = mul-le (g.map_sector + 2 * zones) sector (2 ^ 49 - 1) (2 ^ 10) low small in
     (omega arith, omega (arith, most))
-
-second_part : (a b : Bool) → (a && b) ≡ true → b ≡ true
-second_part true b e = e
-second_part false b e = absurd (cc)
 
 pub sector_valid : (r : DiscRecord) → IsRecord r → r.log2_sector ≤ 10
 sector_valid r is = leb-true r.log2_sector 10 (second_part (nat_le 8 r.log2_sector) (nat_le r.log2_sector 10) (valid_meets r is.valid).sector)

@@ -55,9 +55,6 @@ old_found image map long len is =
 
 -- ---- the first that fits
 
-abbrev choice : Bool → Bool → Bool → DiscRecord → DiscRecord → DiscRecord → Option Kind → Option Kind
-choice boot first second a b c rest = cond boot (Some (Boot a)) (cond first (Some (OneZone b)) (cond second (Some (OneZone c)) rest))
-
 pub taken : (r a : DiscRecord) (fits : Bool) → Some r ≡ cond fits (Some a) None → (fits ≡ true) × (r ≡ a)
 taken r a true e = (refl, cc)
 taken r a false e = absurd (cc)

@@ -8,6 +8,7 @@ use Rattle.fc_names.specs.Names.{Path, folded, folded_path, is_same_name}
 use Rattle.fc_names.proofs.FoldOrder.{fold_law}
 use Rattle.fc_model.specs.Tree.{is_prefix}
 use Rattle.fc_model.specs.Answer.{is_above}
+use Rattle.std.proofs.lemmas.Bool.{and_parts as both_hold}
 
 -- names that are left to compare
 abbrev pub stands_above : Path → Path → Bool
@@ -43,11 +44,6 @@ above_is (x ∷ p) (y ∷ q) =
     ap₂ (λ (a b : Bool). a && b) (same_name x y) (above_is p q)
     ∙ sym (ap₂ (λ (a b : Bool). a && not b) (prefix_more (folded x) (folded y) (folded_path p) (folded_path q)) (same_longer x y p q)
     ∙ and_assoc (bytes_eq (folded x) (folded y)) (is_prefix (folded_path p) (folded_path q)) (not (length p == length q)))
-
-both_hold : (a b : Bool) → (a && b) ≡ true → (a ≡ true) × (b ≡ true)
-both_hold true true e = (refl, refl)
-both_hold true false e = absurd (cc)
-both_hold false b e = absurd (cc)
 
 -- a path at or above another is above what that holds
 pub above_child : (p front : Path) (last : List ℕ) → is_prefix (folded_path p) (folded_path front) ≡ true → stands_above p (front ++ last ∷ []) ≡ true

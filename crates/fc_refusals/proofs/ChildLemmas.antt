@@ -17,8 +17,10 @@ use Rattle.fc_image.proofs.PathsLemmas.{itself}
 use Rattle.fc_tree.proofs.ChildrenLemmas.{below_front, front_below, is_below}
 use Rattle.fc_tree.proofs.MemberLemmas.{contains_here, from_map, no_element}
 use Rattle.fc_tree.proofs.WalkedLemmas.{child_is_object, child_path, listed_directory, listing_found, root, root_path}
-use Rattle.fc_tree.proofs.SoundLemmas.{key_total, key_exact, fold_pushed, folds_alike, listing_of, root_or_child, same_by_folds, same_object}
+use Rattle.fc_tree.proofs.SoundLemmas.{fold_pushed, folds_alike, listing_of, root_or_child, same_object}
 use Rattle.fc_tree.proofs.TreeLemmas.{node_of_object, tree_get, value_is}
+use Rattle.fc_image.proofs.TreeLemmas.{key_total, key_exact}
+use Rattle.fc_image.proofs.CommandLemmas.{same_by_folds}
 
 -- a list with an element has some
 pub some_there : {X : Type 0} (x : X) (xs : List X) → nat_lt 0 (length (x ∷ xs)) ≡ true

@@ -13,17 +13,20 @@ use Rattle.fc_dirs.specs.Directory.{entries_of}
 use Rattle.fc_image.specs.Layout.{Layout}
 use Rattle.fc_image.specs.Walk.{Object, Listing}
 use Rattle.fc_image.specs.Sound.{AreSound}
-use Rattle.fc_image.proofs.PathsLemmas.{cut, has_that, itself, many, names_once, unless}
+use Rattle.fc_image.proofs.PathsLemmas.{cut, has_that, itself, many, names_once}
 use Rattle.fc_tree.specs.declared.node.Node.{Node}
 use Rattle.fc_tree.specs.Nodes.{number_of}
-use Rattle.fc_tree.proofs.MemberLemmas.{contains_later, from_map, many_permuted, some_many}
+use Rattle.fc_tree.proofs.MemberLemmas.{from_map, many_permuted, some_many}
 use Rattle.fc_tree.proofs.PlaceLemmas.{one_path}
-use Rattle.fc_tree.proofs.SoundLemmas.{children_stored, folds_alike, same_by_folds, same_listing, same_object}
+use Rattle.fc_tree.proofs.SoundLemmas.{children_stored, folds_alike, same_listing, same_object}
 use Rattle.fc_tree.proofs.WalkedLemmas.{child_is_object, child_path, contained, find_nothing, holder-push, same_some, twins}
 use Rattle.fc_refusals.proofs.AboveLemmas.{above_child, above_is}
 use Rattle.fc_refusals.specs.declared.target.Renaming.{Renaming}
 use Rattle.fc_refusals.specs.Slots.{IsDestination}
 use Rattle.fc_refusals.specs.Targets.{IsTarget}
+use Rattle.std.proofs.lemmas.Bool.{false_from_ne_true as unless}
+use Rattle.fc_image.proofs.EntriesLemmas.{later as contains_later}
+use Rattle.fc_image.proofs.CommandLemmas.{same_by_folds}
 
 -- If one passes at most, and the one of a number passes if any does, none passes without it.
 without_passing : {X : Type 0} (t : X → Bool) (xs : List X) (i : ℕ) (y : X) → slice_get xs i ≡ Some y → many t xs ≤ 1 → ((x : X) → Contains xs x → t x ≡ true → t y ≡ true)

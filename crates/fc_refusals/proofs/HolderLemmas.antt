@@ -14,7 +14,7 @@ use Rattle.fc_image.specs.Layout.{Layout}
 use Rattle.fc_image.specs.Walk.{Object, Listing, is_directory_object}
 use Rattle.fc_image.specs.Objects.{objects_of, tree_of}
 use Rattle.fc_image.specs.Sound.{AreSound}
-use Rattle.fc_image.proofs.PathsLemmas.{cut, same_last, unless}
+use Rattle.fc_image.proofs.PathsLemmas.{cut, same_last}
 use Rattle.fc_tree.specs.declared.node.Node.{Node}
 use Rattle.fc_tree.specs.declared.node.Found.{Found}
 use Rattle.fc_tree.specs.declared.node.Found.TheVariants as founds
@@ -30,6 +30,8 @@ use Rattle.fc_refusals.specs.Places.{directory_found, own_name}
 use Rattle.fc_refusals.specs.Targets.{IsVacant, refusal_of}
 use Rattle.fc_refusals.proofs.FoundLemmas.{LeadsTo, leads_to}
 use Rattle.fc_refusals.proofs.NodeLemmas.{body_test}
+use Rattle.std.proofs.lemmas.Bool.{false_from_ne_true as unless}
+use Rattle.fc_image.proofs.RenameLemmas.{last_pushed}
 
 -- ---- paths with a last name
 
@@ -39,11 +41,6 @@ pub record IsNamed (path : Path) (name : List ℕ) : Type 0 where
   pub last : name ≡ last_name path
   pub whole : path ≡ holder path ++ name ∷ []
   pub some : 0 < length path
-
-last_pushed : (front : Path) (name : List ℕ) → last_name (front ++ name ∷ []) ≡ name
-last_pushed [] name = refl
-last_pushed (x ∷ []) name = refl
-last_pushed (x ∷ y ∷ front) name = last_pushed (y ∷ front) name
 
 pub named : (path : Path) (name : List ℕ) → Some name ≡ own_name path → IsNamed path name
 named [] name e = absurd (cc)

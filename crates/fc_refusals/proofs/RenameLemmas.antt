@@ -18,7 +18,7 @@ use Rattle.fc_tree.specs.declared.node.Found.{Found}
 use Rattle.fc_tree.specs.declared.node.Found.TheVariants as founds
 use Rattle.fc_tree.specs.Nodes.{child, found_in, HoldObjects}
 use Rattle.fc_tree.proofs.PlaceLemmas.{one_path, same_number}
-use Rattle.fc_tree.proofs.SoundLemmas.{folds_alike, same_by_folds, same_object}
+use Rattle.fc_tree.proofs.SoundLemmas.{folds_alike, same_object}
 use Rattle.fc_tree.proofs.TreeLemmas.{node_of_object}
 use Rattle.fc_tree.proofs.WalkedLemmas.{child_is_object, same_some}
 use Rattle.fc_refusals.specs.declared.target.Renaming.{Renaming}
@@ -32,6 +32,7 @@ use Rattle.fc_refusals.proofs.HolderLemmas.{IsDirectoryAt, IsNamed, child_there,
 use Rattle.fc_refusals.proofs.NodeLemmas.{locked_is}
 use Rattle.fc_refusals.proofs.ReasonLemmas.{first, test}
 use Rattle.fc_refusals.proofs.TargetLemmas.{target_found, target_there}
+use Rattle.fc_image.proofs.CommandLemmas.{same_by_folds}
 
 -- the first of these is the refusal
 pub rename_refusal : (t : Tree) (form : NameForm) (read_only : Bool) (from to : Path) (p h : Option Refusal) (bad other root into locked shut : Bool)

@@ -26,15 +26,11 @@ use Rattle.fc_refusals.specs.Places.{entries_at, entries_in, number_found, place
 use Rattle.fc_refusals.specs.Targets.{IsTarget, refusal_of}
 use Rattle.fc_refusals.proofs.SearchLemmas.{none_passes, passes_there}
 use Rattle.fc_refusals.proofs.FoundLemmas.{LeadsTo, held_object, leads_to}
+use Rattle.std.proofs.lemmas.Bool.{and_parts as both}
 
 pub entries_body : (dir : Directory) → entries_in (body_in dir) ≡ entries_of dir
 entries_body (Directory.Small dir) = refl
 entries_body (Directory.Big dir) = refl
-
-both : (a b : Bool) → (a && b) ≡ true → (a ≡ true) × (b ≡ true)
-both true true e = (refl, refl)
-both false b e = absurd (cc)
-both true false e = absurd (cc)
 
 -- what stands before the last names of two spellings of a path are spellings of one path
 pub same_holder : (path above : Path) (name : List ℕ) → is_same_path path (above ++ name ∷ []) ≡ true → false ≡ is_root path → is_same_path (holder path) above ≡ true

@@ -3,7 +3,6 @@ use Rattle.std.proofs.Common.{◌≡◌, ℕ, Bool, true, false, List, [], ◌�
 use Rattle.std.specs.Prelude.{Result, Ok, Err}
 use Rattle.std.specs.Option.{option_map}
 use Rattle.fc_names.specs.declared.refusal.Refusal.{Refusal}
-use Rattle.fc_record.specs.declared.Kind.{Kind}
 use Rattle.fc_model.specs.Tree.{Tree}
 use Rattle.fc_model.specs.Command.{Command}
 use Rattle.fc_model.specs.Answer.{answer}
@@ -13,7 +12,7 @@ use Rattle.fc_image.specs.effects.Effect.{State, tree_in}
 use Rattle.fc_script.specs.Lines.{command_of}
 use Rattle.fc_script.specs.Texts.{refusal_line}
 use Rattle.fc_runs.specs.Run.{Mode, ChangesBy, Effect, Serves, Answers, Takes, Steps, reply_of, shortage}
-use Rattle.fc_runs.specs.Headline.{HeadlineLaw, HoldsMap, IsReply, MapAnswers, layout_refusal, map_line, map_reply, unless_refused, unless_short}
+use Rattle.fc_runs.specs.Headline.{HeadlineLaw, IsReply, MapAnswers, layout_refusal, map_line, map_reply, unless_refused, unless_short}
 use Rattle.fc_runs.proofs.TreeLemmas.{answer_ok, effect_tree}
 
 -- ---- the image opens after each step

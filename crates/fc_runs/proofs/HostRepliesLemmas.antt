@@ -2,6 +2,7 @@
 use Rattle.std.proofs.Common.{◌≡◌, ℕ, Bool, true, false, List, [], ◌∷◌, refl, sym, ap, ap₂, subst, ◌∙◌, Option, Some, None}
 use Rattle.std.specs.Prelude.{Result, Ok, Err, length, nat_lt, is_some}
 use Rattle.std.specs.FinMap.{get}
+use Rattle.fc_host.specs.Files.{Files}
 use Rattle.fc_names.specs.declared.name.NameForm.{NameForm}
 use Rattle.fc_names.specs.declared.refusal.Refusal.{Refusal}
 use Rattle.fc_names.specs.declared.refusal.Refusal.TheVariants as refusals
@@ -11,9 +12,9 @@ use Rattle.fc_model.specs.Answer.{answer}
 use Rattle.fc_image.specs.Layout.{dir_form}
 use Rattle.fc_image.specs.Stays.{IsNewLayout}
 use Rattle.fc_image.specs.effects.Effect.{State, tree_in}
-use Rattle.fc_script.specs.HostLines.{HostLine, host_line_of}
+use Rattle.fc_script.specs.HostLines.{HostLine}
 use Rattle.fc_runs.specs.Run.{Mode}
-use Rattle.fc_runs.specs.HostRun.{Files, HostRefuses, PutsBytes, PutsFile, Puts, Gets, HostTakes, HostSteps, answer_in, file_in, longest_file}
+use Rattle.fc_runs.specs.HostRun.{Reading, HostRefuses, PutsBytes, PutsFile, Puts, Gets, HostTakes, HostSteps, answer_in, file_in, longest_file}
 use Rattle.fc_runs.specs.RepliesLaw.{RepliesLaw}
 use Rattle.fc_runs.proofs.RepliesLemmas.{Kept, same_kept, taken_kept, taken_same, steps_same}
 
@@ -104,21 +105,21 @@ host_same mode x y x' y' files f g reply (Ok (HostLine.Other command)) same form
 
 -- ---- lines in turn
 
-host_steps_same : (mode : Mode) (x y a b : State) (files f g : Files) (lines replies : List (List ℕ)) → IsNewLayout x.view.layout → IsNewLayout y.view.layout
+host_steps_same : (read : Reading) (mode : Mode) (x y a b : State) (files f g : Files) (lines replies : List (List ℕ)) → IsNewLayout x.view.layout → IsNewLayout y.view.layout
     → tree_in x ≡ tree_in y → dir_form x.view.layout ≡ dir_form y.view.layout
-    → HostSteps (λ between. Unit {0}) mode x files lines replies a f → HostSteps (λ between. Unit {0}) mode y files lines replies b g → Same a b f g
-host_steps_same mode x y a b files f g [] [] nx ny same form p q = (ap tree_in p.0 ∙ same ∙ sym (ap tree_in q.0), p.1 ∙ sym q.1)
-host_steps_same mode x y a b files f g [] (reply ∷ replies) nx ny same form p q = absurd p
-host_steps_same mode x y a b files f g (line ∷ lines) [] nx ny same form p q = absurd p
-host_steps_same mode x y a b files f g (line ∷ lines) (reply ∷ replies) nx ny same form p q =
-    (let kx = host_kept mode x p.0 files p.1 reply (host_line_of line) nx p.3 in
-    let ky = host_kept mode y q.0 files q.1 reply (host_line_of line) ny q.3 in
-    let now = host_same mode x y p.0 q.0 files p.1 q.1 reply (host_line_of line) same form p.3 q.3 in
-    host_steps_same mode p.0 q.0 a b p.1 f g lines replies kx.0 ky.0 now.0 (kx.1 ∙ form ∙ sym ky.1) p.4
-    (subst (λ (fs : Files). HostSteps (λ between. Unit {0}) mode q.0 fs lines replies b g) (sym now.1) q.4))
+    → HostSteps read (λ between. Unit {0}) mode x files lines replies a f → HostSteps read (λ between. Unit {0}) mode y files lines replies b g → Same a b f g
+host_steps_same read mode x y a b files f g [] [] nx ny same form p q = (ap tree_in p.0 ∙ same ∙ sym (ap tree_in q.0), p.1 ∙ sym q.1)
+host_steps_same read mode x y a b files f g [] (reply ∷ replies) nx ny same form p q = absurd p
+host_steps_same read mode x y a b files f g (line ∷ lines) [] nx ny same form p q = absurd p
+host_steps_same read mode x y a b files f g (line ∷ lines) (reply ∷ replies) nx ny same form p q =
+    (let kx = host_kept mode x p.0 files p.1 reply (read line) nx p.3 in
+    let ky = host_kept mode y q.0 files q.1 reply (read line) ny q.3 in
+    let now = host_same mode x y p.0 q.0 files p.1 q.1 reply (read line) same form p.3 q.3 in
+    host_steps_same read mode p.0 q.0 a b p.1 f g lines replies kx.0 ky.0 now.0 (kx.1 ∙ form ∙ sym ky.1) p.4
+    (subst (λ (fs : Files). HostSteps read (λ between. Unit {0}) mode q.0 fs lines replies b g) (sym now.1) q.4))
 
 pub replies_law : RepliesLaw
 replies_law = record {
   plain = λ mode s a b lines replies new p q. steps_same mode s s a b lines replies new new refl refl p q;
-  host = λ mode s a b files f g lines replies new p q. host_steps_same mode s s a b files f g lines replies new new refl refl p q;
+  host = λ read mode s a b files f g lines replies new p q. host_steps_same read mode s s a b files f g lines replies new new refl refl p q;
 }

@@ -3,3 +3,12 @@ pub mod TreeLemmas
 pub mod RepliesLemmas
 mod HostRepliesLemmas
 mod HeadlineLemmas
+pub mod AskedLemmas
+pub mod ToldLemmas
+pub mod ErrorLemmas
+pub mod StepLemmas
+pub mod TextLemmas
+pub mod MeanwhileLemmas
+pub mod HostStepLemmas
+pub mod HostServingLemmas
+pub mod HostLineLemmas

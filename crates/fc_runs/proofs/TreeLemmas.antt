@@ -2,6 +2,7 @@
 use Rattle.std.proofs.Common.{◌≡◌, ℕ, Bool, true, false, List, [], refl, sym, ap, ◌∙◌, Option, Some, None}
 use Rattle.std.specs.Prelude.{Result, Ok, Err, length, nat_lt, is_some, if◌then◌else◌}
 use Rattle.std.specs.FinMap.{get}
+use Rattle.fc_host.specs.Files.{Files}
 use Rattle.fc_names.specs.Names.{Path}
 use Rattle.fc_names.specs.declared.refusal.Refusal.{Refusal}
 use Rattle.fc_names.specs.declared.name.NameForm.{NameForm}
@@ -12,9 +13,9 @@ use Rattle.fc_model.specs.Answer.{answer, answer_or, changed, first_of, reasons}
 use Rattle.fc_image.specs.Layout.{dir_form}
 use Rattle.fc_image.specs.effects.Effect.{State, tree_in}
 use Rattle.fc_script.specs.Lines.{command_of}
-use Rattle.fc_script.specs.HostLines.{HostLine, host_line_of}
+use Rattle.fc_script.specs.HostLines.{HostLine}
 use Rattle.fc_runs.specs.Run.{Mode, ChangesBy, Effect, Serves, Answers, Takes, shortage, tree_by, tree_after}
-use Rattle.fc_runs.specs.HostRun.{Files, PutsBytes, PutsFile, Puts, Gets, HostTakes, answer_in, file_in, tree_after_put, host_tree_after, longest_file}
+use Rattle.fc_runs.specs.HostRun.{PutsBytes, PutsFile, Puts, Gets, HostTakes, answer_in, file_in, tree_after_put, host_tree_after, longest_file}
 use Rattle.fc_runs.specs.TreeLaw.{TreeLaw}
 
 answer_or_ok : (t t' : Tree) (refusal : Option Refusal) → answer_or t refusal ≡ Ok t' → t' ≡ t
@@ -122,5 +123,5 @@ taken_host mode s s' files files' reply (Ok (HostLine.Other command)) x = taken_
 pub tree_law : TreeLaw
 tree_law = record {
   plain = λ mode s s' line reply x. taken_tree mode s s' reply (command_of line) x;
-  host = λ mode s s' files files' line reply x. taken_host mode s s' files files' reply (host_line_of line) x;
+  host = λ read mode s s' files files' line reply x. taken_host mode s s' files files' reply (read line) x;
 }

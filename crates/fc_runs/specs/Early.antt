@@ -1,13 +1,14 @@
 -- Runs that end before their script does: the lines done, and the part of their text that was written.
 use Rattle.std.specs.Prelude.{◌≡◌, ℕ, List, [], ◌++◌, length, take, slice_get, if◌then◌else◌, Option, Some, None, Result, Ok, Err}
+use Rattle.fc_host.specs.Files.{Files}
 use Rattle.fc_names.specs.declared.refusal.Refusal.{Refusal}
 use Rattle.fc_model.specs.Command.{Command}
 use Rattle.fc_image.specs.effects.Effect.{State}
 use Rattle.fc_script.specs.Lines.{command_of}
-use Rattle.fc_script.specs.HostLines.{HostLine, host_line_of}
+use Rattle.fc_script.specs.HostLines.{HostLine}
 use Rattle.fc_runs.specs.Run.{Mode, Steps, commands_in, script_for, text_of, demo_line}
 use Rattle.fc_runs.specs.ReadLaw.{is_reading, reading_reply}
-use Rattle.fc_runs.specs.HostRun.{Files, HostSteps, FilesLeft}
+use Rattle.fc_runs.specs.HostRun.{HostSteps, FilesLeft, Reading}
 
 -- the reply that a command may have begun to write when it broke off: that of a command that reads
 abbrev pub reply_begun : Mode → State → Result Command Refusal → List ℕ
@@ -37,16 +38,16 @@ pub record EndsEarly (May : List ℕ → Type 0) (mode : Mode) (demo : Option �
       (λ line. reply_begun mode s' (command_of line))))
 
 -- what is left of the host's files, by the line that broke off, if one did
-abbrev pub FilesLeftBy : Mode → State → Files → Option (List ℕ) → Files → Type 0
-FilesLeftBy mode s files None left = left ≡ files
-FilesLeftBy mode s files (Some line) left = FilesLeft mode s files line left
+abbrev pub FilesLeftBy : Reading → Mode → State → Files → Option (List ℕ) → Files → Type 0
+FilesLeftBy read mode s files None left = left ≡ files
+FilesLeftBy read mode s files (Some line) left = FilesLeft read mode s files line left
 
 -- `EndsEarly` for lines that may move files of the host
-pub record HostEndsEarly (May : List ℕ → Type 0) (mode : Mode) (demo : Option ℕ) (s : State) (files : Files) (script text : List ℕ) (s' : State) (left : Files) : Type 0 where
+pub record HostEndsEarly (read : Reading) (May : List ℕ → Type 0) (mode : Mode) (demo : Option ℕ) (s : State) (files : Files) (script text : List ℕ) (s' : State) (left : Files) : Type 0 where
   pub start : May s.image
   pub replies : List (List ℕ)
   pub between : Files
-  pub steps : HostSteps May mode s files (take (length replies) (commands_in (script_for demo script))) replies s' between
-  pub host : FilesLeftBy mode s' between (slice_get (commands_in (script_for demo script)) (length replies)) left
+  pub steps : HostSteps read May mode s files (take (length replies) (commands_in (script_for demo script))) replies s' between
+  pub host : FilesLeftBy read mode s' between (slice_get (commands_in (script_for demo script)) (length replies)) left
   pub told : (n : ℕ) × (text ≡ take n (text_begun demo replies (slice_get (commands_in (script_for demo script)) (length replies))
-      (λ line. host_reply_begun mode s' (host_line_of line))))
+      (λ line. host_reply_begun mode s' (read line))))

@@ -2,7 +2,6 @@
 -- the disc decides is only which lines are refused for want of space, by conditions that are written down (`short`), and what
 -- `free`, `check` and `reclaim` tell of it.
 use Rattle.std.specs.Prelude.{◌≡◌, ℕ, Bool, false, List, [], ◌∷◌, map, Option, Some, None, Result, Ok, Err}
-use Rattle.fc_names.specs.declared.name.NameForm.{NameForm}
 use Rattle.fc_names.specs.declared.refusal.Refusal.{Refusal}
 use Rattle.fc_model.specs.Tree.{Tree, bytes_of_node, children, node_at}
 use Rattle.fc_model.specs.Command.{Command}

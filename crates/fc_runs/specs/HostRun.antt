@@ -1,8 +1,7 @@
 -- Runs of scripts whose lines may move files between a volume and the host.
-use Rattle.std.specs.Prelude.{◌≡◌, ◌≤◌, ◌⊎◌, ℕ, Bool, true, false, ◌||◌, ◌&&◌, nat_lt, if◌then◌else◌, List, [], ◌∷◌, length, take, Option, Some, None, is_some, IsOk, Result, Ok, Err}
-use Rattle.std.specs.Ordering.{nat_cmp}
-use Rattle.std.specs.Cmp.Lexicographic.{slice_cmp}
-use Rattle.std.specs.FinMap.{FinMap, get, insert}
+use Rattle.std.specs.Prelude.{◌≡◌, ◌≤◌, ◌⊎◌, ℕ, Bool, true, false, ◌||◌, nat_lt, if◌then◌else◌, List, [], ◌∷◌, length, take, Option, Some, None, is_some, IsOk, Result, Ok, Err}
+use Rattle.std.specs.FinMap.{get, insert}
+use Rattle.fc_host.specs.Files.{Files}
 use Rattle.fc_names.specs.declared.refusal.Refusal.{Refusal}
 use Rattle.fc_names.specs.declared.refusal.Refusal.TheVariants as refusals
 use Rattle.fc_names.specs.Names.{Path}
@@ -15,10 +14,6 @@ use Rattle.fc_image.specs.safe.SafeEffect.{HasTree, HasTreeBeforeOrAfter}
 use Rattle.fc_script.specs.HostLines.{HostLine, host_line_of}
 use Rattle.fc_script.specs.Texts.{refusal_line, ok_line}
 use Rattle.fc_runs.specs.Run.{Mode, Refuses, Takes, commands_in, script_for, text_for, each_line, keeps_tree, tree_after, line_begun}
-
--- the files of the host by their names
-abbrev pub Files : Type 0
-Files = FinMap (slice_cmp nat_cmp) (List ℕ)
 
 -- the most bytes that a file on a disc can have, since its entry has 32 bits for them
 abbrev pub longest_file : ℕ
@@ -66,24 +61,39 @@ HostTakes mode s files (Ok (HostLine.Get path host)) reply s' files' =
     Gets s files host (file_in s path) (is_some (get files host)) (answer_in mode s (Command.Load path)) reply s' files'
 HostTakes mode s files (Ok (HostLine.Other command)) reply s' files' = Takes mode s (Ok command) reply s' × (files' ≡ files)
 
+-- ---- lines
+
+-- how lines are read: as commands that may move files, or in part
+abbrev pub Reading : Type 0
+Reading = List ℕ → Result HostLine Refusal
+
+-- `put` isn't served yet: a line that spells one is refused
+abbrev pub without_put : Result HostLine Refusal → Result HostLine Refusal
+without_put (Ok (HostLine.Put host path load exec)) = Err refusals.BadCommand
+without_put line = line
+
+-- lines as they are served
+abbrev pub served_line_of : Reading
+served_line_of line = without_put (host_line_of line)
+
 -- a line as a step, with the files of the host
-abbrev pub HostStep : Mode → State → Files → List ℕ → List ℕ → State → Files → Type 0
-HostStep mode s files line reply s' files' = HostTakes mode s files (host_line_of line) reply s' files'
+abbrev pub HostStep : Reading → Mode → State → Files → List ℕ → List ℕ → State → Files → Type 0
+HostStep read mode s files line reply s' files' = HostTakes mode s files (read line) reply s' files'
 
 -- lines in turn, with their replies
-abbrev pub HostSteps : (List ℕ → Type 0) → Mode → State → Files → List (List ℕ) → List (List ℕ) → State → Files → Type 0
-HostSteps May mode s files [] [] s' files' = (s' ≡ s) × (files' ≡ files)
-HostSteps May mode s files (line ∷ lines) (reply ∷ replies) s' files' =
-    (mid : State) × (between : Files) × May mid.image × HostStep mode s files line reply mid between
-    × HostSteps May mode mid between lines replies s' files'
-HostSteps May mode s files [] (reply ∷ replies) s' files' = ⊥
-HostSteps May mode s files (line ∷ lines) [] s' files' = ⊥
+abbrev pub HostSteps : Reading → (List ℕ → Type 0) → Mode → State → Files → List (List ℕ) → List (List ℕ) → State → Files → Type 0
+HostSteps read May mode s files [] [] s' files' = (s' ≡ s) × (files' ≡ files)
+HostSteps read May mode s files (line ∷ lines) (reply ∷ replies) s' files' =
+    (mid : State) × (between : Files) × May mid.image × HostStep read mode s files line reply mid between
+    × HostSteps read May mode mid between lines replies s' files'
+HostSteps read May mode s files [] (reply ∷ replies) s' files' = ⊥
+HostSteps read May mode s files (line ∷ lines) [] s' files' = ⊥
 
 -- a whole script
-pub record HostRun (May : List ℕ → Type 0) (mode : Mode) (demo : Option ℕ) (s : State) (files : Files) (script text : List ℕ) (s' : State) (files' : Files) : Type 0 where
+pub record HostRun (read : Reading) (May : List ℕ → Type 0) (mode : Mode) (demo : Option ℕ) (s : State) (files : Files) (script text : List ℕ) (s' : State) (files' : Files) : Type 0 where
   pub start : May s.image
   pub replies : List (List ℕ)
-  pub steps : HostSteps May mode s files (commands_in (script_for demo script)) replies s' files'
+  pub steps : HostSteps read May mode s files (commands_in (script_for demo script)) replies s' files'
   pub told : text ≡ text_for demo replies
 
 -- the file of a `get`, with the first of its bytes
@@ -94,8 +104,8 @@ HasPartOf mode s files (Ok (HostLine.Get path host)) left =
 HasPartOf mode s files _ left = ⊥
 
 -- What a run that breaks off in this line leaves of the host's files.
-abbrev pub FilesLeft : Mode → State → Files → List ℕ → Files → Type 0
-FilesLeft mode s files line left = (left ≡ files) ⊎ HasPartOf mode s files (host_line_of line) left
+abbrev pub FilesLeft : Reading → Mode → State → Files → List ℕ → Files → Type 0
+FilesLeft read mode s files line left = (left ≡ files) ⊎ HasPartOf mode s files (read line) left
 
 -- ---- crashes
 
@@ -107,8 +117,8 @@ host_keeps_tree refused (Ok (HostLine.Other command)) = refused || keeps_tree co
 host_keeps_tree refused (Err refusal) = true
 
 -- Every line that is not refused leaves the tree, and so does the one that broke off without a reply.
-abbrev pub all_host_keep_tree : List (List ℕ) → List (List ℕ) → Bool
-all_host_keep_tree lines replies = each_line (λ refused line. host_keeps_tree refused (host_line_of line)) lines replies
+abbrev pub all_host_keep_tree : Reading → List (List ℕ) → List (List ℕ) → Bool
+all_host_keep_tree read lines replies = each_line (λ refused line. host_keeps_tree refused (read line)) lines replies
 
 -- the tree after `put`, by the file
 abbrev pub tree_after_put : Mode → State → (List ℕ → Command) → Option (List ℕ) → Tree
@@ -123,16 +133,16 @@ host_tree_after mode s files (Ok (HostLine.Get path host)) = tree_in s
 host_tree_after mode s files (Ok (HostLine.Other command)) = tree_after mode s (Ok command)
 
 -- The image has the tree of the state, or the one after the line that broke off, if one did.
-abbrev pub HostHasTreeAround : Mode → State → Files → Option (List ℕ) → List ℕ → Type 0
-HostHasTreeAround mode s files None image = HasTree mode.kind (tree_in s) image
-HostHasTreeAround mode s files (Some line) image = HasTreeBeforeOrAfter mode.kind s (host_tree_after mode s files (host_line_of line)) image
+abbrev pub HostHasTreeAround : Reading → Mode → State → Files → Option (List ℕ) → List ℕ → Type 0
+HostHasTreeAround read mode s files None image = HasTree mode.kind (tree_in s) image
+HostHasTreeAround read mode s files (Some line) image = HasTreeBeforeOrAfter mode.kind s (host_tree_after mode s files (read line)) image
 
 -- `HasTreeAfter` for lines that may move files of the host
-pub record HostHasTreeAfter (May : List ℕ → Type 0) (mode : Mode) (s : State) (files : Files) (lines replies : List (List ℕ)) (least : ℕ) (image : List ℕ) : Type 0 where
+pub record HostHasTreeAfter (read : Reading) (May : List ℕ → Type 0) (mode : Mode) (s : State) (files : Files) (lines replies : List (List ℕ)) (least : ℕ) (image : List ℕ) : Type 0 where
   pub count : ℕ
   pub enough : least ≤ count
   pub within : count ≤ length replies
   pub mid : State
   pub between : Files
-  pub steps : HostSteps May mode s files (take count lines) (take count replies) mid between
-  pub tree : HostHasTreeAround mode mid between (line_begun lines replies count) image
+  pub steps : HostSteps read May mode s files (take count lines) (take count replies) mid between
+  pub tree : HostHasTreeAround read mode mid between (line_begun lines replies count) image

@@ -11,3 +11,8 @@ pub mod RepliesLaw
 pub mod Stops
 pub mod Promises
 pub mod Headline
+pub mod AskedRun
+pub mod HostPromises
+pub mod Meanwhile
+pub mod HostServing
+pub mod HostAsks

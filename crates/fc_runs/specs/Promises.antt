@@ -3,10 +3,11 @@ use Rattle.std.specs.Prelude.{◌≡◌, ◌⊎◌, ℕ, Bool, true, false, List
 use Rattle.std.specs.List.{list_any}
 use Rattle.fc_device.specs.declared.disk.Disk.{Ghosts}
 use Rattle.fc_device.specs.Calls.{StopsAsBefore}
+use Rattle.fc_host.specs.Files.{Files}
 use Rattle.fc_image.specs.effects.Effect.{State}
 use Rattle.fc_runs.specs.Run.{Mode, Run, commands_in, script_for, is_error, whole_replies}
 use Rattle.fc_runs.specs.Early.{EndsEarly, HostEndsEarly}
-use Rattle.fc_runs.specs.HostRun.{Files, HostRun}
+use Rattle.fc_runs.specs.HostRun.{HostRun, Reading}
 use Rattle.fc_runs.specs.Stops.{MayHaveLeft, Stops, HostStops}
 
 -- ---- ends without a run
@@ -37,13 +38,13 @@ pub record HasRun {D : Type 0} (d : Ghosts D) (old new : D) (mode : Mode) (fresh
   pub stops : d.pending old ≡ false → Stops d old new mode fresh demo s end (commands_in (script_for demo script)) run.replies text
 
 -- the same with files of the host
-pub record HostHasRun {D : Type 0} (d : Ghosts D) (old new : D) (mode : Mode) (fresh : Bool) (demo : Option ℕ) (s : State) (files left : Files) (script text : List ℕ) (refused : Bool) : Type 0 where
+pub record HostHasRun {D : Type 0} (d : Ghosts D) (read : Reading) (old new : D) (mode : Mode) (fresh : Bool) (demo : Option ℕ) (s : State) (files left : Files) (script text : List ℕ) (refused : Bool) : Type 0 where
   pub end : State
-  pub run : HostRun (MayHaveLeft d old new) mode demo s files script text end left
+  pub run : HostRun read (MayHaveLeft d old new) mode demo s files script text end left
   pub refused_is : refused ≡ list_any is_error run.replies
   pub holds : d.bytes new ≡ Some end.image
   pub settled : d.pending new ≡ false
-  pub stops : d.pending old ≡ false → HostStops d old new mode fresh demo s end files (commands_in (script_for demo script)) run.replies text
+  pub stops : d.pending old ≡ false → HostStops d read old new mode fresh demo s end files (commands_in (script_for demo script)) run.replies text
 
 -- ---- ends before it
 
@@ -83,15 +84,15 @@ HasBrokenOff d old new mode fresh demo s script text cause =
     HasStopped d old new mode fresh demo s script text cause ⊎ IsUnmade fresh cause old new text
 
 -- the same with files of the host
-pub record HostHasStopped {D : Type 0} (d : Ghosts D) (old new : D) (mode : Mode) (fresh : Bool) (demo : Option ℕ) (s : State) (files left : Files) (script text : List ℕ) (cause : Cause) : Type 0 where
+pub record HostHasStopped {D : Type 0} (d : Ghosts D) (read : Reading) (old new : D) (mode : Mode) (fresh : Bool) (demo : Option ℕ) (s : State) (files left : Files) (script text : List ℕ) (cause : Cause) : Type 0 where
   pub end : State
-  pub ended : HostEndsEarly (MayHaveLeft d old new) mode demo s files script text end left
+  pub ended : HostEndsEarly read (MayHaveLeft d old new) mode demo s files script text end left
   pub whole : demo ≡ None → spares_disk cause ≡ false → whole_replies (length text) ended.replies ≡ length ended.replies
   pub holds : spares_disk cause ≡ true → d.bytes new ≡ Some end.image
   pub settled : spares_disk cause ≡ true → (d.pending new ≡ false) ⊎ (new ≡ old)
-  pub stops : d.pending old ≡ false → HostStops d old new mode fresh demo s end files (commands_in (script_for demo script)) ended.replies text
+  pub stops : d.pending old ≡ false → HostStops d read old new mode fresh demo s end files (commands_in (script_for demo script)) ended.replies text
 
 -- The files of the host stay, if the fresh image isn't there.
-abbrev pub HostHasBrokenOff : {D : Type 0} → Ghosts D → D → D → Mode → Bool → Option ℕ → State → Files → Files → List ℕ → List ℕ → Cause → Type 0
-HostHasBrokenOff d old new mode fresh demo s files left script text cause =
-    HostHasStopped d old new mode fresh demo s files left script text cause ⊎ (IsUnmade fresh cause old new text × (left ≡ files))
+abbrev pub HostHasBrokenOff : {D : Type 0} → Ghosts D → Reading → D → D → Mode → Bool → Option ℕ → State → Files → Files → List ℕ → List ℕ → Cause → Type 0
+HostHasBrokenOff d read old new mode fresh demo s files left script text cause =
+    HostHasStopped d read old new mode fresh demo s files left script text cause ⊎ (IsUnmade fresh cause old new text × (left ≡ files))

@@ -7,6 +7,7 @@ use Rattle.fc_runs.specs.Demo.{next_seed, draw, demo_script}
 use Rattle.fc_names.specs.declared.refusal.Refusal.TheVariants.{NotNewMap, DiscFull, ReadOnly}
 use Rattle.fc_script.specs.Texts.{refusal_line}
 use Rattle.fc_runs.specs.Run.{is_error, whole_replies, all_keep_tree}
+use Rattle.fc_script.specs.HostLines.{host_line_of}
 use Rattle.fc_runs.specs.HostRun.{all_host_keep_tree}
 use Rattle.fc_runs.specs.Early.{text_begun}
 use Rattle.fc_runs.specs.Stops.{all_leave_image, all_host_leave_image, next_leaves_image, next_keeps_tree, next_host_keeps_tree, replies_written}
@@ -35,8 +36,8 @@ pub record RunRows : Type 0 where
   -- `compact` leaves the tree, but not the image, unless it is refused.
   pub compacted : all_leave_image (codes "compact" ∷ []) ((codes "ok" ++ 10 ∷ []) ∷ []) ≡ false
   pub not_compacted : all_leave_image (codes "compact" ∷ codes "free" ∷ []) (refusal_line ReadOnly ∷ []) ≡ true
-  pub put_broke_off : all_host_keep_tree (codes "put a $.A 00000000 00000000" ∷ []) [] ≡ false
-  pub get_broke_off : all_host_keep_tree (codes "get $.A a" ∷ []) [] ≡ true
+  pub put_broke_off : all_host_keep_tree host_line_of (codes "put a $.A 00000000 00000000" ∷ []) [] ≡ false
+  pub get_broke_off : all_host_keep_tree host_line_of (codes "get $.A a" ∷ []) [] ≡ true
   -- the text of a run that breaks off in its second line: what was written of a load's reply may follow, and a demo has none
   pub begun : text_begun None ((codes "ok" ++ 10 ∷ []) ∷ []) (Some (codes "load $.A")) (λ line. codes "41" ++ 10 ∷ []) ≡ codes "ok" ++ 10 ∷ codes "41" ++ 10 ∷ []
   pub demo_begun : text_begun (Some 1) ((codes "ok" ++ 10 ∷ []) ∷ []) (Some (codes "load $.A")) (λ line. codes "41" ++ 10 ∷ []) ≡ []
@@ -44,11 +45,11 @@ pub record RunRows : Type 0 where
   pub delete_then_compact : next_keeps_tree (codes "delete $.A" ∷ codes "compact" ∷ []) ((codes "ok" ++ 10 ∷ []) ∷ []) ≡ true
   pub not_the_first : all_keep_tree (codes "delete $.A" ∷ codes "compact" ∷ []) ((codes "ok" ++ 10 ∷ []) ∷ []) ≡ false
   pub compact_then_delete : next_keeps_tree (codes "compact" ∷ codes "delete $.A" ∷ []) ((codes "ok" ++ 10 ∷ []) ∷ []) ≡ false
-  pub then_get : next_host_keeps_tree (codes "delete $.A" ∷ codes "get $.B b" ∷ []) ((codes "ok" ++ 10 ∷ []) ∷ []) ≡ true
+  pub then_get : next_host_keeps_tree host_line_of (codes "delete $.A" ∷ codes "get $.B b" ∷ []) ((codes "ok" ++ 10 ∷ []) ∷ []) ≡ true
   pub then_load : next_leaves_image (codes "delete $.A" ∷ codes "load $.B" ∷ []) ((codes "ok" ++ 10 ∷ []) ∷ []) ≡ true
   pub in_compact : next_leaves_image (codes "delete $.A" ∷ codes "compact" ∷ []) ((codes "ok" ++ 10 ∷ []) ∷ []) ≡ false
-  pub got : all_host_leave_image (codes "get $.A a" ∷ []) ((codes "ok" ++ 10 ∷ []) ∷ []) ≡ true
-  pub then_put : next_host_keeps_tree (codes "put a $.A 00000000 00000000" ∷ []) [] ≡ false
+  pub got : all_host_leave_image host_line_of (codes "get $.A a" ∷ []) ((codes "ok" ++ 10 ∷ []) ∷ []) ≡ true
+  pub then_put : next_host_keeps_tree host_line_of (codes "put a $.A 00000000 00000000" ∷ []) [] ≡ false
   -- a reply that was cut off doesn't count, and a demo writes none
   pub cut_off : replies_written None (codes "ok" ++ 10 ∷ codes "o") ((codes "ok" ++ 10 ∷ []) ∷ (codes "ok" ++ 10 ∷ []) ∷ []) ≡ 1
   pub of_a_demo : replies_written (Some 1) (codes "ok" ++ 10 ∷ []) ((codes "ok" ++ 10 ∷ []) ∷ []) ≡ 0

@@ -3,16 +3,17 @@
 -- this image.
 use Rattle.std.specs.Prelude.{◌≡◌, ℕ, Bool, true, false, ◌||◌, List, length, slice_get, Option, Some, None, Result, Ok, Err}
 use Rattle.fc_device.specs.declared.disk.Disk.{Ghosts}
+use Rattle.fc_host.specs.Files.{Files}
 use Rattle.fc_names.specs.declared.refusal.Refusal.{Refusal}
 use Rattle.fc_model.specs.Command.{Command}
 use Rattle.fc_image.specs.Stays.{KeepsTree, IsNewLayout}
 use Rattle.fc_image.specs.effects.Effect.{State, tree_in}
 use Rattle.fc_image.specs.safe.SafeEffect.{HasTree}
 use Rattle.fc_script.specs.Lines.{command_of}
-use Rattle.fc_script.specs.HostLines.{HostLine, host_line_of}
+use Rattle.fc_script.specs.HostLines.{HostLine}
 use Rattle.fc_runs.specs.ReadLaw.{is_reading}
 use Rattle.fc_runs.specs.Run.{Mode, whole_replies, each_line, all_keep_tree, keeps_tree_or, HasTreeAfter}
-use Rattle.fc_runs.specs.HostRun.{Files, all_host_keep_tree, host_keeps_tree, HostHasTreeAfter}
+use Rattle.fc_runs.specs.HostRun.{Reading, all_host_keep_tree, host_keeps_tree, HostHasTreeAfter}
 
 -- A crash during the call could have left the image. If the disk tells nothing of crashes, any image passes.
 abbrev pub MayHaveLeft : {D : Type 0} → Ghosts D → D → D → List ℕ → Type 0
@@ -37,8 +38,8 @@ host_leaves_image refused (Ok (HostLine.Other command)) = refused || is_reading 
 host_leaves_image refused (Err refusal) = true
 
 -- Each line does.
-abbrev pub all_host_leave_image : List (List ℕ) → List (List ℕ) → Bool
-all_host_leave_image lines replies = each_line (λ refused line. host_leaves_image refused (host_line_of line)) lines replies
+abbrev pub all_host_leave_image : Reading → List (List ℕ) → List (List ℕ) → Bool
+all_host_leave_image read lines replies = each_line (λ refused line. host_leaves_image refused (read line)) lines replies
 
 -- ---- the line in which a run broke off
 
@@ -52,16 +53,16 @@ abbrev pub next_keeps_tree : List (List ℕ) → List (List ℕ) → Bool
 next_keeps_tree lines replies = is_kept_by_next (λ line. keeps_tree_or false (command_of line)) (slice_get lines (length replies))
 
 -- the same of a line that may move a file of the host
-abbrev pub next_host_keeps_tree : List (List ℕ) → List (List ℕ) → Bool
-next_host_keeps_tree lines replies = is_kept_by_next (λ line. host_keeps_tree false (host_line_of line)) (slice_get lines (length replies))
+abbrev pub next_host_keeps_tree : Reading → List (List ℕ) → List (List ℕ) → Bool
+next_host_keeps_tree read lines replies = is_kept_by_next (λ line. host_keeps_tree false (read line)) (slice_get lines (length replies))
 
 -- The line after those with a reply leaves the image as it is,
 abbrev pub next_leaves_image : List (List ℕ) → List (List ℕ) → Bool
 next_leaves_image lines replies = is_kept_by_next (λ line. leaves_image_or false (command_of line)) (slice_get lines (length replies))
 
 -- also if it may move a file of the host.
-abbrev pub next_host_leaves_image : List (List ℕ) → List (List ℕ) → Bool
-next_host_leaves_image lines replies = is_kept_by_next (λ line. host_leaves_image false (host_line_of line)) (slice_get lines (length replies))
+abbrev pub next_host_leaves_image : Reading → List (List ℕ) → List (List ℕ) → Bool
+next_host_leaves_image read lines replies = is_kept_by_next (λ line. host_leaves_image false (read line)) (slice_get lines (length replies))
 
 -- ---- what crashes leave
 
@@ -94,15 +95,15 @@ pub record Stops {D : Type 0} (d : Ghosts D) (old new : D) (mode : Mode) (fresh 
       → HasTreeAfter (λ between. Unit {0}) mode s lines replies (replies_written demo text replies) image
 
 -- `Stops` for lines that may move files of the host
-pub record HostStops {D : Type 0} (d : Ghosts D) (old new : D) (mode : Mode) (fresh : Bool) (demo : Option ℕ) (s end : State) (files : Files) (lines replies : List (List ℕ)) (text : List ℕ) : Type 0 where
-  pub idle : IsNewLayout s.view.layout → fresh ≡ false → demo ≡ None → all_host_keep_tree lines replies ≡ true
+pub record HostStops {D : Type 0} (d : Ghosts D) (read : Reading) (old new : D) (mode : Mode) (fresh : Bool) (demo : Option ℕ) (s end : State) (files : Files) (lines replies : List (List ℕ)) (text : List ℕ) : Type 0 where
+  pub idle : IsNewLayout s.view.layout → fresh ≡ false → demo ≡ None → all_host_keep_tree read lines replies ≡ true
       → (image : List ℕ) → d.left_since new (d.moment old) image → KeepsTree mode.kind s.image s.view image
-  pub last : IsNewLayout s.view.layout → next_host_keeps_tree lines replies ≡ true
+  pub last : IsNewLayout s.view.layout → next_host_keeps_tree read lines replies ≡ true
       → (image : List ℕ) → d.left_since new (d.moment new) image → HasTree mode.kind (tree_in end) image
-  pub still : fresh ≡ false → demo ≡ None → all_host_leave_image lines replies ≡ true
+  pub still : fresh ≡ false → demo ≡ None → all_host_leave_image read lines replies ≡ true
       → (image : List ℕ) → d.left_since new (d.moment old) image → image ≡ s.image
-  pub rest : next_host_leaves_image lines replies ≡ true → (image : List ℕ) → d.left_since new (d.moment new) image → image ≡ end.image
+  pub rest : next_host_leaves_image read lines replies ≡ true → (image : List ℕ) → d.left_since new (d.moment new) image → image ≡ end.image
   pub during : mode.safe ≡ true → fresh ≡ false → (image : List ℕ) → d.left_since new (d.moment old) image
-      → HostHasTreeAfter (λ between. Unit {0}) mode s files lines replies 0 image
+      → HostHasTreeAfter read (λ between. Unit {0}) mode s files lines replies 0 image
   pub exit : mode.safe ≡ true → (image : List ℕ) → d.left_since new (d.moment new) image
-      → HostHasTreeAfter (λ between. Unit {0}) mode s files lines replies (replies_written demo text replies) image
+      → HostHasTreeAfter read (λ between. Unit {0}) mode s files lines replies (replies_written demo text replies) image

@@ -8,9 +8,9 @@ use Rattle.fc_image.specs.Layout.{Layout, hole_sectors, is_among}
 use Rattle.fc_image.specs.Objects.{is_movable, is_owned, objects_of}
 use Rattle.fc_image.proofs.HolesLemmas.{OpenMap}
 use Rattle.fc_image.proofs.MoveLemmas.{open_by}
-use Rattle.fc_image.proofs.OneZoneLemmas.{and_first, and_second}
 use Rattle.fc_changes.proofs.OutsideLemmas.{AreBusy, holes_busy, owned_busy}
 use Rattle.fc_safelaws.specs.Free.{IsFreeSector, MappedImage, view}
+use Rattle.fc_record.proofs.KindLemmas.{and_first, and_second}
 
 pub the_map : (x : MappedImage) → OpenMap x.image x.kind x.r (view x) x.m
 the_map x = open_by x.image x.kind x.r (view x) x.m x.new_kind x.opens refl

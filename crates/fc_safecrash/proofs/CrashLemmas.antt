@@ -10,7 +10,6 @@ use Rattle.fc_model.specs.Tree.{Tree}
 use Rattle.fc_image.specs.Layout.{is_among}
 use Rattle.fc_image.specs.Objects.{objects_of, tree_of}
 use Rattle.fc_image.specs.safe.SafeEffect.{HasTree, HasTreeBeforeOrAfter}
-use Rattle.fc_image.proofs.MoveLemmas.{unless}
 use Rattle.fc_image.proofs.StoredLemmas.{stored_tree}
 use Rattle.fc_changes.proofs.OutsideLemmas.{AreBusy, idle_stay}
 use Rattle.fc_writing.specs.declared.ready.Piece.{Piece}
@@ -25,6 +24,7 @@ use Rattle.fc_safelaws.specs.Free.{ChangesFree, MappedImage, view}
 use Rattle.fc_safelaws.proofs.FreeLemmas.{free_space_law}
 use Rattle.fc_safecrash.specs.Crash.{CrashLaw, KeepsRest, LeadsTo, WritesFree}
 use Rattle.fc_safecrash.proofs.BusyLemmas.{free_busy, the_map}
+use Rattle.std.proofs.lemmas.Bool.{false_from_ne_true as unless}
 
 -- in neither list, so not in both
 pub neither : (xs ys : List ℕ) (s : ℕ) → is_among xs s ≡ false → is_among ys s ≡ false → is_among (xs ++ ys) s ≡ false

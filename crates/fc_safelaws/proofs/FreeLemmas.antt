@@ -17,24 +17,17 @@ use Rattle.fc_image.specs.Opening.{Opened, boot_place, reserved_in}
 use Rattle.fc_image.specs.Stays.{HasSectorsOf, IsNewKind, OpensAs, stored_object, stored_objects}
 use Rattle.fc_image.specs.Order.{directories, held, listed}
 use Rattle.fc_image.proofs.EntriesLemmas.{later}
-use Rattle.fc_image.proofs.FreeLemmas.{object_same}
+use Rattle.fc_image.proofs.FreeLemmas.{object_same, stored_same as stored_all}
 use Rattle.fc_image.proofs.HolesLemmas.{Each-contains, Each-objects, Lies, OpenMap, apart_at, apart_from, holes_law, holes_loose, loose_sectors, none_loose, walk_lies}
-use Rattle.fc_image.proofs.MoveLemmas.{id_loose, open_by, unless}
+use Rattle.fc_image.proofs.MoveLemmas.{id_loose, open_by}
 use Rattle.fc_image.proofs.OpenedLemmas.{edited_image_law}
 use Rattle.fc_image.proofs.OrderLemmas.{order_law}
 use Rattle.fc_image.proofs.WalkLemmas.{walk-Tells, walk-any}
 use Rattle.fc_safelaws.specs.Free.{AreFree, ChangesFree, FreeSpaceLaw, IsFreeSector, view}
+use Rattle.std.proofs.lemmas.Bool.{false_from_ne_true as unless}
 
 clash : (b : Bool) → b ≡ true → b ≡ false → ⊥
 clash b is not = cc
-
-stored_all : (size : ℕ) (image other : List ℕ) (layout : Layout) (objects : List Object) → sector_bytes layout ≡ size
-    → ((o : Object) → Contains objects o → HasSectorsOf size o.sectors image other) → map (stored_object other layout) objects ≡ map (stored_object image layout) objects
-stored_all size image other layout [] is same = refl
-stored_all size image other layout (o ∷ objects) is same =
-    ap₂ (λ e es. e ∷ es)
-    (ap (λ (bs : List ℕ). let s : Path × Entry × List ℕ = (o.path, o.entry, bs) in s) (object_same size image other layout o is (same o (0, omega arith, refl))))
-    (stored_all size image other layout objects is (λ p c. same p (suc c.0, omega (arith, c.1), c.2)))
 
 are_free : (image : List ℕ) (kind : Kind) (r : DiscRecord) (v : Opened) (m : Map) (free : List ℕ) → IsNewKind kind r → OpensAs image kind v → v.layout ≡ Layout.New m
     → ((s : ℕ) → is_among free s ≡ true → IsFreeSector m (objects_of v.listings) s) → AreFree kind m (objects_of v.listings) free

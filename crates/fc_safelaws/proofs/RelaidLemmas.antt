@@ -20,9 +20,7 @@ use Rattle.fc_image.proofs.HolesLemmas.{apart_at, apart_from, in_id}
 use Rattle.fc_image.proofs.MoveLemmas.{one_id}
 use Rattle.fc_safelaws.specs.Relaid.{AreCopied, IsRelaid, Reaches, RelaidLaw}
 use Rattle.fc_safelaws.proofs.PlaceLemmas.{HasPlace, among_place, has_place, in_drop, in_take, one_place, place_among, place_once, to_take}
-
-abbrev pub at_zones : Map → List (List ℕ) → Map
-at_zones m zs = record { geometry = m.geometry; zones = zs }
+use Rattle.fc_image.proofs.MapEditLemmas.{at_zones}
 
 -- a map of the same geometry is the old one with other zones
 pub zones_back : (m m' : Map) → m'.geometry ≡ m.geometry → at_zones m m'.zones ≡ m'

@@ -1,6 +1,6 @@
 -- What std reads of the digits of numbers.
 use Rattle.std.proofs.Common.{◌≡◌, ◌<◌, ◌^◌, ◌+◌, ◌*◌, ◌-◌, ◌==◌, ◌&&◌, ℕ, Bool, true, false, refl, subst, eq-eqb, arith, List, [], ◌∷◌, length, unwrap_or, nat_lt}
-use Rattle.std.proofs.lemmas.Bool.{ltb-true, lt-ltb}
+use Rattle.std.proofs.lemmas.Bool.{ltb-true, lt-ltb, and_parts as both}
 use Rattle.std.proofs.lemmas.Bool.Decides.{nat_tests}
 use Rattle.std.proofs.lemmas.Int.Digits.{digits_value-lt}
 use Rattle.std.specs.Char.{digit_value}
@@ -9,10 +9,6 @@ use Rattle.std.specs.Str.Parse.{AllDigits, IsNumeral, digits_value, digits_value
 use Rattle.hex.specs.Hex.{hex_digit_value, is_hex_digit}
 use Rattle.fc_script.specs.Words.{number_of}
 use Rattle.fc_script.specs.Lines.{is_decimal, is_digit, is_some_word, length_of, word_of}
-
-both : (a b : Bool) → (a && b) ≡ true → (a ≡ true) × (b ≡ true)
-both true b e = (refl, e)
-both false b e = cc e
 
 hex_small : (c : ℕ) → is_hex_digit c ≡ true → digit_value c < 16
 hex_small c e = grind (arith, nat_tests)

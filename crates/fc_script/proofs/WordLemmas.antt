@@ -3,7 +3,7 @@ use Rattle.std.proofs.Common.{◌≡◌, ◌<◌, ◌≤◌, ◌==◌, ◌&&◌,
 use Rattle.std.specs.Prelude.{nat_le}
 use Rattle.std.specs.List.{after_first, before_first, list_all, position_or_len}
 use Rattle.std.proofs.lemmas.Bool.Decides.{nat_tests}
-use Rattle.std.proofs.lemmas.Bool.{leb-true}
+use Rattle.std.proofs.lemmas.Bool.{leb-true, and_parts as both}
 use Rattle.std.proofs.lemmas.Str.Ascii.{IsAscii-nil, IsAscii-cons}
 use Rattle.std.specs.Str.{IsAscii}
 use Rattle.std.proofs.lemmas.List.Splits.{length-slice_split, slice_split_first, slice_split_none}
@@ -20,10 +20,6 @@ pub cut_once : (text : List ℕ) (read : Option (Bor (List ℕ) × Bor (List ℕ
     → MatchOption read (split_words text ≡ text ∷ []) (λ x. split_words text ≡ x.0.now ∷ split_words x.1.now)
 cut_once text None h = slice_split_none is_space text (λ k d below. fails_before_first is_space text k d (omega (arith, h, below)))
 cut_once text (Some x) h = rw (h.1, h.2) (slice_split_first is_space text 0 h.0)
-
-both : (a b : Bool) → (a && b) ≡ true → (a ≡ true) × (b ≡ true)
-both true b e = (refl, e)
-both false b e = cc e
 
 -- printed bytes are text
 pub printed_ascii : (line : List ℕ) → list_all is_printed line ≡ true → IsAscii line

@@ -31,7 +31,7 @@ use Rattle.fc_runs.proofs.RepliesLemmas.{changing_reply}
 use Rattle.fc_tree.specs.Agree.{Agree, reader_of_nodes}
 use Rattle.fc_tree.specs.Nodes.{nodes_of}
 use Rattle.fc_tree.specs.Parts.{ArePartsOf}
-use Rattle.fc_tree.proofs.WalkedLemmas.{apart_names, sound_law}
+use Rattle.fc_tree.proofs.WalkedLemmas.{sound_law}
 use Rattle.fc_volume.specs.declared.lines.CommandError.{CommandError}
 use Rattle.fc_volume.specs.declared.lines.CommandError.TheVariants.{DiskFault, NoMemory, Refused}
 use Rattle.fc_volume.specs.Changing.{AnswersBy, refusal_in}
@@ -45,9 +45,10 @@ use Rattle.fc_shell.specs.Line.{IsDone, IsReady, KeepsGoing, LineEnds}
 use Rattle.fc_shell.specs.Modes.{plain_mode}
 use Rattle.fc_shell.specs.Writing.{Wrote, WrotePart}
 use Rattle.fc_shell.proofs.AnsweredLemmas.{caused_alone}
-use Rattle.fc_shell.proofs.ErrorLemmas.{ok_no_error}
 use Rattle.fc_shell.proofs.StepLemmas.{left_ends, one_fault, unbegun_ends}
 use Rattle.fc_shell.proofs.WritingLemmas.{wrote_nothing}
+use Rattle.fc_runs.proofs.ErrorLemmas.{ok_no_error}
+use Rattle.fc_tree.proofs.EndLemmas.{no_twin as apart_names}
 
 -- ---- which commands these are
 

@@ -45,23 +45,14 @@ use Rattle.fc_shell.specs.Line.{IsDone, KeepsGoing, LeavesTree, LineEnds}
 use Rattle.fc_shell.specs.Modes.{plain_mode}
 use Rattle.fc_shell.specs.Writing.{Wrote, WrotePart}
 use Rattle.fc_shell.proofs.ChangeLemmas.{going}
-use Rattle.fc_shell.proofs.ErrorLemmas.{ok_no_error}
-use Rattle.fc_shell.proofs.MapsLemmas.{new_of}
 use Rattle.fc_shell.proofs.ShortageLemmas.{few_holes, new_enough, no_need, old_enough}
 use Rattle.fc_shell.proofs.StepLemmas.{left_ends, unbegun_ends}
 use Rattle.fc_shell.proofs.WritingLemmas.{wrote_nothing}
+use Rattle.fc_laws.proofs.lemmas.takeover.KindLemmas.{old_never}
+use Rattle.fc_runs.proofs.ErrorLemmas.{ok_no_error}
+use Rattle.fc_volume.proofs.StandsLemmas.{new_layout as new_of}
 
 -- ---- kinds
-
-old_never : (space : OldMapContent) (address size : ℕ) (fault : Option ℕ) (found : MapAndRoot) (m : Map) → holes_or (Layout.Old space, address, size) fault ≡ Ok found → found.0 ≡ Layout.New m → ⊥
-old_never space address size None found m e new =
-    let is : Layout.Old space ≡ found.0 = first (Layout.Old space, address, size) found e in
-    let both : Layout.Old space ≡ Layout.New m = is ∙ new in
-    cc
-  where
-    first : (a b : MapAndRoot) → (let x : Result MapAndRoot ImageFault = Ok a in x) ≡ Ok b → a.0 ≡ b.0
-    first a b h = cc
-old_never space address size (Some index) found m e new = cc
 
 -- an image that opens by a new map opens as a kind with one
 new_kind : (image : List ℕ) (kind : Kind) (v : Opened) (m : Map) → OpensAs image kind v → v.layout ≡ Layout.New m → (r : DiscRecord) × IsNewKind kind r

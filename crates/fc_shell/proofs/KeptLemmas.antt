@@ -23,7 +23,8 @@ use Rattle.fc_shell.specs.Kept.{RunKeeps, RunSpares, SessionKeeps}
 use Rattle.fc_shell.specs.Promise.{EndsByGiving, EndsByLength, EndsByOpening, EndsByWords, EndsWithout, Promise}
 use Rattle.fc_shell.specs.Reading.{IsUnwritten}
 use Rattle.fc_shell.specs.Replies.{blank_size, format_in, image_for, is_unbuilt, script_limit}
-use Rattle.fc_shell.proofs.PromiseLemmas.{Accepts, begun_fault, memory_giving, no_fresh, no_run, none, rose_earlier}
+use Rattle.fc_shell.proofs.PromiseLemmas.{begun_fault, memory_giving, no_fresh, no_run, none, rose_earlier}
+use Rattle.fc_image.specs.Laws.{AcceptedLaw as Accepts}
 
 -- the same by what says as much
 pub keeps_by : {D K : Type 0} (d : Ghosts D) (k : Sinks K) (r : Request) (reads less : Type 0) (old new : D) (before after : K) (end : End) → (less → reads) → RunKeeps d k r reads old new before after end

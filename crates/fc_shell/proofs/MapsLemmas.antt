@@ -18,6 +18,7 @@ use Rattle.fc_volume.specs.Compacting.{CompactsParts, UnlessFault}
 use Rattle.fc_volume.specs.Volume.{StandsFor, Volume, parts_of}
 use Rattle.fc_oldvolume.specs.Changing.{ChangeKeeps as OldKeeps, IsOldLayout}
 use Rattle.fc_shell.specs.Changing.{HasCompacted, IsAsked, IsCompacting}
+use Rattle.fc_volume.proofs.StandsLemmas.{new_layout as new_of}
 
 -- A volume with a new map was,
 pub asked_new : {D : Type 0} (d : Ghosts D) (c : Command) (was v : Volume) (old new : D) (answer : Result (Unit {0}) CommandError) → AnswersOver was c answer
@@ -65,11 +66,6 @@ locked_error : (X : Type 0) (error : CommandError) → (error ≡ CommandError.D
     → (error ≡ CommandError.Refused Refusal.ReadOnly → X) → X
 locked_error X error never (inl locked) then = then locked
 locked_error X error never (inr fault) then = absurd (never fault)
-
--- a new map
-pub new_of : (layout : Layout) → IsNewLayout layout → (m : Map) × (layout ≡ Layout.New m)
-new_of (Layout.New m) new = (m, refl)
-new_of (Layout.Old space) new = absurd new
 
 -- A volume with a new map was asked to compact it.
 pub compacting_new : {D : Type 0} (d : Ghosts D) (was v : Volume) (old new : D) (answer : Result (Unit {0}) CommandError) → IsNewLayout (parts_of was).layout

@@ -35,12 +35,9 @@ use Rattle.fc_shell.specs.Writing.{Wrote, WrotePart}
 use Rattle.fc_runs.specs.Replies.{bad_image_line}
 use Rattle.fc_volume.specs.Volume.{OnlyShapes}
 use Rattle.fc_shell.proofs.WritingLemmas.{wrote_nothing}
-use Rattle.fc_shell.proofs.StepLemmas.{has_tree}
 use Rattle.fc_shell.proofs.ServingLemmas.{steps_weaker}
-
--- an image that is accepted opens as its own kind
-abbrev pub Accepts : Type 0
-Accepts = (image : List ℕ) (v : Opened) → open_image image ≡ Ok v → OpensAs image v.kind v
+use Rattle.fc_image.specs.Laws.{AcceptedLaw as Accepts}
+use Rattle.fc_runs.proofs.StepLemmas.{has_tree}
 
 pub no_fresh : false ≡ true → ⊥
 no_fresh e = cc

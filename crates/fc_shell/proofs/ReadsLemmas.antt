@@ -16,7 +16,7 @@ use Rattle.fc_shell.specs.Modes.{plain_mode}
 use Rattle.fc_shell.specs.ReadsLaw.{ReadsLaw}
 use Rattle.fc_shell.specs.Replies.{command_reply, format_in, image_for, image_reply, line_reply, opened_reply, replies_of}
 use Rattle.fc_shell.specs.Reads.{all_read, is_reading_line}
-use Rattle.fc_shell.proofs.ServingLemmas.{both_true}
+use Rattle.std.proofs.lemmas.Bool.{and_parts as both_true}
 
 -- a line is a step
 step : ReadLaw → (mode : Mode) (s : State) (line : List ℕ) → is_reading_line (command_of line) ≡ true → Step mode s line (line_reply mode s line) s

@@ -41,10 +41,11 @@ use Rattle.fc_shell.specs.Modes.{plain_mode}
 use Rattle.fc_shell.specs.Reads.{is_reading_line}
 use Rattle.fc_shell.specs.Writing.{Wrote, WrotePart}
 use Rattle.fc_shell.proofs.ChangeLemmas.{going}
-use Rattle.fc_shell.proofs.ErrorLemmas.{ok_no_error}
 use Rattle.fc_shell.proofs.ShortageLemmas.{new_enough}
 use Rattle.fc_shell.proofs.StepLemmas.{left_ends}
 use Rattle.fc_shell.proofs.WritingLemmas.{part_of_first, part_of_second, wrote_both, wrote_nothing}
+use Rattle.fc_runs.proofs.ErrorLemmas.{ok_no_error}
+use Rattle.fc_lost.proofs.KeepsLemmas.{one_some as some_same}
 
 -- ---- the reply in pieces
 
@@ -69,18 +70,11 @@ back_cut before mid next after bytes first second part =
     subst (WrotePart before after) (pieces bytes)
     (part_of_second before mid after front (decimal bytes ++ back) first (part_of_second mid next after (decimal bytes) back second part))
 
-pub all_pieces : (before mid next after : Option (List ℕ)) (bytes : ℕ) → Wrote before mid front → Wrote mid next (decimal bytes) → Wrote next after back → Wrote before after (reclaimed_reply bytes)
-all_pieces before mid next after bytes first second third =
-    subst (Wrote before after) (pieces bytes) (wrote_both before mid after front (decimal bytes ++ back) first (wrote_both mid next after (decimal bytes) back second third))
-
 -- it is no error line
 pub reclaimed_no_error : (bytes : ℕ) → is_error (reclaimed_reply bytes) ≡ false
 reclaimed_no_error bytes = ok_no_error (reclaimed_line bytes)
 
 -- ---- when it is refused
-
-some_same : (a b : Refusal) → (let x : Option Refusal = Some a in x) ≡ Some b → a ≡ b
-some_same a b e = cc
 
 answer_read_only : (t : Tree) (form : NameForm) → answer t form true Command.Reclaim ≡ Err refusals.ReadOnly
 unfolding answer

@@ -25,9 +25,10 @@ use Rattle.fc_shell.specs.Answered.{IsReply, volume_reply}
 use Rattle.fc_shell.specs.Modes.{plain_mode}
 use Rattle.fc_shell.specs.Told.{told_line, told_lines}
 use Rattle.fc_shell.specs.declared.reply.Reply.{Reply}
-use Rattle.fc_shell.proofs.ErrorLemmas.{ok_no_error}
 use Rattle.fc_shell.proofs.ShortageLemmas.{shortage_none}
 use Rattle.fc_runs.specs.Run.{is_error, keeps_tree}
+use Rattle.fc_runs.proofs.ErrorLemmas.{ok_no_error}
+use Rattle.fc_tree.proofs.PathLemmas.{some_same as same_node}
 
 -- ---- replies in memory
 
@@ -119,8 +120,3 @@ cat_told t path lines is = ap told_lines is ∙ ap (λ text. text ++ ok_line) (a
     all : (es : List (Path × ModelNode)) → flat_map told_line (map (λ e. line_in e.1) es) ≡ flat_map node_line (map (λ e. e.1) es)
     all [] = refl
     all (e ∷ es) = ap₂ (λ (a b : List ℕ). a ++ b) (entry_same e.1) (all es)
-
--- ---- files
-
-same_node : (x y : Node) → (let o : Option Node = Some x in o) ≡ Some y → x ≡ y
-same_node x y e = cc

@@ -31,18 +31,13 @@ use Rattle.fc_shell.specs.Line.{BreaksOff, GoesOn, IsAnswered, IsCutOff, IsDone,
 use Rattle.fc_shell.specs.Modes.{plain_mode}
 use Rattle.fc_shell.specs.Serving.{AreDone, HasServed, ServesAs, cause_of}
 use Rattle.fc_shell.specs.Writing.{Wrote}
-use Rattle.fc_shell.proofs.StepLemmas.{has_tree, step_keeps, step_leaves}
+use Rattle.fc_shell.proofs.StepLemmas.{step_keeps, step_leaves}
 use Rattle.fc_shell.proofs.WritingLemmas.{wrote_nothing, wrote_both}
+use Rattle.std.proofs.lemmas.Bool.{and_parts as both_true, and_from as true_both}
+use Rattle.fc_runs.proofs.TextLemmas.{one_more, whole_all, get_next, front_part, begun_front}
+use Rattle.fc_runs.proofs.StepLemmas.{has_tree}
 
 -- ---- tests
-
-pub both_true : (a b : Bool) → (a && b) ≡ true → (a ≡ true) × (b ≡ true)
-both_true true b h = (refl, h)
-both_true false b h = absurd (cc)
-
-pub true_both : (a b : Bool) → a ≡ true → b ≡ true → (a && b) ≡ true
-true_both true b h k = k
-true_both false b h k = absurd (cc)
 
 -- lines that write nothing, and lines that change the disc
 pub spares_first : (ro now : Bool) (line : List ℕ) (left : List (List ℕ)) → now ≡ ro → Spares ro (line ∷ left) → (now ≡ true) ⊎ (is_reading_line (command_of line) ≡ true)
@@ -149,38 +144,6 @@ module _ (May : List ℕ → Type 0) (mode : Mode) where
     each_front s s' (l ∷ lines) (r ∷ replies) line reply x keep =
         let both = both_true (test (is_error r) l) (each_line test (lines ++ line ∷ []) (replies ++ reply ∷ [])) keep in
         true_both (test (is_error r) l) (each_line test lines replies) both.0 (each_front x.0 s' lines replies line reply x.3 both.1)
-
--- ---- texts
-
-pub one_more : (replies : List (List ℕ)) (reply : List ℕ) → text_of (replies ++ reply ∷ []) ≡ text_of replies ++ reply
-one_more replies reply = flat_map-append (λ (r : List ℕ). r) replies (reply ∷ []) ∙ ap (λ (text : List ℕ). text_of replies ++ text) (append-nil reply)
-
--- Replies that were written whole are counted.
-whole_all : (replies : List (List ℕ)) (more : List ℕ) → whole_replies (length (text_of replies ++ more)) replies ≡ length replies
-whole_all [] more = refl
-whole_all (reply ∷ replies) more =
-    let rest = length (text_of replies ++ more) in
-    let n = length ((reply ++ text_of replies) ++ more) in
-    let long : n ≡ length reply + rest = ap length (append_assoc reply (text_of replies) more) ∙ length-append reply (text_of replies ++ more) in
-    let fits : nat_le (length reply) n ≡ true = grind (arith, nat_tests, long) in
-    let left : n - length reply ≡ rest = omega (arith, long) in
-    ap (λ (b : Bool). if b then suc (whole_replies (n - length reply) replies) else 0) fits ∙ ap (λ (k : ℕ). suc (whole_replies k replies)) left ∙ ap suc (whole_all replies more)
-
-get_next : (xs : List (List ℕ)) (y : List ℕ) (ys : List (List ℕ)) (n : ℕ) → n ≡ length xs → slice_get (xs ++ y ∷ ys) n ≡ Some y
-get_next [] y ys n is = rw is refl
-get_next (x ∷ xs) y ys n is = rw is (get_next xs y ys (length xs) refl)
-
--- a part of a text is one from the front of both
-front_part : (n : ℕ) (a b : List ℕ) → (k : ℕ) × (take n a ≡ take k (a ++ b))
-front_part n a b = (min n (length a), sym (take-append-le (min n (length a)) a b (omega arith) ∙ take-min n a))
-  where
-    take-min : (n : ℕ) (xs : List ℕ) → take (min n (length xs)) xs ≡ take n xs
-    take-min n xs = grind (arith, common_steps)
-
--- the text of a run begins with its replies
-begun_front : (replies : List (List ℕ)) (next : Option (List ℕ)) (begun : List ℕ → List ℕ) → (rest : List ℕ) × (text_begun None replies next begun ≡ text_of replies ++ rest)
-begun_front replies None begun = ([], sym (append-nil (text_of replies)))
-begun_front replies (Some line) begun = (begun line, refl)
 
 -- ---- counts
 

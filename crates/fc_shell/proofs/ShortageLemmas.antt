@@ -3,7 +3,7 @@ use Rattle.std.proofs.Common.{◌≡◌, ◌≤◌, ℕ, ◌+◌, ◌*◌, ◌/�
 use Rattle.std.specs.Int.{div_ceil}
 use Rattle.std.specs.Option.{option_map}
 use Rattle.std.proofs.Math.Nat.{zero-div, zero-mod}
-use Rattle.std.proofs.lemmas.Bool.{leb-true}
+use Rattle.std.proofs.lemmas.Bool.{leb-true, and_parts as both}
 use Rattle.std.proofs.lemmas.Bool.Decides.{nat_tests}
 use Rattle.std.proofs.lemmas.List.FromFn.{length-map-range_with_len}
 use Rattle.fc_names.specs.declared.refusal.Refusal.{Refusal}
@@ -27,18 +27,10 @@ use Rattle.fc_image.specs.effects.Short.{holes_without, needed_bits, needed_ids,
 use Rattle.fc_script.specs.Texts.{refusal_line}
 use Rattle.fc_runs.specs.ReadLaw.{is_reading}
 use Rattle.fc_runs.specs.Run.{layout_reason, shortage}
+use Rattle.fc_image.proofs.OldMapLemmas.{old_same, not_old}
+use Rattle.fc_volume.proofs.JudgedLemmas.{none_below}
 
 -- ---- an old map has few holes
-
-both : (a b : Bool) → (a && b) ≡ true → (a ≡ true) × (b ≡ true)
-both true b e = (refl, e)
-both false b e = absurd (cc)
-
-old_same : (x y : OldMapContent) → Layout.Old x ≡ Layout.Old y → x ≡ y
-old_same x y e = cc
-
-not_old : (m : Map) (space : OldMapContent) → Layout.New m ≡ Layout.Old space → ⊥
-not_old m space e = cc
 
 few_stored : (image : List ℕ) (units : ℕ) → hole_fault image units ≡ None → length (stored_holes image) ≤ hole_limit
 unfolding holes_of
@@ -85,9 +77,6 @@ no_need space =
 
 not_less : (n : ℕ) → n ≤ hole_limit → nat_lt hole_limit n ≡ false
 not_less n few = grind (arith, nat_tests)
-
-none_below : (n : ℕ) → nat_lt n 0 ≡ false
-none_below n = grind (arith, nat_tests)
 
 pub new_enough : (ids bits some need : ℕ) → some ≡ 0 → need ≡ 0 → first_of (when (nat_lt ids some) refusals.IdsFull ∷ when (nat_lt bits need) refusals.DiscFull ∷ []) ≡ None
 new_enough ids bits some need none nought =

@@ -33,14 +33,11 @@ use Rattle.fc_shell.specs.Answered.{Answered, IsCaused, volume_reply}
 use Rattle.fc_shell.specs.Line.{IsDone, IsReady, KeepsGoing, LeavesImage, LeavesTree, LineEnds}
 use Rattle.fc_shell.specs.Modes.{plain_mode}
 use Rattle.fc_shell.specs.Writing.{WrotePart}
-use Rattle.fc_shell.proofs.ErrorLemmas.{ok_no_error}
 use Rattle.fc_shell.proofs.WritingLemmas.{wrote_nothing}
+use Rattle.fc_runs.proofs.ErrorLemmas.{ok_no_error}
+use Rattle.fc_runs.proofs.StepLemmas.{both_false, has_tree}
 
 -- ---- a line that keeps the tree
-
-both_false : (b : Bool) → b ≡ false → (b || false) ≡ true → ⊥
-both_false true h k = absurd (cc)
-both_false false h k = absurd (cc)
 
 served_keeps : (mode : Mode) (s s' : State) (c : Command) (t : Tree) (reply : List ℕ) (keeps : Bool) (short : Option (List ℕ)) → keeps_tree c ≡ keeps
     → t ≡ changed (tree_in s) c → Serves mode s c t short reply s' → (is_error reply || keeps) ≡ true → tree_in s' ≡ tree_in s
@@ -93,14 +90,6 @@ answered_leaves mode s s' c reply (Ok t) x h = served_leaves mode s s' c t reply
 pub step_leaves : (mode : Mode) (s s' : State) (r : Result Command Refusal) (reply : List ℕ) → Takes mode s r reply s' → leaves_image_or (is_error reply) r ≡ true → s' ≡ s
 step_leaves mode s s' (Err refusal) reply x h = x.1
 step_leaves mode s s' (Ok c) reply x h = answered_leaves mode s s' c reply (answer (tree_in s) (dir_form s.view.layout) mode.read_only c) x h
-
--- the image of a state has its tree
-pub has_tree : (kind : Kind) (s : State) (image : List ℕ) → OpensAs s.image kind s.view → image ≡ s.image → HasTree kind (tree_in s) image
-has_tree kind s image opens same = record {
-  view = s.view;
-  opens = subst (λ (i : List ℕ). OpensAs i kind s.view) (sym same) opens;
-  tree = ap (λ (i : List ℕ). tree_of i s.view.layout s.view.listings) same;
-}
 
 -- ---- lines that only read
 

@@ -22,7 +22,7 @@ later_start m low k le = mul-le-mul_right (m.geometry.share / m.geometry.sector)
 
 -- ---- one owner
 
-or_true : (b : Bool) → (b || true) ≡ true
+pub or_true : (b : Bool) → (b || true) ≡ true
 or_true true = refl
 or_true false = refl
 

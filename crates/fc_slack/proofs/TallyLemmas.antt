@@ -15,11 +15,12 @@ use Rattle.fc_newmap.specs.NewMap.{IsNewMap}
 use Rattle.fc_newmap.specs.RunsLaw.{IsGeometry, placed}
 use Rattle.fc_newmap.proofs.GeometryLemmas.{geometry_of_valid}
 use Rattle.fc_newmap.proofs.HeldLemmas.{end_within, geometry_facts, sector_high}
-use Rattle.fc_newmap.proofs.PlaceLemmas.{home_low, id_run_in, in_back, is_in, order_in}
+use Rattle.fc_newmap.proofs.PlaceLemmas.{home_low, id_run_in, in_back, order_in}
 use Rattle.fc_newmap.proofs.RunsLemmas.{sectors_add}
 use Rattle.fc_image.specs.Layout.{id_sectors}
 use Rattle.fc_plan.proofs.MapLemmas.{IsPlaced, all_placed}
 use Rattle.fc_space.proofs.SumLemmas.{bytes_fit}
+use Rattle.fc_device.specs.Numbers.{is_listed as is_in}
 
 -- ---- whole sectors
 

@@ -54,7 +54,7 @@ no_fault_left form b es checked read apart =
     let none : first_twin (small_entries form b) ≡ None = ap first_twin (sym read.same) ∙ apart in
     rw (checked.magic, checked.sequence, checked.check, named, none) refl
 
-length_at : (b : List ℕ) (at n : ℕ) → at + n ≤ length b → length (bytes_at b at n) ≡ n
+pub length_at : (b : List ℕ) (at n : ℕ) → at + n ≤ length b → length (bytes_at b at n) ≡ n
 length_at b at n within = length-take-le n (drop at b) (omega (arith, length-drop at b))
 
 -- What bytes say can be written again.

@@ -39,11 +39,11 @@ tail_regrouped : (f a p t b h c : List ℕ) → f ++ (a ++ p ++ t ++ b ++ h) ++ 
 tail_regrouped f a p t b h c = simp append_assoc
 
 -- one step further after a part
-step : (bytes part rest : List ℕ) (at size next : ℕ) → drop at bytes ≡ part ++ rest → length part ≡ size → next ≡ at + size → drop next bytes ≡ rest
+pub step : (bytes part rest : List ℕ) (at size next : ℕ) → drop at bytes ≡ part ++ rest → length part ≡ size → next ≡ at + size → drop next bytes ≡ rest
 step bytes part rest at size next here is sum =
     rw sum (sym (drop-drop size at bytes) ∙ ap (drop size) here ∙ drop_at part rest size is)
 
-at_front : (bytes : List ℕ) (at x : ℕ) (rest : List ℕ) → drop at bytes ≡ x ∷ rest → slice_index bytes at ≡ x
+pub at_front : (bytes : List ℕ) (at x : ℕ) (rest : List ℕ) → drop at bytes ≡ x ∷ rest → slice_index bytes at ≡ x
 at_front bytes at x rest here =
     let place : at + 0 ≡ at = omega arith in
     sym (rw place at (get_or-drop at bytes 0 0)) ∙ ap (λ r. slice_index r 0) here

@@ -26,7 +26,7 @@ left_true : (a b : Bool) → (a && b) ≡ true → a ≡ true
 left_true true b is = refl
 left_true false b is = is
 
-right_true : (a b : Bool) → (a && b) ≡ true → b ≡ true
+pub right_true : (a b : Bool) → (a && b) ≡ true → b ≡ true
 right_true true b is = is
 right_true false b is = absurd (cc)
 
@@ -128,7 +128,7 @@ small_renamed dir at e small within fits absent =
     (omega (arith, length-remove dir.entries at within, small.places)) fits absent
 
 -- the entry of that number, of which the name is the same
-named_at : (es : List Entry) (at : ℕ) (name : List ℕ) → option_map (λ (d : Entry). d.name) (slice_get es at) ≡ Some name → at < length es → (get_or es at blank).name ≡ name
+pub named_at : (es : List Entry) (at : ℕ) (name : List ℕ) → option_map (λ (d : Entry). d.name) (slice_get es at) ≡ Some name → at < length es → (get_or es at blank).name ≡ name
 named_at es at name same within =
     let found : Some (get_or es at blank).name ≡ Some name = sym (ap (option_map (λ (d : Entry). d.name)) (slice_get-get_or es at blank within)) ∙ same in
     cc

@@ -19,6 +19,7 @@ use Rattle.fc_newmap.proofs.HeldLemmas.{geometry_facts}
 use Rattle.fc_newmap.proofs.PlaceLemmas.{holder_of, id_run_in, in_back, range_in}
 use Rattle.fc_image.specs.Layout.{Layout, disc_sectors, first_part, id_sectors, is_among}
 use Rattle.fc_space.specs.Space.{Suffice}
+use Rattle.fc_image.proofs.HolesLemmas.{in_drop}
 
 in_take : (n : ℕ) (xs : List ℕ) (s : ℕ) → is_among (take n xs) s ≡ true → is_among xs s ≡ true
 in_take zero xs s e = absurd (cc)
@@ -28,11 +29,6 @@ in_take (suc n) (x ∷ xs) s e = by (x == s) e (in_take n xs s)
     by : (b : Bool) → (b || is_among (take n xs) s) ≡ true → (is_among (take n xs) s ≡ true → is_among xs s ≡ true) → (b || is_among xs s) ≡ true
     by true f more = refl
     by false f more = more f
-
-in_drop : (n : ℕ) (xs : List ℕ) (s : ℕ) → is_among (drop n xs) s ≡ true → is_among xs s ≡ true
-in_drop zero xs s e = e
-in_drop (suc n) [] s e = e
-in_drop (suc n) (x ∷ xs) s e = in_back (x ∷ []) xs s (in_drop n xs s e)
 
 -- what the first part of a row is
 pub first_is : (n : ℕ) (xs sectors : List ℕ) → first_part n xs ≡ Some sectors → (n ≤ length xs) × (take n xs ≡ sectors)

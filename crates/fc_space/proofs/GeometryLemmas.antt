@@ -12,12 +12,8 @@ use Rattle.fc_device.specs.declared.disk.Extent.{Extent}
 use Rattle.fc_newmap.specs.NewMap.{IsNewMap, IsOfRecord}
 use Rattle.fc_newmap.proofs.GeometryLemmas.{facts_of_valid}
 
--- identifiers have at most 19 bits
-idlen_low : (g : Geometry) → IsOfRecord g → g.idlen ≤ 19
-idlen_low g of_record = subst (λ (h : Geometry). h.idlen ≤ 19) of_record.1.1 (facts_of_valid of_record.0 of_record.1.0).idlen_high
-
 -- a share unit has at most 2^25 bytes
-share_of : (r : DiscRecord) → is_valid r ≡ true → r.log2_share < 16 → (geometry r).share ≤ 2 ^ 25
+pub share_of : (r : DiscRecord) → is_valid r ≡ true → r.log2_share < 16 → (geometry r).share ≤ 2 ^ 25
 share_of r is low =
     let facts = facts_of_valid r is in
     let small : 2 ^ r.log2_sector ≤ 2 ^ 10 = pow-le-pow_right {n = 2} (omega arith) facts.sector_high in

@@ -20,11 +20,7 @@ abbrev pub AreSought : List IdRow → ℕ → ℕ → List Extent → List IdRow
 AreSought rows skip need found left skip' need' =
     first_part need (drop skip (sectors_in (places_in rows))) ≡ option_map (λ (more : List ℕ). sectors_in found ++ more) (first_part need' (drop skip' (sectors_in (places_in left))))
 
-map_nothing : (o : Option (List ℕ)) → o ≡ option_map (λ (more : List ℕ). [] ++ more) o
-map_nothing None = refl
-map_nothing (Some xs) = refl
-
-push_sectors : (found : List Extent) (part : Extent) → sectors_in (found ++ part ∷ []) ≡ sectors_in found ++ extent_sectors part
+pub push_sectors : (found : List Extent) (part : Extent) → sectors_in (found ++ part ∷ []) ≡ sectors_in found ++ extent_sectors part
 push_sectors found part = flat_map-append extent_sectors found (part ∷ []) ∙ ap (λ (xs : List ℕ). sectors_in found ++ xs) (append-nil (extent_sectors part))
 
 -- a row's part is found, where these are the sectors that were found with it

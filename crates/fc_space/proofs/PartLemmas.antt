@@ -6,6 +6,7 @@ use Rattle.std.specs.Option.{option_map}
 use Rattle.std.proofs.lemmas.Bool.{cases_lt, le-leb, lt-leb}
 use Rattle.std.proofs.lemmas.List.FromFn.{length-range_with_len}
 use Rattle.fc_image.specs.Layout.{first_part}
+use Rattle.fc_image.proofs.KindLemmas.{none_left as take_none}
 
 drop_range : (k a n j : ℕ) → k ≤ n → a + k ≡ j → drop k (range_with_len a n) ≡ range_with_len j (n - k)
 drop_range zero a n j within at =
@@ -24,10 +25,6 @@ take_all zero [] within = refl
 take_all zero (x ∷ xs) within = absurd (omega arith)
 take_all (suc k) [] within = refl
 take_all (suc k) (x ∷ xs) within = ap (λ (ys : List ℕ). x ∷ ys) (take_all k xs (omega arith))
-
-pub take_none : (k : ℕ) → take {A = ℕ} k [] ≡ []
-take_none zero = refl
-take_none (suc k) = refl
 
 -- the row after `skip` sectors of a row, with at most `need` of them
 pub part_sectors : (first n skip need passed kept : ℕ) → passed ≡ min skip n → kept ≡ min need (n - passed)

@@ -10,7 +10,9 @@ use Rattle.fc_newmap.specs.Map.{Map, ZoneRun, id_runs, sectors_of, extent_of, ru
 use Rattle.fc_newmap.specs.Walk.{StandsAt}
 use Rattle.fc_image.specs.Layout.{first_part, id_sectors}
 use Rattle.fc_objects.specs.Extents.{extent_sectors, sectors_in}
-use Rattle.fc_space.proofs.PartLemmas.{take_none as take-nil, wanted_behind, map_more, none_wanted, none_behind}
+use Rattle.fc_space.proofs.PartLemmas.{wanted_behind, map_more, none_wanted, none_behind}
+use Rattle.fc_image.proofs.KindLemmas.{none_left as take-nil}
+use Rattle.fc_space.proofs.IndexedLemmas.{push_sectors}
 
 -- what the cursor has in front of it
 abbrev pub IsNextOf : Map → List ZoneRun → RunCursor → Option ZoneRun → Type 0
@@ -55,9 +57,6 @@ all_found m id skip need found cursor skip' need' s none =
     ∙ ap (λ (n : ℕ). option_map (λ (more : List ℕ). sectors_in found ++ more) (first_part n (drop skip' (sectors_of m.geometry s.left)))) none
     ∙ ap (option_map (λ (more : List ℕ). sectors_in found ++ more)) (none_wanted (drop skip' (sectors_of m.geometry s.left)))
     ∙ ap (λ (xs : List ℕ). let o : Option (List ℕ) = Some xs in o) (append-nil (sectors_in found))
-
-push_sectors : (found : List Extent) (part : Extent) → sectors_in (found ++ part ∷ []) ≡ sectors_in found ++ extent_sectors part
-push_sectors found part = flat_map-append extent_sectors found (part ∷ []) ∙ ap (λ (xs : List ℕ). sectors_in found ++ xs) (append-nil (extent_sectors part))
 
 -- a run's part is taken
 pub part_taken : (m : Map) (id skip need : ℕ) (found found' : List Extent) (old new : RunCursor) (skip' need' skip'' need'' : ℕ) (result : Option ZoneRun) (p : ZoneRun) (extent part : Extent)

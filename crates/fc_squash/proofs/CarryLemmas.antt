@@ -14,10 +14,11 @@ use Rattle.fc_device.specs.declared.disk.Disk.{Ghosts}
 use Rattle.fc_image.specs.declared.effects.Owned.{Owned}
 use Rattle.fc_squash.specs.Sliding.{IsSlid, IsSlidBy}
 use Rattle.fc_squash.specs.Squashing.{place, places, moved_to, no_object, with_start, covers}
-use Rattle.fc_squash.proofs.PlaceLemmas.{Every, every-both, IsBefore, IsBehind, CutAt, cut_at, covers_unit}
+use Rattle.fc_squash.proofs.PlaceLemmas.{every-both, IsBefore, CutAt, cut_at, covers_unit}
 use Rattle.fc_squash.proofs.StepLemmas.{whole_len}
 use Rattle.fc_squash.proofs.ByteLemmas.{sector_before, sector_behind, quotient-sum, quotient-le, bytes_same}
 use Rattle.fc_squash.proofs.StandLemmas.{Standing, at_place, places-append}
+use Rattle.fc_image.proofs.lemmas.effects.OneHoleLemmas.{Every, IsBehind}
 
 -- each object has at its new start the bytes that it had
 abbrev pub SameBytes : List ℕ → List ℕ → List Owned → List Owned → Type 0

@@ -2,7 +2,7 @@
 use Rattle.std.proofs.Common.{◌≡◌, ◌≢◌, ◌≤◌, ◌⊎◌, inl, inr, ⊎_elim, ℕ, zero, suc, ◌+◌, ◌*◌, ◌/◌, ◌%◌, Bool, true, false, not, List, [], ◌∷◌, length, take, refl, sym, ap, ap₂, subst, ◌∙◌, arith}
 use Rattle.std.specs.Prelude.{◌==◌, ◌||◌, ◌&&◌, nat_le, nat_lt}
 use Rattle.std.specs.List.{list_any, list_all, range_with_len}
-use Rattle.std.proofs.lemmas.Bool.{eqb-true}
+use Rattle.std.proofs.lemmas.Bool.{eqb-true, false_from_ne_true as not_true}
 use Rattle.std.proofs.lemmas.Bool.Decides.{nat_tests}
 use Rattle.fc_oldmap.specs.declared.Hole.{Hole}
 use Rattle.fc_oldmap.specs.Holes.{hole_end, IsHole, AreHoles, AreApart}
@@ -13,10 +13,11 @@ use Rattle.fc_image.specs.effects.Settled.{are_apart}
 use Rattle.fc_image.specs.effects.Moves.{AreInOrder, SameBodies, SameButStarts, Squashed, SquashedBytes, is_in_body, is_in_hole}
 use Rattle.fc_image.specs.declared.effects.Owned.{Owned}
 use Rattle.fc_squash.specs.Squashing.{place, places, covers, AreBodies, IsSettled, SquashedBy}
-use Rattle.fc_squash.proofs.PlaceLemmas.{Every, every-map, Gapped, covers_unit}
+use Rattle.fc_squash.proofs.PlaceLemmas.{every-map, Gapped, covers_unit}
 use Rattle.fc_squash.proofs.StepLemmas.{every_all, whole_len}
 use Rattle.fc_squash.proofs.StandLemmas.{Standing}
 use Rattle.fc_squash.proofs.CarryLemmas.{SameBytes, Carried, CarriedBy, every_hole}
+use Rattle.fc_image.proofs.lemmas.effects.OneHoleLemmas.{in_range, Every}
 
 -- ---- tests
 
@@ -63,13 +64,6 @@ is_settled old space was now k stand end = record {
 }
 
 -- ---- sectors
-
-pub in_range : (a n s : ℕ) → is_among (range_with_len a n) s ≡ (nat_le a s && nat_lt s (a + n))
-in_range a zero s = grind (arith, nat_tests)
-in_range a (suc n) s = by (in_range (a + 1) n s)
-  where
-    by : is_among (range_with_len (a + 1) n) s ≡ (nat_le (a + 1) s && nat_lt s (a + 1 + n)) → is_among (range_with_len a (suc n)) s ≡ (nat_le a s && nat_lt s (a + suc n))
-    by e = grind (arith, nat_tests, e)
 
 scaled : (u a n s : ℕ) → (u ≡ 1) ⊎ (u ≡ 4) → a % u ≡ 0 → n % u ≡ 0
     → (nat_le (a / u) s && nat_lt s (a / u + n / u)) ≡ (nat_le a (u * s) && nat_lt (u * s) (a + n))
@@ -125,10 +119,6 @@ in_order d u floor (o ∷ now) (is, rise) = (is.onward, in_order d u (hole_end (
 wholes : (d u : ℕ) (now : List Owned) → Every (IsHole d u 0) (places now) → Every (λ o. o.start % u ≡ 0) now
 wholes d u [] all = tt
 wholes d u (o ∷ now) (is, all) = (is.begins, wholes d u now all)
-
-pub not_true : (b : Bool) → (b ≡ true → ⊥) → b ≡ false
-not_true true f = absurd (f refl)
-not_true false f = refl
 
 module _ (old space : OldMapContent) (was now : List Owned) (k : ℕ) (bodies : AreBodies old was) (map : IsOldMap old) (stand : Standing old space was now k) (end : length now ≤ k) where
   was_holes : Every (IsHole old.disc_units old.sector_units 0) (places was)

@@ -2,7 +2,7 @@
 use Rattle.std.proofs.Common.{◌≡◌, ℕ, zero, suc, Bool, true, false, not, List, [], ◌∷◌, length, refl, sym, ap, ap₂, ◌∙◌, arith}
 use Rattle.std.specs.Prelude.{◌==◌, ◌||◌, ◌&&◌, Contains}
 use Rattle.std.specs.List.{list_any, list_all}
-use Rattle.std.proofs.lemmas.Bool.{eqb-true, eqb-false, eq-eqb}
+use Rattle.std.proofs.lemmas.Bool.{eqb-true, eqb-false, eq-eqb, not-true as not_both}
 use Rattle.fc_oldmap.specs.declared.Hole.{Hole}
 use Rattle.fc_oldmap.specs.Holes.{hole_end}
 use Rattle.fc_image.specs.Walk.{Object}
@@ -10,22 +10,9 @@ use Rattle.fc_image.specs.Objects.{has_sectors}
 use Rattle.fc_image.specs.declared.effects.Owned.{Owned}
 use Rattle.fc_image.specs.effects.Settled.{is_object_start}
 use Rattle.fc_squash.specs.Laws.{SettledLaw}
-use Rattle.fc_squash.proofs.PlaceLemmas.{Every}
-
-and_left : (a b : Bool) → (a && b) ≡ true → a ≡ true
-and_left true b e = refl
-and_left false b e = e
-
-and_right : (a b : Bool) → (a && b) ≡ true → b ≡ true
-and_right true b e = e
-and_right false b e = absurd (cc)
-
-not_both : (a : Bool) → not a ≡ true → a ≡ false
-not_both true e = absurd (cc)
-not_both false e = refl
-
-differ : true ≡ false → ⊥
-differ e = cc
+use Rattle.fc_zone.proofs.ReadingLemmas.{first_part as and_left}
+use Rattle.fc_record.proofs.KindLemmas.{and_second as and_right}
+use Rattle.fc_image.proofs.lemmas.effects.OneHoleLemmas.{differ, Every}
 
 every_contained : {A : Type 0} (P : A → Type 0) (xs : List A) → ((x : A) → Contains xs x → P x) → Every P xs
 every_contained P [] each = tt

@@ -11,12 +11,14 @@ use Rattle.fc_image.specs.declared.effects.Owned.{Owned}
 use Rattle.fc_image.specs.effects.Moves.{is_in_body, is_in_hole}
 use Rattle.fc_squash.specs.Places.{ChangesRoom, ChangesRow, Leaves}
 use Rattle.fc_squash.specs.Squashing.{place, places, no_object, covers, AreBodies, IsPulled}
-use Rattle.fc_squash.proofs.PlaceLemmas.{Every, every-append, every-left, every-right, around_hole, covers_unit}
-use Rattle.fc_squash.proofs.StepLemmas.{every_all, every_from, mod-sum, whole_len}
+use Rattle.fc_squash.proofs.PlaceLemmas.{every-append, every-left, every-right, around_hole, covers_unit}
+use Rattle.fc_squash.proofs.StepLemmas.{every_all, every_from, whole_len}
 use Rattle.fc_squash.proofs.ByteLemmas.{sector_before, sector_behind, quotient-sum}
 use Rattle.fc_squash.proofs.StandLemmas.{Standing, at_place, places-append, same_disc}
 use Rattle.fc_squash.proofs.CarryLemmas.{every_hole, left_false, outside}
 use Rattle.fc_squash.proofs.EndLemmas.{in_bodies, in_holes}
+use Rattle.fc_image.proofs.lemmas.effects.OneHoleLemmas.{Every}
+use Rattle.fc_oldmap.proofs.SpaceLemmas.{mod-sum}
 
 -- ---- what lies before all holes
 

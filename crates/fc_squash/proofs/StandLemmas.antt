@@ -7,8 +7,10 @@ use Rattle.fc_oldmap.specs.OldMap.{OldMapContent, IsOldMap}
 use Rattle.fc_image.specs.declared.effects.Owned.{Owned}
 use Rattle.fc_image.specs.effects.Moves.{SameButStarts}
 use Rattle.fc_squash.specs.Squashing.{place, places, moved_to, no_object, with_start, covers, AreBodies, IsPulled}
-use Rattle.fc_squash.proofs.PlaceLemmas.{Every, every-right, every-map, every-both, cut_at, Gapped, gapped-tidied, apart-tidied, covers-tidied, sum-tidied}
-use Rattle.fc_squash.proofs.StepLemmas.{every_from, every_all, rise-joined, length-joined, Stepped, pull_step}
+use Rattle.fc_squash.proofs.PlaceLemmas.{every-right, every-map, every-both, cut_at, Gapped, gapped-tidied, apart-tidied, covers-tidied, sum-tidied}
+use Rattle.fc_squash.proofs.StepLemmas.{every_from, every_all, rise-joined, Stepped, pull_step}
+use Rattle.fc_image.proofs.lemmas.effects.OneHoleLemmas.{Every}
+use Rattle.fc_oldmap.proofs.SpaceLemmas.{length-joined_with as length-joined}
 
 -- ---- after tidying
 

@@ -19,8 +19,12 @@ use Rattle.fc_tree.specs.Laws.{Rise, ChildrenLaw}
 use Rattle.fc_image.specs.Sound.{AreSound}
 use Rattle.fc_tree.proofs.MemberLemmas.{from_map, in_map, many_permuted, many_mapped}
 use Rattle.fc_tree.proofs.WalkedLemmas.{root, root_path, twins, child_path, child_is_object}
-use Rattle.fc_tree.proofs.SoundLemmas.{key_total, key_exact, folds_alike, same_by_folds, fold_pushed, children_stored, root_or_child, same_object, same_listing}
+use Rattle.fc_tree.proofs.SoundLemmas.{folds_alike, fold_pushed, children_stored, root_or_child, same_object, same_listing}
 use Rattle.fc_tree.proofs.TreeLemmas.{value_is, no_value, tree_get}
+use Rattle.fc_image.proofs.CommandLemmas.{prefix_is, is_prefix_of, same_by_folds}
+use Rattle.std.proofs.lemmas.Bool.{and_from as both_so}
+use Rattle.std.proofs.lemmas.Float.{T_from_true as so}
+use Rattle.fc_image.proofs.TreeLemmas.{key_total, key_exact}
 
 -- ---- keys below a directory
 
@@ -43,12 +47,6 @@ last_decides [] a b = then_level (slice_cmp nat_cmp a b)
 last_decides (x ∷ front) a b =
     ap (λ (r : Ordering). ordering_then r (key_cmp (front ++ a ∷ []) (front ++ b ∷ []))) (tied_itself (lists_total nat_cmp_total) x) ∙ last_decides front a b
 
-prefix_is : (p q : Path) → is_prefix p q ≡ true → p ≡ take (length p) q
-prefix_is p q h = (pointwise_decides bytes_decides p (take (length p) q)).0 h
-
-is_prefix_of : (p q : Path) → p ≡ take (length p) q → is_prefix p q ≡ true
-is_prefix_of p q e = (pointwise_decides bytes_decides p (take (length p) q)).1 e
-
 -- a key below a path is that of the path with a name
 pub below_front : (path front : Path) (last : List ℕ) → is_below path (front ++ last ∷ []) ≡ true → front ≡ folded_path path
 below_front path front last h =
@@ -57,9 +55,6 @@ below_front path front last h =
     let pushed = length_push front last in
     let same : length (folded_path path) ≡ length path = length-map path folded in
     sym (prefix ∙ take_at front (last ∷ []) (length (folded_path path)) (omega (arith, long, pushed, same)))
-
-both_so : (a b : Bool) → a ≡ true → b ≡ true → (a && b) ≡ true
-both_so a b e f = ap₂ (λ (x y : Bool). x && y) e f
 
 pub front_below : (path : Path) (last : List ℕ) → is_below path (folded_path path ++ last ∷ []) ≡ true
 front_below path last =
@@ -70,9 +65,6 @@ front_below path last =
     (is_prefix_of (folded_path path) (folded_path path ++ last ∷ []) (sym (take_at (folded_path path) (last ∷ []) (length (folded_path path)) refl)))
 
 -- ---- in order
-
-so : (b : Bool) → b ≡ true → T b
-so b e = subst T (sym e) tt
 
 -- a name that no two nodes have
 abbrev named : List ℕ → Node → Bool

@@ -64,7 +64,7 @@ Apart-filter taken (o ∷ objects) a =
 
 -- ---- directories have sectors
 
-some_up : (x y : ℕ) → 0 < x → 0 < div_ceil x y
+pub some_up : (x y : ℕ) → 0 < x → 0 < div_ceil x y
 some_up x y some = by (x / y) (x % y) (mod-add-div x y)
   where
     by : (q r : ℕ) → r + y * q ≡ x → 0 < q + min 1 r
@@ -72,7 +72,7 @@ some_up x y some = by (x / y) (x % y) (mod-add-div x y)
     by zero (suc r) e = omega arith
     by (suc q) r e = omega arith
 
-some_first : (n : ℕ) (xs sectors : List ℕ) → 0 < n → first_part n xs ≡ Some sectors → 0 < length sectors
+pub some_first : (n : ℕ) (xs sectors : List ℕ) → 0 < n → first_part n xs ≡ Some sectors → 0 < length sectors
 some_first n xs sectors some e = by (nat_le n (length xs)) refl e
   where
     by : (b : Bool) → nat_le n (length xs) ≡ b → cond b (Some (take n xs)) None ≡ Some sectors → 0 < length sectors
@@ -108,7 +108,7 @@ not_apart [] some = absurd (omega arith)
 not_apart (x ∷ xs) some =
     ap (λ (b : Bool). cond ((b || list_any (λ t. t == x) xs) || list_any (is_among (x ∷ xs)) xs) false true) (eq-eqb x x refl)
 
-some_bytes : (form : NameForm) (len : ℕ) (dir : Directory) → HasForm form len dir → IsDirectory dir → 0 < directory_size form len
+pub some_bytes : (form : NameForm) (len : ℕ) (dir : Directory) → HasForm form len dir → IsDirectory dir → 0 < directory_size form len
 some_bytes Seven len (Directory.Small dir) h d = omega arith
 some_bytes Seven len (Directory.Big dir) h d = absurd h
 some_bytes Ten len (Directory.Small dir) h d = omega arith
@@ -116,7 +116,7 @@ some_bytes Ten len (Directory.Big dir) h d = absurd h
 some_bytes Long len (Directory.Small dir) h d = absurd h
 some_bytes Long len (Directory.Big dir) h d = (let big = d.fits in omega (arith, h, big))
 
-no_twin : (dir : Directory) → IsDirectory dir → first_twin (entries_of dir) ≡ None
+pub no_twin : (dir : Directory) → IsDirectory dir → first_twin (entries_of dir) ≡ None
 no_twin (Directory.Small dir) d = d.apart
 no_twin (Directory.Big dir) d = d.apart
 

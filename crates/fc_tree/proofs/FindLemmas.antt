@@ -17,10 +17,11 @@ use Rattle.fc_tree.specs.Nodes.{child, number_of, found_from, is_directory_node,
 use Rattle.fc_tree.specs.Laws.{AreAlike, FindLaw}
 use Rattle.fc_image.specs.Sound.{AreSound}
 use Rattle.fc_tree.proofs.WalkedLemmas.{same_some, root, root_path, few_objects}
-use Rattle.fc_tree.proofs.SoundLemmas.{folds_alike, same_by_folds, root_object}
+use Rattle.fc_tree.proofs.SoundLemmas.{folds_alike, root_object}
 use Rattle.fc_tree.proofs.TreeLemmas.{object_of_node, node_of_object}
 use Rattle.fc_tree.proofs.NumberLemmas.{number_from-push}
 use Rattle.fc_tree.proofs.PlaceLemmas.{same_number, child_stands, one_path, each_taken}
+use Rattle.fc_image.proofs.CommandLemmas.{same_by_folds}
 
 -- ---- one step in the tree
 

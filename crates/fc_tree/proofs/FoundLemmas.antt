@@ -14,7 +14,6 @@ use Rattle.fc_dirs.specs.Directory.{Directory}
 use Rattle.fc_image.specs.Layout.{Layout}
 use Rattle.fc_image.specs.Walk.{Object, Listing, is_directory_object, object_bytes}
 use Rattle.fc_image.specs.Objects.{objects_of, listing_at, node_of, tree_of}
-use Rattle.fc_image.proofs.PathsLemmas.{unless}
 use Rattle.fc_tree.specs.declared.node.Body.TheVariants as bodies
 use Rattle.fc_tree.specs.declared.node.Node.{Node}
 use Rattle.fc_tree.specs.declared.node.Found.{Found}
@@ -28,6 +27,7 @@ use Rattle.fc_tree.proofs.MemberLemmas.{from_map, in_filter}
 use Rattle.fc_tree.proofs.SoundLemmas.{root_object, listing_of}
 use Rattle.fc_tree.proofs.TreeLemmas.{node_of_object}
 use Rattle.fc_tree.proofs.FindLemmas.{find_law, below_some, below_none, directory_at, stepped, nothing_there}
+use Rattle.std.proofs.lemmas.Bool.{false_from_ne_true as unless}
 
 -- ---- refusals
 
@@ -75,30 +75,9 @@ pub record IsFound (image : List ℕ) (layout : Layout) (listings : List Listing
   pub body : node.body ≡ body_of (listing_at listings object.path)
   pub found_is : found (tree_of image layout listings) path ≡ Ok (node_of image layout object)
 
-pub node_found : (image : List ℕ) (layout : Layout) (listings : List Listing) (nodes : FinMap nat_cmp Node) (path : Path) (n : ℕ) (node : Node)
-    → AreSound layout listings → HoldObjects nodes listings → found_in nodes path ≡ founds.Node n → get nodes n ≡ Some node → IsFound image layout listings path node
-node_found image layout listings nodes path n node sound held leads is =
-    by (found (tree_of image layout listings) path) refl
-    (subst (λ (f : Found). AreAlike nodes image layout listings path f (found (tree_of image layout listings) path)) leads (find_law image layout listings nodes path sound held))
-  where
-    by : (r : Result ModelNode Refusal) → found (tree_of image layout listings) path ≡ r → AreAlike nodes image layout listings path (founds.Node n) r → IsFound image layout listings path node
-    by (Ok m) e alike =
-        let h = held.each alike.0 alike.1 in
-        let number : h.number ≡ n = same_some h.number n (sym h.at_path ∙ alike.3) in
-        let same = same_some node _ (sym is ∙ ap (get nodes) (sym number) ∙ h.is) in
-        record {
-          object = alike.0;
-          among = alike.1;
-          same = alike.2;
-          entry = ap (λ (x : Node). x.entry) same;
-          body = ap (λ (x : Node). x.body) same;
-          found_is = e ∙ ap (λ (x : ModelNode). let s : Result ModelNode Refusal = Ok x in s) alike.5;
-        }
-    by (Err refusal) e alike = absurd alike
-
 -- ---- the listing of a directory
 
-body_content : (dir : Directory) → content_in (body_in dir) ≡ Ok dir
+pub body_content : (dir : Directory) → content_in (body_in dir) ≡ Ok dir
 body_content (Directory.Small dir) = refl
 body_content (Directory.Big dir) = refl
 

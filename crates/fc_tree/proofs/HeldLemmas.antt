@@ -20,15 +20,11 @@ use Rattle.fc_tree.specs.Agree.{reader_of_nodes, content_in, said_by, NodesLaw}
 use Rattle.fc_image.specs.Sound.{AreSound}
 use Rattle.fc_tree.specs.Counts.{address_in, node_says, object_says, HaveCounts, CountsLaw, HolderLaw}
 use Rattle.fc_tree.proofs.WalkedLemmas.{same_some, same_place, place_of, contained, one_object, listed_directory, listing_found, no_listing, holder_listed, directories_listed}
-use Rattle.fc_tree.proofs.SoundLemmas.{same_by_folds}
 use Rattle.fc_tree.proofs.PlaceLemmas.{one_path}
+use Rattle.fc_tree.proofs.FoundLemmas.{body_content as body_says}
+use Rattle.fc_image.proofs.CommandLemmas.{same_by_folds}
 
 -- ---- bodies
-
--- a directory's body says the directory
-body_says : (dir : Directory) → content_in (body_in dir) ≡ Ok dir
-body_says (Directory.Small dir) = refl
-body_says (Directory.Big dir) = refl
 
 pub nodes_law : NodesLaw
 nodes_law nodes listings l h found =

@@ -10,7 +10,7 @@ use Rattle.std.specs.FinMap.{nat_cmp-IsAntisymmetric, slice_cmp-IsAntisymmetric}
 use Rattle.std.proofs.lemmas.Cmp.{on_total, then_total, nat_list_cmp_total}
 use Rattle.std.proofs.lemmas.Bool.Decides.{nat_tests}
 use Rattle.fc_names.specs.Names.{folded, name_cmp, is_same_name}
-use Rattle.fc_names.proofs.FoldOrder.{fold_law}
+use Rattle.fc_names.proofs.FoldOrder.{fold_law, less}
 use Rattle.fc_tree.specs.declared.node.Node.{Node}
 use Rattle.fc_tree.specs.Slots.{slot_at}
 use Rattle.fc_tree.specs.Index.{Key, key_cmp, key_of, is_before}
@@ -18,11 +18,6 @@ use Rattle.fc_tree.specs.Index.{Key, key_cmp, key_of, is_before}
 pub key_total : IsTotalOrder key_cmp
 key_total =
     then_total (then_total (on_total (λ (k : Key). k.holder) nat_cmp_total) (on_total (λ (k : Key). folded k.name) nat_list_cmp_total)) (on_total (λ (k : Key). k.number) nat_cmp_total)
-
-less : (o : Ordering) → is_lt o ≡ true → o ≡ Less
-less Less is = refl
-less Equal is = cc is
-less Greater is = cc is
 
 pub key_trans : (a b c : Key) → is_lt (key_cmp a b) ≡ true → is_lt (key_cmp b c) ≡ true → is_lt (key_cmp a c) ≡ true
 key_trans a b c first second = ap is_lt (key_total.trans a b c (less (key_cmp a b) first) (less (key_cmp b c) second))
@@ -56,9 +51,6 @@ number_less n m is = grind (arith, nat_tests, is)
 
 pub number_least : (n m : ℕ) → is_lt (nat_cmp n m) ≡ false → m ≤ n
 number_least n m is = grind (arith, nat_tests, is)
-
-not_below : (n m : ℕ) → m ≤ n → is_lt (nat_cmp n m) ≡ false
-not_below n m is = grind (arith, nat_tests, is)
 
 then_number : (o : Ordering) (n m : ℕ) → is_lt (ordering_then o (nat_cmp n m)) ≡ false → (n ≡ m → ⊥) → is_lt (ordering_then (ordering_reverse o) (ordering_reverse (nat_cmp n m))) ≡ true
 then_number Less n m is apart = absurd (cc)

@@ -7,16 +7,10 @@ use Rattle.std.proofs.lemmas.List.Sorted.{sum_by-IsPermutation}
 use Rattle.std.proofs.lemmas.List.Sums.{sum_by-cons}
 use Rattle.fc_image.proofs.PathsLemmas.{many, only_one}
 use Rattle.fc_tree.proofs.WalkedLemmas.{same_some, same_place, place_of}
+use Rattle.fc_image.proofs.EntriesLemmas.{later as contains_later, cases as contains_cases}
 
 pub contains_here : {X : Type 0} (x : X) (xs : List X) → Contains (x ∷ xs) x
 contains_here x xs = (0, omega arith, refl)
-
-pub contains_later : {X : Type 0} (y x : X) (xs : List X) → Contains xs x → Contains (y ∷ xs) x
-contains_later y x xs at = (suc at.0, omega (arith, at.1), at.2)
-
-pub contains_cases : {X : Type 0} (y x : X) (xs : List X) → Contains (y ∷ xs) x → (y ≡ x) ⊎ Contains xs x
-contains_cases y x xs (zero, l, e) = inl e
-contains_cases y x xs (suc k, l, e) = inr (k, omega (arith, l), e)
 
 pub no_element : {X : Type 0} (x : X) → Contains [] x → ⊥
 no_element x at = absurd (omega (arith, at.1))

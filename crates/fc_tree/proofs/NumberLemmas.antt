@@ -11,7 +11,7 @@ use Rattle.fc_dirs.specs.declared.Entry.{Entry}
 use Rattle.fc_image.specs.Layout.{Layout}
 use Rattle.fc_image.specs.Walk.{Object, Listing}
 use Rattle.fc_image.specs.Objects.{objects_of, listing_at}
-use Rattle.fc_image.proofs.PathsLemmas.{same_last, itself, unless}
+use Rattle.fc_image.proofs.PathsLemmas.{same_last, itself}
 use Rattle.fc_tree.specs.declared.node.Node.{Node}
 use Rattle.fc_tree.specs.Nodes.{Numbers, numbered_from, nodes_of, child, number_from, number_of, body_of, HasNode, HoldObjects}
 use Rattle.fc_tree.specs.Agree.{InOrder}
@@ -20,7 +20,9 @@ use Rattle.fc_tree.specs.Laws.{NumbersLaw}
 use Rattle.fc_image.specs.Sound.{AreSound}
 use Rattle.fc_tree.specs.Slots.{slot_at, is_child}
 use Rattle.fc_tree.proofs.SlotLemmas.{get-nodes_of, entries-nodes_of, child_is}
-use Rattle.fc_tree.proofs.WalkedLemmas.{same_place, place_of, element_at, root, root_path, first_is_root, one_object, child_path, listing_found, no_listing, not_first, holder-push}
+use Rattle.fc_tree.proofs.WalkedLemmas.{same_place, place_of, root, root_path, first_is_root, one_object, child_path, listing_found, no_listing, not_first, holder-push}
+use Rattle.std.proofs.lemmas.Bool.{false_from_ne_true as unless}
+use Rattle.fc_tree.proofs.StepLemmas.{get_there as element_at}
 
 -- ---- names one by one
 
@@ -45,7 +47,7 @@ own_name name = fold_law.same.refl name
 
 -- ---- tests of a child
 
-three_hold : (a b c : Bool) → a ≡ true → b ≡ true → c ≡ true → (a && b && c) ≡ true
+pub three_hold : (a b c : Bool) → a ≡ true → b ≡ true → c ≡ true → (a && b && c) ≡ true
 three_hold true true true e f g = refl
 three_hold false b c e f g = absurd (cc)
 three_hold true false c e f g = absurd (cc)
@@ -67,7 +69,7 @@ not_zero n e is = let zero_test : (n == 0) ≡ true = eq-eqb n 0 is in let turne
 
 -- ---- where each slot holds a node
 
-full_slot : (nodes : List Node) (n : ℕ) → slot_at (map Some nodes) n ≡ slice_get nodes n
+pub full_slot : (nodes : List Node) (n : ℕ) → slot_at (map Some nodes) n ≡ slice_get nodes n
 full_slot nodes n = ap (option_and_then (λ o. o)) (slice_get-map Some nodes n) ∙ flat (slice_get nodes n)
   where
     flat : (o : Option Node) → option_and_then (λ s. s) (option_map Some o) ≡ o

@@ -7,7 +7,7 @@ use Rattle.fc_names.specs.Names.{Path}
 use Rattle.fc_tree.specs.declared.node.Node.{Node}
 use Rattle.fc_tree.specs.Walking.{Leads}
 
-some_same : (n m : Node) → (let o : Option Node = Some n in o) ≡ Some m → n ≡ m
+pub some_same : (n m : Node) → (let o : Option Node = Some n in o) ≡ Some m → n ≡ m
 some_same n m e = cc
 
 -- the node of a number is one

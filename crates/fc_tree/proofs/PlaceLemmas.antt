@@ -7,16 +7,18 @@ use Rattle.std.specs.Cmp.{IsTotalOrder, nat_cmp_total, tied_itself, first_so, se
 use Rattle.std.specs.Cmp.Lexicographic.{slice_cmp}
 use Rattle.std.specs.FinMap.{FinMap, get, get-entries, get-empty, get-remove, len, len-remove, empty_of_len, remove, entries, entries_sorted, find as value_at, is_sorted, nat_cmp-IsAntisymmetric}
 use Rattle.std.specs.FinMap.Entries.{below_all}
-use Rattle.std.proofs.lemmas.Bool.{cases_eq}
+use Rattle.std.proofs.lemmas.Bool.{cases_eq, false_from_ne_true as unless}
 use Rattle.fc_names.specs.Names.{Path, folded, folded_path, is_same_name, is_same_path}
 use Rattle.fc_image.specs.Walk.{Object}
-use Rattle.fc_image.proofs.PathsLemmas.{many, is_at, same_equal, cut, itself, unless}
+use Rattle.fc_image.proofs.PathsLemmas.{many, is_at, same_equal, cut, itself}
 use Rattle.fc_tree.specs.declared.node.Node.{Node}
 use Rattle.fc_tree.specs.Nodes.{child, number_from, number_of}
 use Rattle.fc_tree.proofs.WalkedLemmas.{same_some}
 use Rattle.fc_tree.proofs.NumberLemmas.{number_from-push}
-use Rattle.fc_tree.proofs.MemberLemmas.{contains_here, contains_later, contains_cases, no_element, found_passes, some_many}
+use Rattle.fc_tree.proofs.MemberLemmas.{contains_here, no_element, found_passes, some_many}
 use Rattle.fc_tree.proofs.SoundLemmas.{name_folds_alike, fold_pushed}
+use Rattle.fc_image.proofs.EntriesLemmas.{later as contains_later, cases as contains_cases}
+use Rattle.fc_newmap.proofs.RowLemmas.{not_both as clash}
 
 -- ---- by folding
 
@@ -147,10 +149,6 @@ one_path nodes n (suc long) (x ∷ p) (y ∷ q) e f g =
     ap folded_path c.is ∙ fold_pushed c.front c.last ∙ ap₂ (λ (fs : Path) (l : List ℕ). fs ++ l ∷ []) front last ∙ sym (fold_pushed d.front d.last) ∙ sym (ap folded_path d.is)
 
 -- ---- a node for each object, and no others
-
-clash : (b : Bool) → b ≡ true → b ≡ false → ⊥
-clash true p q = absurd (cc)
-clash false p q = absurd (cc)
 
 not_empty : {X : Type 0} (m : FinMap nat_cmp X) (k : ℕ) → is_some (get m k) ≡ true → 1 ≤ len m
 not_empty {X} m k h = by (len m) refl

@@ -12,22 +12,12 @@ use Rattle.fc_dirs.specs.declared.Entry.{Entry}
 use Rattle.fc_objects.specs.Bytes.{first_bytes}
 use Rattle.std.proofs.lemmas.List.Elements.{All-cons, All-nil}
 use Rattle.fc_tree.proofs.LengthLemmas.{first_among}
-
--- a disk's sectors are numbers of 64 bits
-pub sectors_fit : {D : Type 0} {d : Ghosts D} → Laws d → (s : D) → (n : ℕ) → n < d.sectors s → n < 2 ^ 64
-sectors_fit {d = d} law s n low =
-    let whole = law.whole_sectors s in
-    let fits = law.length_fits s in
-    let part = div-le_self (d.image_length s) (d.sector_size s) in
-    omega (arith, whole, fits, part, low)
+use Rattle.fc_objects.proofs.CopyLemmas.{one_told as some_same}
 
 -- a disk's sectors, one by one
 pub all_on_disk : (n : ℕ) (xs : List ℕ) → ((s : ℕ) → is_among xs s ≡ true → s < n) → All (λ s. s < n) xs
 all_on_disk n [] low = All-nil (λ s. s < n)
 all_on_disk n (x ∷ xs) low = All-cons (λ s. s < n) x xs (low x (first_among x xs)) (all_on_disk n xs (λ s e. low s (in_back (x ∷ []) xs s e)))
-
-some_same : (xs ys : List ℕ) → (let o : Option (List ℕ) = Some xs in o) ≡ Some ys → xs ≡ ys
-some_same xs ys e = cc
 
 -- the first bytes of an object's sectors are the object's
 pub object_read : (told : Option (List ℕ)) (layout : Layout) (size bytes : ℕ) (e : Entry) (none read sectors : List ℕ)

@@ -8,7 +8,7 @@ use Rattle.fc_tree.specs.declared.node.Node.{Node}
 use Rattle.fc_tree.specs.Slots.{slot_at}
 use Rattle.fc_tree.specs.Index.{key_of, is_before, IsHeldBy, IsIndex}
 use Rattle.fc_tree.specs.Places.{AreOrdered, is_in}
-use Rattle.fc_tree.proofs.SortLemmas.{slot_of}
+use Rattle.fc_tree.proofs.NumberLemmas.{full_slot as slot_of}
 
 -- ---- the numbers that pass a test
 
@@ -77,13 +77,6 @@ module _ (p : ℕ → Bool) where
   passed_more xs i within = ap (filter p) (take_more xs i 0 within) ∙ filter-append (take i xs) (get_or xs i 0 ∷ [])
 
 -- ---- the numbers of a directory
-
-pub in_other : (nodes : List Node) (n dir : ℕ) (node : Node) → slice_get nodes n ≡ Some node → (dir ≡ node.holder → ⊥) → filter (is_in nodes dir) (n ∷ []) ≡ []
-in_other nodes n dir node is other =
-    ap (λ b. cond b (n ∷ []) []) (ap (λ o. option_map_or (λ (m : Node). m.holder == dir) o false) is ∙ ne_eqb node.holder dir (λ e. other (sym e)))
-
-pub in_none : (nodes : List Node) (n dir : ℕ) → slice_get nodes n ≡ None → filter (is_in nodes dir) (n ∷ []) ≡ []
-in_none nodes n dir is = ap (λ b. cond b (n ∷ []) []) (ap (λ o. option_map_or (λ (m : Node). m.holder == dir) o false) is)
 
 pub shared : (nodes : List Node) (order : List ℕ) (dir : ℕ) → AreOrdered (map Some nodes) order → IsIndex dir (map Some nodes) (filter (is_in nodes dir) order)
 shared nodes order dir ordered = record { known = known; listed = listed; rising = rising } where

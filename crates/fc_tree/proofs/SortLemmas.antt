@@ -18,12 +18,11 @@ use Rattle.fc_tree.specs.Slots.{slot_at}
 use Rattle.fc_tree.specs.Index.{Key, key_cmp, key_of, is_before}
 use Rattle.fc_tree.specs.Places.{AreOrdered, AreSorted, key_in, keys_of}
 use Rattle.fc_tree.proofs.KeyLemmas.{key_total, key_flipped, before_node}
+use Rattle.fc_bigdir.proofs.OrderLemmas.{eqb_flips}
+use Rattle.fc_tree.proofs.NumberLemmas.{full_slot as slot_of}
 
 number : Key → ℕ
 number k = k.number
-
-numbers : List Key → List ℕ
-numbers keys = map (λ (k : Key). k.number) keys
 
 no_key : Key
 no_key = record { holder = 0; name = []; number = 0 }
@@ -66,16 +65,7 @@ numbers_in : (nodes : List Node) (a n : ℕ) → map (λ (k : Key). k.number) (m
 numbers_in nodes a zero = refl
 numbers_in nodes a (suc n) = ap₂ (λ x xs. x ∷ xs) (number_in nodes a) (numbers_in nodes (a + 1) n)
 
-eqb_flips : (x y : ℕ) → eqb x y ≡ eqb y x
-eqb_flips x y = grind (arith, nat_tests)
-
 -- ---- slots of nodes
-
-pub slot_of : (nodes : List Node) (n : ℕ) → slot_at (map Some nodes) n ≡ slice_get nodes n
-slot_of nodes n = ap (option_and_then (λ o. o)) (slice_get-map Some nodes n) ∙ flat (slice_get nodes n) where
-  flat : (o : Option Node) → option_and_then (λ p. p) (option_map Some o) ≡ o
-  flat None = refl
-  flat (Some node) = refl
 
 -- a key of a node that is there
 IsKey : List Node → Key → Type 0

@@ -16,21 +16,15 @@ use Rattle.fc_image.specs.Edits.{AreChildren}
 use Rattle.fc_image.proofs.PathsLemmas.{is_at, same_equal, itself}
 use Rattle.fc_image.specs.Sound.{AreSound}
 use Rattle.fc_tree.proofs.WalkedLemmas.{same_place, place_of, contained, follows_each, given, root, root_and_held, first_is_root, few_objects, one_listing, listed_directory}
-use Rattle.fc_tree.proofs.MemberLemmas.{contains_cases, from_flat, found_passes, one_passes}
+use Rattle.fc_tree.proofs.MemberLemmas.{from_flat, found_passes, one_passes}
+use Rattle.fc_image.proofs.EntriesLemmas.{cases as contains_cases}
+use Rattle.fc_image.proofs.TreeLemmas.{key_total, key_exact}
+use Rattle.fc_image.proofs.CommandLemmas.{same_by_folds}
 
 -- ---- paths by folding
 
-pub key_total : IsTotalOrder key_cmp
-key_total = lists_total (lists_total nat_cmp_total)
-
-pub key_exact : IsAntisymmetric key_cmp
-key_exact = slice_cmp-IsAntisymmetric (slice_cmp-IsAntisymmetric nat_cmp-IsAntisymmetric)
-
 pub folds_alike : (p q : Path) → is_same_path p q ≡ true → folded_path p ≡ folded_path q
 folds_alike p q e = key_exact (folded_path p) (folded_path q) (same_equal (key_cmp (folded_path p) (folded_path q)) e)
-
-pub same_by_folds : (p q : Path) → folded_path p ≡ folded_path q → is_same_path p q ≡ true
-same_by_folds p q e = subst (λ (k : Path). is_eq (key_cmp (folded_path p) k) ≡ true) e (itself p)
 
 pub name_folds_alike : (a b : List ℕ) → is_same_name a b ≡ true → folded a ≡ folded b
 name_folds_alike a b e = slice_cmp-IsAntisymmetric nat_cmp-IsAntisymmetric (folded a) (folded b) (same_equal (name_cmp a b) e)

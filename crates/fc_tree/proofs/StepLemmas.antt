@@ -13,7 +13,7 @@ use Rattle.fc_image.specs.Layout.{Layout, dir_form, disc_sectors}
 use Rattle.fc_image.specs.Walk.{Listing, Object, Reader, is_directory_object, listings_from, object_of, reader_of, root_entry, walk}
 use Rattle.fc_image.specs.Laws.{Tells}
 use Rattle.fc_image.specs.Edits.{Apart, AreChildren, IsAt}
-use Rattle.fc_image.proofs.EditLemmas.{children_have, taken_by}
+use Rattle.fc_image.proofs.EditLemmas.{children_have, taken_by, Apart-append}
 use Rattle.fc_tree.specs.declared.node.Body.TheVariants as bodies
 use Rattle.fc_tree.specs.declared.node.Node.{Node}
 use Rattle.fc_tree.specs.declared.node.TreeError.{TreeError}
@@ -27,11 +27,11 @@ use Rattle.fc_tree.proofs.SectorLemmas.{of_directory, sectors_here, sectors_of_w
 use Rattle.fc_tree.proofs.ChildLemmas.{get_front, stands_more}
 use Rattle.fc_tree.proofs.ClaimLemmas.{object_is}
 use Rattle.fc_tree.proofs.PlaceInLists.{contains_front, contains_last, contains_more, contains_at, get_cases, get_back, get_set, some_same}
-use Rattle.fc_tree.proofs.WalkingLemmas.{IsCounted, IsHeld, IsListed, IsWalking, after, found_by, waiting_from, stands_set, new_stands, child_at, map_get, length-nodes, length-set_node, filter-append, drop_within, waits_past, waits_here, Apart-append, taken_by-append, found_more, map_last, step_ok, step_fault, step_none_left, after_more, after_fault, after_none, root_step}
+use Rattle.fc_tree.proofs.WalkingLemmas.{IsCounted, IsHeld, IsListed, IsWalking, after, found_by, waiting_from, stands_set, new_stands, child_at, map_get, length-nodes, length-set_node, filter-append, drop_within, waits_past, waits_here, taken_by-append, found_more, map_last, step_ok, step_fault, step_none_left, after_more, after_fault, after_none, root_step}
 
 -- ---- files are passed over
 
-get_there : {X : Type 0} (xs : List X) (i : ℕ) → i < length xs → (x : X) × (slice_get xs i ≡ Some x)
+pub get_there : {X : Type 0} (xs : List X) (i : ℕ) → i < length xs → (x : X) × (slice_get xs i ≡ Some x)
 get_there [] i low = absurd (omega arith)
 get_there (x ∷ xs) zero low = (x, refl)
 get_there (x ∷ xs) (suc i) low = get_there xs i (omega arith)

@@ -4,7 +4,7 @@ use Rattle.std.specs.Prelude.{◌==◌, ◌||◌, ◌&&◌, nat_lt, Ok, Err}
 use Rattle.std.specs.List.{list_any, range_with_len}
 use Rattle.std.specs.Int.{bit_at, w64}
 use Rattle.std.specs.Int.Bits.{bit_or}
-use Rattle.std.proofs.lemmas.Bool.{cases_eq, cases_lt, eq-eqb, le-ltb, lt-ltb, ne_eqb}
+use Rattle.std.proofs.lemmas.Bool.{cases_eq, cases_lt, eq-eqb, le-ltb, lt-ltb, ne_eqb, and_from as both_true}
 use Rattle.std.proofs.lemmas.List.{get_or-set_other, get_or-set_same}
 use Rattle.std.proofs.lemmas.Option.{slice_get-get_or}
 use Rattle.std.proofs.lemmas.Grind.{flat_map-append}
@@ -15,9 +15,7 @@ use Rattle.fc_newmap.proofs.PlaceLemmas.{in_front, in_back, in_either, in_range,
 use Rattle.fc_image.specs.Layout.{is_among}
 use Rattle.fc_objects.specs.Extents.{extent_sectors, sectors_in}
 use Rattle.fc_tree.specs.Taken.{Marks, has_mark, is_free, AreTaken}
-
-both_true : (b c : Bool) → b ≡ true → c ≡ true → (b && c) ≡ true
-both_true b c e f = ap₂ (λ (x y : Bool). x && y) e f
+use Rattle.fc_space.proofs.IndexedLemmas.{push_sectors}
 
 any_default : (xs : List ℕ) (i d e : ℕ) → i < length xs → get_or xs i d ≡ get_or xs i e
 any_default xs i d e low = some_same _ _ (sym (slice_get-get_or xs i d low) ∙ slice_get-get_or xs i e low)
@@ -169,6 +167,3 @@ pub row_last : (first end at n sectors : ℕ) → end ≤ at → (first < at →
     → (s : ℕ) → s < sectors → first ≤ s → (s < at ↔ s < first + n)
 row_last first end at n sectors past within last s low from =
     ((λ h. (last s low from).0 (let w = within (omega (arith, h, from)) in omega (arith, h, w))), (λ h. (let f = (last s low from).1 h in omega (arith, f, past))))
-
-pub push_sectors : (found : List Extent) (part : Extent) → sectors_in (found ++ part ∷ []) ≡ sectors_in found ++ extent_sectors part
-push_sectors found part = flat_map-append extent_sectors found (part ∷ []) ∙ ap (λ (xs : List ℕ). sectors_in found ++ xs) (append-nil (extent_sectors part))

@@ -10,9 +10,11 @@ use Rattle.fc_image.specs.Walk.{Object, Listing}
 use Rattle.fc_image.specs.Objects.{objects_of, node_of, tree_entry, tree_of}
 use Rattle.fc_image.proofs.PathsLemmas.{same_equal}
 use Rattle.fc_image.specs.Sound.{AreSound}
-use Rattle.fc_tree.proofs.MemberLemmas.{contains_here, contains_later, contains_cases, no_element, from_map, in_map}
+use Rattle.fc_tree.proofs.MemberLemmas.{contains_here, no_element, from_map, in_map}
 use Rattle.fc_tree.proofs.WalkedLemmas.{same_some}
-use Rattle.fc_tree.proofs.SoundLemmas.{key_total, same_object}
+use Rattle.fc_tree.proofs.SoundLemmas.{same_object}
+use Rattle.fc_image.proofs.EntriesLemmas.{later as contains_later, cases as contains_cases}
+use Rattle.fc_image.proofs.TreeLemmas.{key_total}
 
 -- ---- entries under an order
 

@@ -12,10 +12,14 @@ use Rattle.fc_image.specs.Walk.{Object, Listing, Reader, reader_of, is_directory
 use Rattle.fc_image.specs.Objects.{objects_of, listing_at}
 use Rattle.fc_image.specs.Edits.{AreChildren, IsListing, Follows, Apart, IsRoot}
 use Rattle.fc_image.proofs.EditLemmas.{walk_gives, root_first}
-use Rattle.fc_image.proofs.PathsLemmas.{opened_walk, many, many-append, NoTwins, is_at, itself, unless, only_one, listed_few, once, root_other}
+use Rattle.fc_image.proofs.PathsLemmas.{opened_walk, many, many-append, NoTwins, is_at, itself, only_one, listed_few, once, root_other}
 use Rattle.fc_tree.specs.Agree.{IsDirectory}
 use Rattle.fc_tree.specs.Laws.{SoundLaw}
 use Rattle.fc_image.specs.Sound.{AreSound}
+use Rattle.std.proofs.lemmas.Bool.{false_from_ne_true as unless}
+use Rattle.fc_tree.proofs.StepLemmas.{get_there as element_at}
+use Rattle.fc_tree.proofs.ChildLemmas.{get_front as in_front}
+use Rattle.fc_tree.proofs.EndLemmas.{no_twin as apart_names}
 
 -- ---- places in lists
 
@@ -32,17 +36,6 @@ place_of xs x at = (at.0, slice_get-get_or xs at.0 x at.1 ∙ ap Some at.2)
 
 pub contained : {X : Type 0} (xs : List X) (i : ℕ) (x : X) → slice_get xs i ≡ Some x → Contains xs x
 contained xs i x is = (i, slice_get_within xs i x is, get_or_from_slice_get xs i x x is)
-
--- each place below the length has an element
-pub element_at : {X : Type 0} (xs : List X) (i : ℕ) → i < length xs → (x : X) × (slice_get xs i ≡ Some x)
-element_at [] i low = absurd (omega arith)
-element_at (x ∷ xs) zero low = (x, refl)
-element_at (x ∷ xs) (suc i) low = element_at xs i (omega arith)
-
-in_front : {X : Type 0} (xs ys : List X) (i : ℕ) (x : X) → slice_get xs i ≡ Some x → slice_get (xs ++ ys) i ≡ Some x
-in_front [] ys i x is = absurd (cc)
-in_front (z ∷ xs) ys zero x is = is
-in_front (z ∷ xs) ys (suc i) x is = in_front xs ys i x is
 
 behind : {X : Type 0} (xs ys : List X) (i : ℕ) (x : X) → slice_get ys i ≡ Some x → (j : ℕ) × (slice_get (xs ++ ys) j ≡ Some x)
 behind [] ys i x is = (i, is)
@@ -190,10 +183,6 @@ child_named layout path (e ∷ entries) (p ∷ objects) zero o c is =
     ∙ c.0
     ∙ ap (λ (d : Entry). path ++ d.name ∷ []) (sym c.1 ∙ ap (λ (x : Object). x.entry) (same_some p o is))
 child_named layout path (e ∷ entries) (p ∷ objects) (suc i) o c is = child_named layout path entries objects i o c.3 is
-
-pub apart_names : (content : Directory) → IsDirectory content → first_twin (entries_of content) ≡ None
-apart_names (Directory.Small dir) is = is.apart
-apart_names (Directory.Big dir) is = is.apart
 
 pub sound_law : SoundLaw
 sound_law image kind v opens =

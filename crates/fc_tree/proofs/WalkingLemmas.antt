@@ -14,7 +14,7 @@ use Rattle.fc_image.specs.Layout.{Layout, dir_form, disc_sectors}
 use Rattle.fc_image.specs.Walk.{◌>>=◌, Listing, Object, Reader, children_of, is_directory_object, listings_from, object_of, reader_of, root_entry, walk}
 use Rattle.fc_image.specs.Laws.{Tells}
 use Rattle.fc_image.specs.Edits.{Apart, AreChildren, IsAt}
-use Rattle.fc_image.proofs.EditLemmas.{taken_by}
+use Rattle.fc_image.proofs.EditLemmas.{taken_by, Apart-append}
 use Rattle.fc_tree.specs.declared.node.Body.TheVariants as bodies
 use Rattle.fc_tree.specs.declared.node.Node.{Node}
 use Rattle.fc_tree.specs.declared.node.TreeError.{TreeError}
@@ -174,10 +174,6 @@ none_waits [] zero le = refl
 none_waits [] (suc from) le = refl
 none_waits (x ∷ xs) zero le = absurd (omega arith)
 none_waits (x ∷ xs) (suc from) le = none_waits xs from (omega arith)
-
-pub Apart-append : (taken : List ℕ) (xs ys : List Object) → Apart taken xs → Apart (taken_by taken xs) ys → Apart taken (xs ++ ys)
-Apart-append taken [] ys a b = b
-Apart-append taken (x ∷ xs) ys a b = (a.0, Apart-append (x.sectors ++ taken) xs ys a.1 b)
 
 pub taken_by-append : (taken : List ℕ) (xs ys : List Object) → taken_by taken (xs ++ ys) ≡ taken_by (taken_by taken xs) ys
 taken_by-append taken [] ys = refl

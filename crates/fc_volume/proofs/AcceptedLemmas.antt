@@ -42,7 +42,7 @@ accepted_by v from to form (Ok r) is roomy judge renaming name = record {
   roomy = roomy;
 }
 
-first_some : (xs : List (Option Refusal)) (o : Option Refusal) (r : Refusal) → first_of xs ≡ Some r → first_of (xs ++ o ∷ []) ≡ Some r
+pub first_some : (xs : List (Option Refusal)) (o : Option Refusal) (r : Refusal) → first_of xs ≡ Some r → first_of (xs ++ o ∷ []) ≡ Some r
 first_some [] o r e = absurd (cc)
 first_some (None ∷ xs) o r e = first_some xs o r e
 first_some (Some x ∷ xs) o r e = e

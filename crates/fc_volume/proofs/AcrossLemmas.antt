@@ -19,7 +19,6 @@ use Rattle.fc_drafts.specs.Rewriting.{HasEntered, HasLeft}
 use Rattle.fc_image.specs.effects.Short.{growth_in}
 use Rattle.fc_image.specs.effects.Steady.{has_grown, has_new_holder}
 use Rattle.fc_image.proofs.CommandLemmas.{is_prefix_of}
-use Rattle.fc_image.proofs.PathsLemmas.{unless}
 use Rattle.fc_image.specs.Edits.{IsAt}
 use Rattle.fc_image.specs.Layout.{Layout, dir_form, sectors_at}
 use Rattle.fc_image.specs.Objects.{objects_of}
@@ -55,6 +54,7 @@ use Rattle.fc_volume.proofs.RewriteLemmas.{size_of_form}
 use Rattle.fc_volume.proofs.SettingLemmas.{one_content}
 use Rattle.fc_volume.proofs.TargetLemmas as target_of
 use Rattle.fc_volume.proofs.TurnedLemmas.{FillsObject, fills}
+use Rattle.std.proofs.lemmas.Bool.{false_from_ne_true as unless, or_right as or_second}
 
 -- ---- small directories
 
@@ -86,11 +86,7 @@ entered_form form len parent e old new dir is small has =
 
 -- ---- paths
 
-or_second : (a b : Bool) → b ≡ true → (a || b) ≡ true
-or_second true b e = refl
-or_second false b e = e
-
-prefix_self : (p q : Path) → p ≡ q → is_prefix p q ≡ true
+pub prefix_self : (p q : Path) → p ≡ q → is_prefix p q ≡ true
 prefix_self p q same = is_prefix_of p q (sym (take_all (length p) p (omega arith)) ∙ ap (λ (x : Path). take (length p) x) same)
 
 -- a directory that isn't at or below what is renamed isn't renamed itself

@@ -3,7 +3,7 @@ use Rattle.std.proofs.Common.{◌≡◌, ◌≤◌, ℕ, Bool, true, false, cond
 use Rattle.std.specs.Prelude.{Ok, Contains, IsPermutation, filter, ◌==◌, ◌||◌, ◌&&◌, nat_le, nat_lt}
 use Rattle.std.specs.Ordering.{nat_cmp}
 use Rattle.std.specs.FinMap.{FinMap}
-use Rattle.std.proofs.lemmas.Bool.{eqb-true}
+use Rattle.std.proofs.lemmas.Bool.{eqb-true, false_from_ne_true as unless}
 use Rattle.std.proofs.lemmas.List.{length-map}
 use Rattle.fc_record.specs.declared.Kind.{Kind}
 use Rattle.fc_names.specs.Names.{Path, is_same_path}
@@ -18,8 +18,8 @@ use Rattle.fc_image.specs.Objects.{has_sectors, is_movable, listing_at, objects_
 use Rattle.fc_image.specs.Opening.{boot_place, is_hole_or_movable, least_of, misplaced_sector, reserved_in}
 use Rattle.fc_image.specs.Moves.{listing_in, sectors_or_none}
 use Rattle.fc_image.proofs.EntriesLemmas.{from_map}
-use Rattle.fc_image.proofs.HolesLemmas.{EachListed, Has, Lies, holes_loose, id_no_hole, in_id, least_none, lies_step, loose_sectors, none_loose, walk_lies}
-use Rattle.fc_image.proofs.MoveLemmas.{in_carry, loose_before, loose_carry, objects_carry, sectors_carry, tight_from, unless}
+use Rattle.fc_image.proofs.HolesLemmas.{EachListed, Has, Lies, holes_loose, id_no_hole, in_id, least_none, lies_step, loose_sectors, none_loose, walk_lies, some_least}
+use Rattle.fc_image.proofs.MoveLemmas.{in_carry, loose_before, loose_carry, objects_carry, sectors_carry, tight_from}
 use Rattle.fc_image.proofs.RemapLemmas.{AllIn, carry, carry_listing, carry_walk, map_fixed}
 use Rattle.fc_compact.specs.Ready.{AreOwnersOf, is_movable_by}
 use Rattle.fc_tree.specs.declared.node.Node.{Node}
@@ -27,14 +27,13 @@ use Rattle.fc_tree.specs.Agree.{Agree, HasForm, IsDirectory, reader_of_nodes}
 use Rattle.fc_tree.specs.Nodes.{HasNode, HoldObjects, body_of}
 use Rattle.fc_tree.specs.Parts.{AreOwners, owner_of}
 use Rattle.fc_volume.specs.Compacting.{IsCompacted}
-use Rattle.fc_volume.proofs.CarryLemmas.{carried, carries, fixed_stays, new_shape, no_fewer, stays_two}
+use Rattle.fc_volume.proofs.CarryLemmas.{carried, carries, fixed_stays, no_fewer, stays_two}
 use Rattle.fc_volume.proofs.MisplacedLemmas.{id_owned}
+use Rattle.fc_changes.proofs.BasicLemmas.{and_false as never}
+use Rattle.fc_image.proofs.MapEditLemmas.{at_zones}
+use Rattle.fc_laws.proofs.lemmas.agree.BeforeLemmas.{new_shape}
 
 -- ---- owners
-
-never : (b : Bool) → (b && false) ≡ false
-never true = refl
-never false = refl
 
 -- The owners own what the objects own.
 pub own_same : (owners : List Owner) (nodes : FinMap nat_cmp Node) (layout : Layout) (objects : List Object) → AreOwners owners nodes layout objects → AreOwnersOf owners objects
@@ -61,9 +60,6 @@ carried_filter f (o ∷ objects) =
         ≡ map (carry f) (cond b (o ∷ filter has_sectors objects) (filter has_sectors objects))
     by true e = ap (λ (os : List Object). carry f o ∷ os) e
     by false e = e
-
-abbrev at_zones : Map → List (List ℕ) → Map
-at_zones m zs = record { geometry = m.geometry; zones = zs }
 
 carried_owners : (nodes : FinMap nat_cmp Node) (m : Map) (zs : List (List ℕ)) (f : ℕ → ℕ) (objects : List Object)
     → map (owner_of nodes (Layout.New (at_zones m zs))) (map (carry f) objects) ≡ map (owner_of nodes (Layout.New m)) objects
@@ -104,9 +100,6 @@ held_after nodes f listings held = record {
 }
 
 -- ---- the walk by the compacted map
-
-some_least : (n : ℕ) (ns : List ℕ) → least_of (n ∷ ns) ≡ None → ⊥
-some_least n ns e = cc
 
 none_least : (xs ys : List ℕ) → least_of (xs ++ ys) ≡ None → (least_of xs ≡ None) × (least_of ys ≡ None)
 none_least [] ys e = (refl, e)

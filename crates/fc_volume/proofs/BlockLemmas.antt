@@ -20,6 +20,7 @@ use Rattle.fc_image.specs.declared.ImageFault.{ImageFault}
 use Rattle.fc_image.proofs.FreeLemmas.{parts_of as opened_parts}
 use Rattle.fc_image.proofs.HolesLemmas.{found_map}
 use Rattle.fc_tree.proofs.LengthLemmas.{first_among}
+use Rattle.fc_record.proofs.KindLemmas.{and_second as second_part}
 
 -- ---- rows of blocks of one length
 
@@ -56,10 +57,6 @@ module _ (f : ℕ → List ℕ) (size : ℕ) where
       ∙ take-append-le n (drop r (f s)) cut.0 (omega (arith, length-drop r (f s), long, within))
 
 -- ---- an image has the sectors of its disc
-
-second_part : (a b : Bool) → (a && b) ≡ true → b ≡ true
-second_part true b e = e
-second_part false b e = absurd (cc)
 
 new_size : (r : DiscRecord) → (geometry r).disc_bits * (geometry r).bit_bytes / (geometry r).sector * (geometry r).sector ≤ r.size
 new_size r =

@@ -66,12 +66,12 @@ use Rattle.fc_volume.proofs.ReadingLemmas.{each_at}
 use Rattle.fc_volume.proofs.RenameLemmas.{named_in}
 use Rattle.fc_volume.proofs.CarryingLemmas.{low_small}
 use Rattle.fc_volume.proofs.CopyingLemmas.{only_written}
-use Rattle.fc_volume.proofs.RewriteLemmas.{says_it}
 use Rattle.fc_volume.proofs.RoomyLemmas.{HasRoomFor}
+use Rattle.fc_laws.proofs.lemmas.agree.SayLemmas.{as_directory as says_it}
 
 -- ---- what is copied
 
-both_true : (a b c : Bool) → (not a && not b && c) ≡ true → (a ≡ false) × (c ≡ true)
+pub both_true : (a b c : Bool) → (not a && not b && c) ≡ true → (a ≡ false) × (c ≡ true)
 both_true true b c e = absurd (cc)
 both_true false true c e = absurd (cc)
 both_true false false c e = (refl, e)
@@ -91,7 +91,7 @@ some_sectors m is n some = elim (geometry_facts m.geometry is.of_record).size [
 ]
 
 -- bytes take no more sectors than they are
-no_more_sectors : (m : Map) → IsNewMap m → (n : ℕ) → div_ceil n m.geometry.sector ≤ n
+pub no_more_sectors : (m : Map) → IsNewMap m → (n : ℕ) → div_ceil n m.geometry.sector ≤ n
 no_more_sectors m is n = elim (geometry_facts m.geometry is.of_record).size [
   | inl a ↦ subst (λ (k : ℕ). div_ceil n k ≤ n) (sym a) (omega arith)
   | inr b ↦ elim b [

@@ -55,7 +55,6 @@ use Rattle.fc_volume.specs.Storing.{HasSpaceOf}
 use Rattle.fc_volume.specs.Volume.{StandsFor, Volume, parts_of}
 use Rattle.fc_volume.proofs.CarriedLemmas as carried
 use Rattle.fc_volume.proofs.CdirHeldLemmas.{hole_apart, hole_on_disc}
-use Rattle.fc_volume.proofs.PieceLemmas.{all_low}
 use Rattle.fc_volume.proofs.ReadingLemmas.{each_at}
 use Rattle.fc_volume.proofs.RenameVolumeLemmas as vol
 use Rattle.fc_volume.proofs.RenameVolumeLemmas.{placed_low}
@@ -63,6 +62,7 @@ use Rattle.fc_volume.proofs.SetVolumeLemmas.{HasMap}
 use Rattle.fc_volume.proofs.SpacedLemmas.{HasNow, has_changed as space_changed, stands_now as space_stands}
 use Rattle.fc_volume.proofs.RoomyLemmas.{addressed_by}
 use Rattle.fc_drafts.specs.Draft.{CanAddress}
+use Rattle.fc_tree.proofs.ReadingLemmas.{all_on_disk as all_low}
 
 -- The space is right for the node on each map that the volume's layout may be.
 abbrev pub HasCopySpace : Nodes → Layout → ℕ → Carrying → Type 0

@@ -18,7 +18,7 @@ use Rattle.fc_newmap.specs.RunsLaw.{IsGeometry, HasZones, HoldsSector}
 use Rattle.fc_newmap.proofs.CoverLemmas.{id_Distinct, run_there}
 use Rattle.fc_newmap.proofs.GeometryLemmas.{geometry_of_valid}
 use Rattle.fc_newmap.proofs.HeldLemmas.{geometry_facts}
-use Rattle.fc_newmap.proofs.PlaceLemmas.{contains_cases, contains_none, contains_here, contains_later, held_in, holder_of, id_run_in, in_back, in_filter, in_id_runs, in_range, is_in, range_in}
+use Rattle.fc_newmap.proofs.PlaceLemmas.{contains_cases, contains_none, held_in, holder_of, id_run_in, in_back, in_filter, in_id_runs, in_range, range_in}
 use Rattle.fc_newmap.proofs.RunsLemmas.{runs_apart, sectors_add}
 use Rattle.fc_alloc.specs.declared.owner.Owner.{Owner}
 use Rattle.fc_image.specs.effects.Settled.{KeepsBits}
@@ -32,7 +32,10 @@ use Rattle.fc_image.specs.Objects.{is_movable}
 use Rattle.fc_image.specs.Opening.{is_hole_or_movable as loose}
 use Rattle.fc_image.proofs.HolesLemmas.{loose_sectors}
 use Rattle.fc_image.proofs.MoveLemmas.{CarriesIds, one_id}
-use Rattle.fc_image.proofs.RemapLemmas.{map_moved, moved_in, moved_one, moved_to}
+use Rattle.fc_image.proofs.RemapLemmas.{map_moved, moved_in, moved_one, moved_to, map_agree as agree}
+use Rattle.fc_device.specs.Numbers.{is_listed as is_in}
+use Rattle.fc_zone.proofs.ZoneLemmas.{Contains-head as contains_here, Contains-tail as contains_later}
+use Rattle.fc_laws.proofs.lemmas.agree.BeforeLemmas.{new_shape}
 
 -- ---- the run that holds a sector
 
@@ -92,11 +95,6 @@ stays (o ∷ old) s = by (o == s) refl (stays old s)
     by true e more = eqb-true o s e
     by false e more = more
 
-agree : (f g : ℕ → ℕ) (xs : List ℕ) → ((s : ℕ) → is_among xs s ≡ true → f s ≡ g s) → map f xs ≡ map g xs
-agree f g [] same = refl
-agree f g (x ∷ xs) same =
-    ap₂ (λ (y : ℕ) (ys : List ℕ). y ∷ ys) (same x (ap (λ b. b || is_among xs x) (eq-eqb x x refl))) (agree f g xs (λ s e. same s (in_back (x ∷ []) xs s e)))
-
 -- ---- sectors and bits
 
 less_sectors : (a b unit sector : ℕ) → 0 < sector → a ≤ b → a * unit / sector ≤ b * unit / sector
@@ -111,9 +109,6 @@ sectors_count g is (p ∷ runs) whole =
     ∙ ap₂ (λ (a b : ℕ). a + b) (length-range_with_len _ (sector_count g p)) (sectors_count g is runs (λ q c. whole q (contains_later p runs q c)))
     ∙ sym (sectors_add g.q g.bit_bytes g.sector p.1.len (bits_in runs) is.some is.whole (whole p (contains_here p runs)))
     ∙ ap (λ (n : ℕ). n * g.bit_bytes / g.sector) (sym (sum_by-cons (λ (q : ZoneRun). q.1.len) p runs))
-
-pub new_shape : (m : Map) → IsNewMap m → IsGeometry m.geometry
-new_shape m is = subst IsGeometry is.of_record.1.1 (geometry_of_valid is.of_record.0 is.of_record.1.0)
 
 id_count : (m : Map) → IsNewMap m → (id : ℕ) → length (id_sectors m id) ≡ bits_in (id_runs m id) * m.geometry.bit_bytes / m.geometry.sector
 id_count m is id =

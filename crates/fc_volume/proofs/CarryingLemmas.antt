@@ -81,7 +81,7 @@ module _ (nodes : FinMap nat_cmp Node) (layout : Layout) (n : ℕ) (can : CanCop
   pub place_there : IsSome (sectors_at layout node.entry.address (object_size (dir_form layout) node.entry))
   place_there = subst (λ (x : Node). IsSome (sectors_at layout x.entry.address (object_size (dir_form layout) x.entry))) one_node can.placed
 
-low_bit : (b : Bool) → cond b 1 0 < 2
+pub low_bit : (b : Bool) → cond b 1 0 < 2
 low_bit true = omega arith
 low_bit false = omega arith
 

@@ -19,7 +19,7 @@ use Rattle.fc_tree.specs.Nodes.{Numbers, nodes_of}
 use Rattle.fc_image.specs.Sound.{AreSound}
 use Rattle.fc_tree.specs.Parts.{ArePartsOf}
 use Rattle.fc_tree.proofs.LengthLemmas.{object_long}
-use Rattle.fc_tree.proofs.MemberLemmas.{contains_here, contains_later}
+use Rattle.fc_tree.proofs.MemberLemmas.{contains_here}
 use Rattle.fc_tree.proofs.SortedLemmas.{listed_by}
 use Rattle.fc_tree.proofs.SoundLemmas.{children_stored}
 use Rattle.fc_tree.proofs.WalkedLemmas.{child_is_object, sound_law}
@@ -32,6 +32,7 @@ use Rattle.fc_volume.specs.Reading.{AreLines, entries_at, line_of}
 use Rattle.fc_volume.specs.Volume.{Volume, parts_of}
 use Rattle.fc_volume.proofs.BlockLemmas.{image_long}
 use Rattle.fc_volume.proofs.ReadingLemmas.{CatIs, IsRefused, cat_is, cat_refuses, each_at, size_of}
+use Rattle.fc_image.proofs.EntriesLemmas.{later as contains_later}
 
 map_twice : {X Y Z : Type 0} (f : Y → Z) (g : X → Y) (xs : List X) → map f (map g xs) ≡ map (λ x. f (g x)) xs
 map_twice f g [] = refl

@@ -31,7 +31,6 @@ use Rattle.fc_volume.specs.Storing.{CanStore}
 use Rattle.fc_volume.specs.Volume.{StandsFor, Volume, parts_of}
 use Rattle.fc_volume.proofs.CdirHeldLemmas.{can_make, formed, hole_apart, hole_on_disc, unowned}
 use Rattle.fc_volume.proofs.CdirLemmas.{IsReady}
-use Rattle.fc_volume.proofs.PieceLemmas.{all_low}
 use Rattle.fc_volume.proofs.RoomyLemmas.{HasRoomFor, room_found}
 use Rattle.fc_volume.proofs.SettingLemmas.{one_content}
 use Rattle.fc_volume.proofs.SetVolumeLemmas.{HasMap}
@@ -60,6 +59,8 @@ use Rattle.fc_volume.specs.Changing.{AnswersBy, refusal_in}
 use Rattle.fc_volume.specs.Making.{AnswersSpace}
 use Rattle.fc_volume.specs.Roomy.{IsRoomy}
 use Rattle.fc_volume.proofs.JudgedLemmas.{refused_by}
+use Rattle.fc_volume.proofs.AcceptedLemmas.{first_some}
+use Rattle.fc_tree.proofs.ReadingLemmas.{all_on_disk as all_low}
 
 -- ---- the gain
 
@@ -219,11 +220,6 @@ module _ (laws : CdirLaws) (w v : Volume) (same : w ≡ v) (m : Map) (layout : l
 
 -- ---- refusals
 
-pub first_some : (xs : List (Option Refusal)) (o : Option Refusal) (r : Refusal) → first_of xs ≡ Some r → first_of (xs ++ o ∷ []) ≡ Some r
-first_some [] o r e = absurd (cc)
-first_some (None ∷ xs) o r e = first_some xs o r e
-first_some (Some s ∷ xs) o r e = e
-
 pub first_none : (xs : List (Option Refusal)) (o : Option Refusal) → first_of xs ≡ None → first_of (xs ++ o ∷ []) ≡ o
 first_none [] None e = refl
 first_none [] (Some r) e = refl
@@ -265,7 +261,7 @@ unless_any (Refused r) P p = p
 unless_any NoMemory P p = p
 unless_any DiskFault P p = tt
 
-one_error : (a b : CommandError) → (let r : Result (Unit {0}) CommandError = Err a in r) ≡ Err b → a ≡ b
+pub one_error : (a b : CommandError) → (let r : Result (Unit {0}) CommandError = Err a in r) ≡ Err b → a ≡ b
 one_error a b e = cc
 
 -- a volume that answers without a change is kept

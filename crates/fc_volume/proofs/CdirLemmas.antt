@@ -42,7 +42,7 @@ use Rattle.fc_tree.proofs.WalkedLemmas.{find_only, one_listing, place_of, same_s
 use Rattle.fc_laws.specs.nodes.Edits.{IsDirectoryAdded, Nodes, NodesFollow, OwnersFollow, with_body}
 use Rattle.fc_changes.proofs.ReadsLemmas.{same_name_itself}
 use Rattle.std.specs.Int.{div_ceil}
-use Rattle.std.proofs.lemmas.Bool.{lt-ltb}
+use Rattle.std.proofs.lemmas.Bool.{lt-ltb, and_from as both}
 use Rattle.fc_record.specs.declared.Geometry.{Geometry}
 use Rattle.fc_record.specs.declared.Kind.{Kind}
 use Rattle.fc_newmap.specs.Map.{ZoneRun}
@@ -78,17 +78,13 @@ use Rattle.fc_volume.specs.Making.{IsMakingReady, nodes_made}
 use Rattle.fc_volume.specs.Storing.{HasSpaceOf}
 use Rattle.fc_volume.proofs.SettingLemmas.{one_content}
 use Rattle.fc_volume.proofs.TargetLemmas as target_of
+use Rattle.fc_laws.proofs.lemmas.agree.SayLemmas.{as_directory as says_it}
 
 -- ---- paths
 
-whole_path : (path : Path) → 0 < length path → path ≡ holder path ++ last_name path ∷ []
+pub whole_path : (path : Path) → 0 < length path → path ≡ holder path ++ last_name path ∷ []
 whole_path [] some = absurd (omega (arith, some))
 whole_path (x ∷ path) some = (named (x ∷ path) (last_name (x ∷ path)) refl).whole
-
-both : (a b : Bool) → a ≡ true → b ≡ true → (a && b) ≡ true
-both true true e f = refl
-both true false e f = absurd (cc)
-both false b e f = absurd (cc)
 
 -- what stands in a directory under the last name of a path is at the path
 pub at_path : (path dir : Path) (name : List ℕ) → 0 < length path → is_same_path (holder path) dir ≡ true → name ≡ last_name path → is_same_path path (dir ++ name ∷ []) ≡ true
@@ -104,10 +100,6 @@ pub no_entries : (form : NameForm) (parent : ℕ) (name : List ℕ) → entries_
 no_entries forms.Seven parent name = refl
 no_entries forms.Ten parent name = refl
 no_entries forms.Long parent name = refl
-
-says_it : (dir : Directory) → IsSayable dir → IsDirectory dir
-says_it (Directory.Small dir) is = is
-says_it (Directory.Big dir) is = is
 
 -- ---- what is ready
 

@@ -2,7 +2,7 @@
 use Rattle.std.proofs.Common.{◌≡◌, ◌<◌, ◌≤◌, ℕ, zero, suc, ◌+◌, ◌-◌, ◌*◌, ◌/◌, Bool, true, false, cond, List, [], ◌∷◌, ◌++◌, length, take, drop, refl, sym, ap, ap₂, subst, ◌∙◌, arith, drop_of_length-le}
 use Rattle.std.specs.Prelude.{Result, Ok, Option, Some, None, All, filter, not, ◌==◌, ◌||◌}
 use Rattle.std.proofs.Math.Nat.{div-mul-le_self, le-div_iff_mul-le}
-use Rattle.std.proofs.lemmas.Bool.{eq-eqb, eqb-true}
+use Rattle.std.proofs.lemmas.Bool.{eq-eqb, eqb-true, false_from_ne_true as unless}
 use Rattle.std.proofs.lemmas.Nat.{mul-le}
 use Rattle.std.proofs.lemmas.List.{drop-drop, take-append-drop}
 use Rattle.std.proofs.lemmas.List.Elements.{All-nil, All-cons}
@@ -29,8 +29,8 @@ use Rattle.fc_image.specs.Opening.{MapAndRoot, Opened, boot_place, holes_or, is_
 use Rattle.fc_image.specs.Moves.{KeepsObjects, SameMapLaw, StaysBy, with_map}
 use Rattle.fc_image.specs.Stays.{FixedBytesStay, FixedStay, IsNewKind, OpensAs, fixed_sectors, is_fixed, is_fixed_run}
 use Rattle.fc_image.proofs.FreeLemmas.{parts_of}
-use Rattle.fc_image.proofs.HolesLemmas.{OpenMap, loose_sectors as loose_objects, none_loose}
-use Rattle.fc_image.proofs.MoveLemmas.{all_filter, open_by, unless}
+use Rattle.fc_image.proofs.HolesLemmas.{OpenMap, loose_sectors as loose_objects, none_loose, new_size as kind_size}
+use Rattle.fc_image.proofs.MoveLemmas.{all_filter, open_by}
 use Rattle.fc_image.proofs.StepLemmas.{all_at, among_filter}
 use Rattle.fc_image.specs.effects.Effect.{Compacts}
 use Rattle.fc_image.specs.effects.Settled.{CompactedLayout, IdleStay, ObjectsStay}
@@ -39,6 +39,7 @@ use Rattle.fc_compact.specs.Ready.{AreOwnersOf, IsReady}
 use Rattle.fc_compact.specs.Compacting.{ByOwnersLaw, ChangesLoose, is_loose, loose_sectors}
 use Rattle.fc_volume.specs.Compacting.{IsCompacted}
 use Rattle.fc_volume.proofs.AgreeLemmas.{movable_same}
+use Rattle.fc_laws.proofs.lemmas.takeover.KindLemmas.{old_never}
 
 -- ---- bytes after the sectors that change
 
@@ -71,16 +72,6 @@ module _ (size : ℕ) (some : 0 < size) (xs ys : List ℕ) (long : length xs ≡
 
 -- ---- the kind
 
-old_never : (space : OldMapContent) (address size : ℕ) (fault : Option ℕ) (found : MapAndRoot) (m : Map) → holes_or (Layout.Old space, address, size) fault ≡ Ok found → found.0 ≡ Layout.New m → ⊥
-old_never space address size None found m e new =
-    let is : Layout.Old space ≡ found.0 = first (Layout.Old space, address, size) found e in
-    let both : Layout.Old space ≡ Layout.New m = is ∙ new in
-    cc
-  where
-    first : (a b : MapAndRoot) → (let x : Result MapAndRoot ImageFault = Ok a in x) ≡ Ok b → a.0 ≡ b.0
-    first a b h = cc
-old_never space address size (Some index) found m e new = cc
-
 -- an image that opens by a new map opens as a kind with one
 pub new_kind : (image : List ℕ) (kind : Kind) (v : Opened) (m : Map) → OpensAs image kind v → v.layout ≡ Layout.New m → (r : DiscRecord) × IsNewKind kind r
 new_kind image (Boot r) v m opens layout = (r, refl)
@@ -91,12 +82,6 @@ new_kind image DiscD v m opens layout =
 new_kind image (DiscL units) v m opens layout =
     let p = parts_of image (DiscL units) v opens.opened in
     absurd (old_never (free_space image 1) 2 0 (hole_fault image 1) p.0 m p.1.1 (ap (λ (w : Opened). w.layout) p.1.4 ∙ layout))
-
-kind_size : (kind : Kind) (r : DiscRecord) → IsNewKind kind r → disc_size kind ≡ r.size
-kind_size (Boot s) r new = ap (λ (t : DiscRecord). t.size) new
-kind_size (OneZone s) r new = ap (λ (t : DiscRecord). t.size) new
-kind_size DiscD r new = absurd new
-kind_size (DiscL units) r new = absurd new
 
 -- ---- what may change
 

@@ -4,7 +4,6 @@ use Rattle.std.specs.Option.{ForSome}
 use Rattle.fc_device.specs.declared.disk.Disk.{Ghosts}
 use Rattle.fc_newmap.specs.Map.{Map, map_sectors}
 use Rattle.fc_copies.specs.Copies.{HoldsCopies}
-use Rattle.fc_changes.proofs.MadeLemmas.{turned}
 use Rattle.fc_changes.specs.Owed.{IsWritten}
 use Rattle.fc_image.specs.Layout.{Layout, is_apart}
 use Rattle.fc_image.proofs.HolesLemmas.{apart_at}
@@ -16,6 +15,8 @@ use Rattle.fc_volume.specs.Compacting.{KeepsMap}
 use Rattle.fc_volume.specs.Copying.{AreCopiedFrom, ChangesOnly, IsFirstCopied}
 use Rattle.fc_volume.specs.Volume.{HasCopies}
 use Rattle.fc_volume.proofs.WritingLemmas.{among_at}
+use Rattle.fc_image.proofs.EditLemmas.{apart_turned as turned}
+use Rattle.fc_objects.proofs.CopyLemmas.{one_told}
 
 -- ---- the sectors of an object
 
@@ -43,9 +44,6 @@ pub only_written : (m : Map) (sectors was image : List ℕ) → ChangesOnly m.ge
 only_written m sectors was image only = record { length_stays = only.length_stays; writes = λ s out no_map. only.others s out }
 
 -- ---- after the copies of the map were made equal
-
-one_told : (a b : List ℕ) → (let x : Option (List ℕ) = Some a in x) ≡ Some b → a ≡ b
-one_told a b e = cc
 
 pub first_copied : {D : Type 0} (d : Ghosts D) (old : D) (m : Map) (copies : Copies) (was : List ℕ) → d.bytes old ≡ Some was → ForSome (d.bytes old) (HasCopies copies (Layout.New m))
     → (start : List ℕ) → d.bytes old ≡ Some start → (mid image : List ℕ) → (HasCopies copies (Layout.New m) start → KeepsMap m start mid) → HoldsCopies m.geometry m.zones mid

@@ -47,9 +47,10 @@ use Rattle.fc_volume.specs.declared.changes.removal.Removal.{Removal}
 use Rattle.fc_volume.specs.ChangeLaws.{ChangeLaws}
 use Rattle.fc_volume.specs.Changing.{WritesPlaces}
 use Rattle.fc_volume.specs.Deleting.{IsDeleteReady, IsWrittenWithout}
-use Rattle.fc_volume.proofs.RewriteLemmas.{IsDirectoryBytes, says_it, size_of_form}
+use Rattle.fc_volume.proofs.RewriteLemmas.{IsDirectoryBytes, size_of_form}
 use Rattle.fc_volume.proofs.RewriteLemmas as rewrite
 use Rattle.fc_volume.proofs.TargetLemmas as target_of
+use Rattle.fc_laws.proofs.lemmas.agree.SayLemmas.{as_directory as says_it}
 
 -- ---- directories
 
@@ -74,7 +75,7 @@ entries_left parent at old new is = ap entries_of is.is ∙ by old
 -- ---- owners
 
 -- what is found is there, and passes
-found_there : (t : Owner → Bool) (xs : List Owner) (x : Owner) → find t xs ≡ Some x → Contains xs x × (t x ≡ true)
+pub found_there : (t : Owner → Bool) (xs : List Owner) (x : Owner) → find t xs ≡ Some x → Contains xs x × (t x ≡ true)
 found_there t [] x e = absurd (cc)
 found_there t (y ∷ xs) x e = by (t y) refl e (found_there t xs x)
   where

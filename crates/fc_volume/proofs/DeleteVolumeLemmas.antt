@@ -34,7 +34,6 @@ use Rattle.fc_image.specs.Sound.{AreSound}
 use Rattle.fc_image.specs.Walk.{Listing}
 use Rattle.fc_tree.specs.Nodes.{HoldObjects}
 use Rattle.fc_refusals.specs.Targets.{IsRemovable}
-use Rattle.fc_volume.proofs.PieceLemmas.{all_low}
 use Rattle.fc_volume.proofs.SetVolumeLemmas.{HasMap}
 use Rattle.fc_volume.proofs.DeleteLemmas.{IsGoing, agrees, long, takes_over, writes_places}
 use Rattle.fc_volume.proofs.DeleteLemmas as deleted
@@ -44,6 +43,7 @@ use Rattle.fc_image.specs.Layout.{is_apart, map_place}
 use Rattle.fc_image.specs.Opening.{boot_place, reserved_in}
 use Rattle.fc_image.proofs.HolesLemmas.{apart_at, apart_from}
 use Rattle.fc_newmap.proofs.PlaceLemmas.{in_front}
+use Rattle.fc_tree.proofs.ReadingLemmas.{all_on_disk as all_low}
 
 -- The target may go, by each walk whose objects the nodes of a volume hold.
 abbrev pub MayGo : Volume → Path → Target → Type 0

@@ -5,7 +5,7 @@ use Rattle.std.specs.Int.{div_ceil}
 use Rattle.std.specs.List.{list_any}
 use Rattle.std.specs.Ordering.{nat_cmp}
 use Rattle.std.specs.FinMap.{FinMap}
-use Rattle.std.proofs.lemmas.Bool.{eq-eqb, lt-ltb}
+use Rattle.std.proofs.lemmas.Bool.{eq-eqb, lt-ltb, or_right as or_second}
 use Rattle.std.proofs.lemmas.Grind.{div_ceil_times}
 use Rattle.fc_names.specs.Names.{Path}
 use Rattle.fc_record.specs.declared.Kind.{Kind}
@@ -32,7 +32,7 @@ use Rattle.fc_tree.specs.Nodes.{HoldObjects, number_of}
 use Rattle.fc_tree.specs.Parts.{AreOwners}
 use Rattle.fc_changes.specs.Changed.{IsFileAt}
 use Rattle.fc_changes.specs.Owed.{GivesBack, IsSpaceEdit}
-use Rattle.fc_changes.proofs.BasicLemmas.{clash, or_second}
+use Rattle.fc_changes.proofs.BasicLemmas.{clash}
 use Rattle.fc_changes.proofs.PlacedLemmas.{IsShared, is_shared}
 use Rattle.fc_changes.proofs.SpaceLemmas.{no_runs, still_owned}
 use Rattle.fc_laws.specs.nodes.Edits.{Nodes}
@@ -48,6 +48,8 @@ use Rattle.fc_placing.specs.Space.{IsMapEdited, StepsLaw}
 use Rattle.fc_placing.proofs.SlackLemmas.{same_slack}
 use Rattle.fc_volume.specs.Filing.{HasPlanned, HasSpaceMoved, IsPlaceFor, KeepsPlan, plan_in}
 use Rattle.fc_volume.proofs.OwnersLemmas.{no_bytes}
+use Rattle.fc_placing.proofs.PlacedLemmas.{id_at}
+use Rattle.fc_volume.proofs.CarryingLemmas.{low_bit as one_or_none}
 
 -- ---- sectors
 
@@ -82,13 +84,6 @@ space_edited law m m' (Shared share) gone is has kept = law.given m m' share.id 
 space_edited law m m' (New plan) gone is has kept = law.taken m has.mid m' plan.id (fronts plan.parts.items) gone is has.taken.edited has.taken.taken has.edited has.given kept
 
 -- ---- addresses
-
-id_at : (id low : ℕ) → low < 256 → id_of (256 * id + low) ≡ id
-id_at id low small = omega (arith, small)
-
-one_or_none : (b : Bool) → cond b 1 0 < 2
-one_or_none true = omega arith
-one_or_none false = omega arith
 
 -- the low byte of a file in new space
 pub low_two : (m : Map) (plan : Plan) (bytes : ℕ) → file_low m.geometry (bits_in (fronts plan.parts.items) * m.geometry.bit_bytes) bytes < 2

@@ -56,7 +56,7 @@ room_by m mid n e room = subst (λ (g : Geometry). g.map_sector + 2 * g.zones �
 
 -- ---- want of space
 
-full_first : (v : Opened) (c : Command) (b : Bool) → b ≡ true → first_of (when b refusals.DirFull ∷ space_reasons v.layout v c) ≡ Some refusals.DirFull
+pub full_first : (v : Opened) (c : Command) (b : Bool) → b ≡ true → first_of (when b refusals.DirFull ∷ space_reasons v.layout v c) ≡ Some refusals.DirFull
 full_first v c b is = ap (λ (x : Bool). first_of (when x refusals.DirFull ∷ space_reasons v.layout v c)) is
 
 pub file_full : (m : Map) (owners : List Owner) (dir bytes : ℕ) (content : Directory) (name : List ℕ) (v : Opened) (c : Command) (w : WantsFile m owners dir bytes content name v c)

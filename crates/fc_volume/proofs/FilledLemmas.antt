@@ -10,7 +10,7 @@ use Rattle.fc_newmap.specs.Map.{Map}
 use Rattle.fc_objects.specs.Extents.{sectors_in}
 use Rattle.fc_objects.specs.Written.{AreApart, HasParts, IsPartWritten, padded, part_at}
 use Rattle.fc_objects.proofs.BlockLemmas.{take_both}
-use Rattle.fc_objects.proofs.WriteLemmas.{reads_back}
+use Rattle.fc_objects.proofs.WriteLemmas.{reads_back, zeros_front}
 use Rattle.fc_volume.specs.declared.changes.filing.Filing.{Filing}
 use Rattle.fc_volume.specs.declared.changes.putting.FileWords.{FileWords}
 use Rattle.fc_volume.specs.Filing.{IsFileDone, IsFileWritten}
@@ -40,9 +40,6 @@ makes_create path words =
     inr (ap (Command.Create path words.load words.exec) (sym long), filled_zeros words.len ∙ ap (λ (n : ℕ). replicate n 0) (sym long))
 
 -- ---- a part of the bytes
-
-zeros_front : (m n : ℕ) → m ≤ n → take {A = ℕ} m (replicate n 0) ≡ replicate m 0
-zeros_front m n le = take-replicate m n 0 le
 
 drop_both : (n : ℕ) (xs ys : List ℕ) → drop n (xs ++ ys) ≡ drop n xs ++ drop (n - length xs) ys
 drop_both n xs ys = elim (cases_lt n (length xs)) [

@@ -12,7 +12,6 @@ use Rattle.fc_dirs.specs.Directory.{Directory, entries_of}
 use Rattle.fc_drafts.specs.Gains.{GetsName, HasRoom}
 use Rattle.fc_drafts.specs.declared.room.Room.TheVariants as rooms
 use Rattle.fc_image.specs.effects.Short.{Gain, gain_by_new_name, gain_by_rename, gain_in, gain_of, growth_in}
-use Rattle.fc_image.proofs.PathsLemmas.{unless}
 use Rattle.fc_image.specs.Layout.{Layout}
 use Rattle.fc_image.specs.Objects.{listing_at, object_at}
 use Rattle.fc_image.specs.Opening.{Opened}
@@ -35,6 +34,7 @@ use Rattle.fc_volume.proofs.SaveGainLemmas.{gains}
 use Rattle.fc_volume.proofs.SavingLemmas.{of_both}
 use Rattle.fc_volume.proofs.SettingLemmas.{one_content}
 use Rattle.fc_volume.proofs.TargetLemmas as target_of
+use Rattle.std.proofs.lemmas.Bool.{false_from_ne_true as unless}
 
 -- what `room_for` says of a directory that the name fits
 pub room_fits : (content : Directory) (name : List ℕ) → ((gain : Gain) → GetsName content name gain → HasRoom content gain rooms.Fits) → HasRoomFor content name

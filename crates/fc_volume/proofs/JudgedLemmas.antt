@@ -19,7 +19,7 @@ use Rattle.fc_volume.specs.Changing.{AnswersBy, refusal_in}
 
 -- ---- want of space
 
-none_below : (n : ℕ) → nat_lt n 0 ≡ false
+pub none_below : (n : ℕ) → nat_lt n 0 ≡ false
 none_below n = grind (arith, nat_tests)
 
 enough : (ids bits some need : ℕ) → some ≡ 0 → need ≡ 0 → first_of (when (nat_lt ids some) refusals.IdsFull ∷ when (nat_lt bits need) refusals.DiscFull ∷ []) ≡ None

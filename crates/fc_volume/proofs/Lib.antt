@@ -21,7 +21,7 @@ pub mod WritingLemmas
 pub mod TakingLemmas
 pub mod SettingLemmas
 pub mod StoringLemmas
-mod MakingLemmas
+pub mod MakingLemmas
 pub mod RoomyLemmas
 pub mod SmallLemmas
 pub mod RespelledLemmas
@@ -30,12 +30,12 @@ pub mod TargetLemmas
 pub mod JudgedLemmas
 pub mod SetLemmas
 pub mod ChangeLemmas
-mod SetVolumeLemmas
-mod MadeLemmas
-mod CdirLemmas
-mod CdirHeldLemmas
-mod CdirVolumeLemmas
-mod CdirAskedLemmas
+pub mod SetVolumeLemmas
+pub mod MadeLemmas
+pub mod CdirLemmas
+pub mod CdirHeldLemmas
+pub mod CdirVolumeLemmas
+pub mod CdirAskedLemmas
 pub mod DeleteLemmas
 mod DeleteVolumeLemmas
 pub mod FilingLemmas
@@ -43,16 +43,16 @@ pub mod RewriteLemmas
 pub mod RelocatingLemmas
 mod RenamingLemmas
 pub mod TurnedLemmas
-mod RenameSpaceLemmas
+pub mod RenameSpaceLemmas
 pub mod RenameLemmas
 mod RelocatedLemmas
-mod RenameVolumeLemmas
+pub mod RenameVolumeLemmas
 pub mod AcceptedLemmas
 pub mod MoveLemmas
-mod CopyingLemmas
+pub mod CopyingLemmas
 pub mod AcrossLemmas
-mod CarryingLemmas
-mod CarriedLemmas
+pub mod CarryingLemmas
+pub mod CarriedLemmas
 mod SpacedLemmas
 mod CarriedVolumeLemmas
 pub mod FilledLemmas

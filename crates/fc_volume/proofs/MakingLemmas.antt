@@ -69,7 +69,7 @@ dir_bytes m = by (m.geometry.version == 0)
 
 -- ---- want of space
 
-full_first : (v : Opened) (path : Path) (b : Bool) → b ≡ true → first_of (when b refusals.DirFull ∷ space_reasons v.layout v (Command.Cdir path)) ≡ Some refusals.DirFull
+pub full_first : (v : Opened) (path : Path) (b : Bool) → b ≡ true → first_of (when b refusals.DirFull ∷ space_reasons v.layout v (Command.Cdir path)) ≡ Some refusals.DirFull
 full_first v path b is = ap (λ (x : Bool). first_of (when x refusals.DirFull ∷ space_reasons v.layout v (Command.Cdir path))) is
 
 pub short_full : (v : Opened) (path : Path) (gain : Gain) (content : Directory) → gain_in v (Command.Cdir path) ≡ Some gain → gain.listing.content ≡ content → is_full_with content gain ≡ true

@@ -4,7 +4,7 @@ use Rattle.std.specs.Prelude.{nat_le, Option, Some, None, Result, Ok, Err, if◌
 use Rattle.byteorder.specs.Endian.{little_number}
 use Rattle.std.proofs.lemmas.List.{get_or-take, drop-take, take-take, length-take-le}
 use Rattle.std.proofs.lemmas.List.FromFn.{map-range_with_len_more}
-use Rattle.std.proofs.lemmas.Bool.{and_from, leb-true}
+use Rattle.std.proofs.lemmas.Bool.{and_from, leb-true, and_parts}
 use Rattle.fc_bytes.specs.Words.{bytes_at, u24_at}
 use Rattle.fc_checks.specs.Checks.{is_half_right}
 use Rattle.std.specs.Int.{is_in_range}
@@ -14,15 +14,11 @@ use Rattle.fc_oldmap.specs.declared.Hole.{Hole}
 use Rattle.fc_oldmap.specs.declared.OldMapFault.TheVariants.{Check, Bad}
 use Rattle.fc_oldmap.specs.OldMap.{OldMapContent, free_end, free_space, hole_fault, holes_of, is_free_end, map_units, old_map, stored_hole, stored_holes, wrong_hole}
 use Rattle.fc_oldmap.specs.Holes.{AreHoles, hole}
-use Rattle.fc_oldmap.proofs.ReadLemmas.{AreHoles-right}
+use Rattle.fc_oldmap.proofs.ReadLemmas.{AreHoles-right, holes_of-more as holes_step}
 use Rattle.fc_image.specs.declared.ImageFault.{ImageFault}
 use Rattle.fc_image.specs.declared.ImageFault.TheVariants as faults
 use Rattle.fc_image.specs.Layout.{Layout}
 use Rattle.fc_image.specs.Opening.{MapAndRoot, holes_or, old_layout}
-
-pub and_parts : (a b : Bool) → (a && b) ≡ true → (a ≡ true) × (b ≡ true)
-and_parts true b e = (refl, e)
-and_parts false b e = absurd (cc)
 
 -- ---- what reading answers
 
@@ -103,10 +99,6 @@ end_front image = get_or-take 512 image 510 0 (omega arith)
 
 hole_front : (image : List ℕ) (i : ℕ) → i < 82 → stored_hole (take 512 image) i ≡ stored_hole image i
 hole_front image i low = ap₂ (λ a b. hole a b) (u24_front image (3 * i) (omega arith)) (u24_front image (256 + 3 * i) (omega arith))
-
-holes_step : (bytes : List ℕ) (n : ℕ) → holes_of bytes (n + 1) ≡ holes_of bytes n ++ stored_hole bytes n ∷ []
-unfolding holes_of
-holes_step bytes n = map-range_with_len_more (stored_hole bytes) 0 n n (omega arith)
 
 holes_front : (image : List ℕ) (n : ℕ) → n ≤ 82 → holes_of (take 512 image) n ≡ holes_of image n
 unfolding holes_of

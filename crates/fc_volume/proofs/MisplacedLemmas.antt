@@ -4,7 +4,7 @@ use Rattle.std.specs.Prelude.{Option, Some, None, filter, nat_le, nat_lt, min, �
 use Rattle.std.specs.List.{list_any, range_with_len}
 use Rattle.std.specs.Ordering.{nat_cmp}
 use Rattle.std.specs.FinMap.{FinMap}
-use Rattle.std.proofs.lemmas.Bool.{eqb-true, eqb-false, eq-eqb, ne_eqb, leb-true, ltb-true, le-leb, lt-ltb, cases_lt}
+use Rattle.std.proofs.lemmas.Bool.{eqb-true, eqb-false, eq-eqb, ne_eqb, leb-true, ltb-true, le-leb, lt-ltb, cases_lt, or_cases, or_left, or_right, and_from as and_true, and_parts as and_first}
 use Rattle.std.proofs.lemmas.List.Folds.{list_any-append}
 use Rattle.std.proofs.lemmas.List.Sorted.{list_any-IsPermutation}
 use Rattle.std.proofs.lemmas.Nat.{mul-le, pow_pos}
@@ -29,6 +29,7 @@ use Rattle.fc_image.specs.Opening.{boot_place, is_hole_or_movable, least_of, lea
 use Rattle.fc_tree.specs.declared.node.Node.{Node}
 use Rattle.fc_tree.specs.Parts.{AreOwners, owner_of}
 use Rattle.fc_volume.specs.Misplaced.{IsLeast, is_in_loose, is_in_some_loose, is_loose, lies_in}
+use Rattle.fc_image.proofs.CommandLemmas.{both_ways as both}
 
 -- ---- sizes
 
@@ -58,17 +59,6 @@ sector_least g is = by (geometry_facts g is).size
 pub IsLeast-same : (p q : ℕ → Bool) (o : Option ℕ) → ((s : ℕ) → p s ≡ q s) → IsLeast p o → IsLeast q o
 IsLeast-same p q None same is = λ s. sym (same s) ∙ is s
 IsLeast-same p q (Some n) same is = (sym (same n) ∙ is.0, λ s e. is.1 s (same s ∙ e))
-
-or_cases : (a b : Bool) → (a || b) ≡ true → (a ≡ true) ⊎ (b ≡ true)
-or_cases true b e = inl refl
-or_cases false b e = inr e
-
-or_left : (a b : Bool) → a ≡ true → (a || b) ≡ true
-or_left a b e = rw e refl
-
-or_right : (a b : Bool) → b ≡ true → (a || b) ≡ true
-or_right true b e = refl
-or_right false b e = e
 
 pub least_is : (xs : List ℕ) (o : Option ℕ) → IsLeast (is_among xs) o → least_of xs ≡ o
 least_is xs o is = unique (least_of xs) o (found xs) is
@@ -118,18 +108,6 @@ range_among from (suc n) s e = elim (or_cases (from == s) (is_among (range_with_
   | inl here ↦ (let same = eqb-true from s here in (omega arith, omega arith))
   | inr later ↦ (let rest = range_among (from + 1) n s later in (omega (arith, rest.0), omega (arith, rest.1)))
 ]
-
-both : (a b : Bool) → (a ≡ true → b ≡ true) → (b ≡ true → a ≡ true) → a ≡ b
-both true b to from = sym (to refl)
-both false true to from = from refl
-both false false to from = refl
-
-and_true : (a b : Bool) → a ≡ true → b ≡ true → (a && b) ≡ true
-and_true a b e f = rw (e, f) refl
-
-and_first : (a b : Bool) → (a && b) ≡ true → (a ≡ true) × (b ≡ true)
-and_first true b e = (refl, e)
-and_first false b e = absurd (cc)
 
 pub row_among : (e : Extent) (s : ℕ) → is_among (extent_sectors e) s ≡ lies_in e s
 row_among e s = both _ _

@@ -34,6 +34,7 @@ use Rattle.fc_volume.specs.declared.lines.MountError.{MountError}
 use Rattle.fc_volume.specs.Answers.{IsFaultOf}
 use Rattle.fc_volume.specs.Mounting.{AreMounted, opened_with}
 use Rattle.fc_volume.specs.Volume.{OnlyShapes}
+use Rattle.fc_image.proofs.WalkLemmas.{not_below as not_short}
 
 -- ---- two things that are so of an answer
 
@@ -66,10 +67,6 @@ is_short law image need have is =
     as_kind image kind is.1 ∙ too_short image kind fits short
     ∙ ap (λ n. let r : Result Opened ImageFault = Err (faults.Short n (length image)) in r) (sym is.2)
     ∙ ap (λ n. let r : Result Opened ImageFault = Err (faults.Short need n) in r) (sym is.3)
-
-pub not_short : (b : Bool) (m n : ℕ) → nat_lt m n ≡ b → n ≤ m → b ≡ false
-not_short false m n e long = refl
-not_short true m n e long = absurd (let lt = ltb-true m n e in omega arith)
 
 long_enough : (image : List ℕ) (kind : Kind) → fits_kind image kind ≡ true → disc_size kind ≤ length image → open_as image kind ≡ open_parts image kind
 unfolding open_as

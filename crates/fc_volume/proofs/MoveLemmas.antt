@@ -33,7 +33,6 @@ use Rattle.fc_placing.proofs.LeavingLemmas.{owner_is}
 use Rattle.fc_laws.specs.takeover.Laws.{TakesOver}
 use Rattle.fc_laws.specs.takeover.Places.{MayBeWritten, OpensBy}
 use Rattle.fc_laws.specs.takeover.Steps.{IsMovedInSteps}
-use Rattle.fc_tree.proofs.MemberLemmas.{contains_later}
 use Rattle.fc_laws.specs.nodes.Owning.{OwningLaw}
 use Rattle.fc_volume.specs.Changing.{WritesPlaces}
 use Rattle.fc_image.specs.EditedWalk.{moved_object}
@@ -61,20 +60,15 @@ use Rattle.fc_volume.specs.Moving.{IsMoveReady, held_by}
 use Rattle.fc_volume.proofs.AcrossLemmas as across
 use Rattle.fc_volume.proofs.AcrossLemmas.{AreBothReady}
 use Rattle.fc_volume.proofs.RenameLemmas.{IsLongOwn, IsOwnWritten, can_say, moved_at, named_in, own_written, second_true, turned_round}
-use Rattle.fc_volume.proofs.RewriteLemmas.{says_it, size_of_form}
+use Rattle.fc_volume.proofs.RewriteLemmas.{size_of_form}
 use Rattle.fc_volume.proofs.TurnedLemmas.{Turns, now_of, sectors_turned, turns, with_turned}
 use Rattle.fc_volume.proofs.TargetLemmas as target_of
 use Rattle.fc_volume.proofs.RoomyLemmas.{HasRoomFor}
+use Rattle.fc_image.proofs.EntriesLemmas.{later as contains_later}
+use Rattle.fc_volume.proofs.DeleteLemmas.{found_there}
+use Rattle.fc_laws.proofs.lemmas.agree.SayLemmas.{as_directory as says_it}
 
 -- ---- owners
-
-found_there : (t : Owner → Bool) (xs : List Owner) (x : Owner) → find t xs ≡ Some x → Contains xs x × (t x ≡ true)
-found_there t [] x e = absurd (cc)
-found_there t (y ∷ xs) x e = by (t y) refl e (found_there t xs x)
-  where
-    by : (b : Bool) → t y ≡ b → cond b (Some y) (find t xs) ≡ Some x → (find t xs ≡ Some x → Contains xs x × (t x ≡ true)) → Contains (y ∷ xs) x × (t x ≡ true)
-    by true h f more = let same = same_some y x f in subst (λ (z : Owner). Contains (y ∷ xs) z × (t z ≡ true)) same (first_in y xs, h)
-    by false h f more = let r = more f in (next_in y x xs r.0, r.1)
 
 -- an owner that has moved is one of the list
 pub has_owner : (n dir : ℕ) (owners : List Owner) (x : Option Owner) → find (is_node n) owners ≡ x → HasOwner owners (option_map (held_by dir) x)

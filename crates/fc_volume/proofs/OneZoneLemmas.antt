@@ -17,14 +17,11 @@ use Rattle.fc_copies.specs.declared.Which.{Which}
 use Rattle.fc_copies.specs.declared.Which.TheVariants.{One, Two}
 use Rattle.fc_copies.specs.Copies.{chosen, copy_of, is_check_right, is_sound}
 use Rattle.fc_volume.specs.declared.maps.CopyRead.{CopyRead}
+use Rattle.fc_record.proofs.KindLemmas.{and_first}
 
 -- a sector's own checks
 abbrev pub is_right : List ℕ → Bool
 is_right sector = is_check_right sector && (slice_index sector 3 == 255)
-
-and_first : (a b : Bool) → (a && b) ≡ true → a ≡ true
-and_first true b e = refl
-and_first false b e = absurd (cc)
 
 whole_right : (sector : List ℕ) → is_whole_map sector ≡ true → is_right sector ≡ true
 whole_right sector e =

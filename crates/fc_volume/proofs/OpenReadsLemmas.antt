@@ -11,7 +11,7 @@ use Rattle.fc_image.specs.Opening.{MapAndRoot, map_and_root, reserved_in}
 use Rattle.fc_image.specs.Walk.{reader_of}
 use Rattle.fc_tree.specs.Reads.{unless_fault, walk_sectors}
 use Rattle.fc_volume.specs.Calls.{chosen_reads, copies_reads, open_reads, parts_reads, walk_reads}
-use Rattle.fc_volume.proofs.MountLemmas.{not_short}
+use Rattle.fc_image.proofs.WalkLemmas.{not_below as not_short}
 
 -- copy 2 is read only if copy 1 doesn't count
 pub chosen_most : (c : Result Which (ℕ × ℕ)) (zones old now : ℕ) → now ≤ old + 2 * zones → (c ≡ Ok One → now ≤ old + zones) → now ≤ old + chosen_reads c zones

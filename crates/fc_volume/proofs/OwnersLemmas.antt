@@ -31,12 +31,13 @@ use Rattle.fc_tree.specs.Nodes.{Numbers, bound_of, nodes_of, number_of, numbered
 use Rattle.fc_tree.specs.Parts.{AreOwners, owner_of}
 use Rattle.fc_tree.specs.Slots.{slot_at}
 use Rattle.fc_tree.proofs.SlotLemmas.{entries-nodes_of, get-nodes_of}
-use Rattle.fc_tree.proofs.WalkedLemmas.{contained, element_at}
+use Rattle.fc_tree.proofs.WalkedLemmas.{contained}
 use Rattle.fc_volume.specs.Owners.{node_owner, owner_at, owners_below}
+use Rattle.fc_tree.proofs.StepLemmas.{get_there as element_at}
 
 -- ---- sectors of objects
 
-part_long : (n : ℕ) (xs ys : List ℕ) → first_part n xs ≡ Some ys → length ys ≡ n
+pub part_long : (n : ℕ) (xs ys : List ℕ) → first_part n xs ≡ Some ys → length ys ≡ n
 part_long n xs ys e = by (nat_le n (length xs)) refl e
   where
     by : (b : Bool) → nat_le n (length xs) ≡ b → cond b (Some (take n xs)) None ≡ Some ys → length ys ≡ n

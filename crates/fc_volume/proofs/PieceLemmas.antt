@@ -26,18 +26,16 @@ use Rattle.fc_tree.specs.Agree.{Agree, reader_of_nodes}
 use Rattle.fc_image.specs.Sound.{AreSound}
 use Rattle.fc_tree.proofs.FindLemmas.{object_of_number}
 use Rattle.fc_tree.proofs.LengthLemmas.{first_among, sector_long}
-use Rattle.fc_tree.proofs.WalkedLemmas.{apart_names, same_some}
+use Rattle.fc_tree.proofs.WalkedLemmas.{same_some}
 use Rattle.fc_volume.specs.declared.lines.FileRef.{FileRef}
 use Rattle.fc_volume.specs.Answers.{IsPlace, IsRef, file_bytes, ref_bytes}
 use Rattle.fc_volume.specs.Volume.{Volume, parts_of}
 use Rattle.fc_volume.proofs.BlockLemmas.{piece_of}
 use Rattle.fc_volume.proofs.ReadingLemmas.{each_at, file_sectors}
+use Rattle.fc_tree.proofs.EndLemmas.{no_twin as apart_names}
+use Rattle.fc_tree.proofs.ReadingLemmas.{all_on_disk as all_low}
 
 -- ---- places
-
-pub all_low : (n : ℕ) (xs : List ℕ) → ((s : ℕ) → is_among xs s ≡ true → s < n) → All (λ s. s < n) xs
-all_low n [] low = All-nil (λ s. s < n)
-all_low n (x ∷ xs) low = All-cons (λ s. s < n) x xs (low x (first_among x xs)) (all_low n xs (λ s e. low s (in_back (x ∷ []) xs s e)))
 
 -- the node that a reference names
 pub named_node : (v : Volume) (f : FileRef) (node : Node) → IsRef v f → get (nodes_of v.tree) f.node ≡ Some node → (is_directory node.entry.attrs ≡ false) × (f.len ≡ node.entry.len)

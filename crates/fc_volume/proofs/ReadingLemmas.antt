@@ -29,7 +29,7 @@ use Rattle.fc_tree.specs.Parts.{ArePartsOf}
 use Rattle.fc_tree.specs.Laws.{AreAlike}
 use Rattle.fc_image.specs.Sound.{AreSound}
 use Rattle.fc_tree.proofs.FindLemmas.{find_law}
-use Rattle.fc_tree.proofs.MemberLemmas.{contains_cases, contains_here, contains_later, from_map, no_element}
+use Rattle.fc_tree.proofs.MemberLemmas.{contains_here, from_map, no_element}
 use Rattle.fc_tree.proofs.SoundLemmas.{listing_of, root_or_child}
 use Rattle.fc_tree.proofs.TreeLemmas.{node_of_object}
 use Rattle.fc_tree.proofs.WalkedLemmas.{directories_listed, follows_each, given, listed_directory, listing_found, place_of, root, same_some, sound_law}
@@ -39,6 +39,8 @@ use Rattle.fc_volume.specs.declared.lines.FileRef.{FileRef}
 use Rattle.fc_volume.specs.Answers.{IsRefusalOf, file_bytes, ref_bytes}
 use Rattle.fc_volume.specs.Volume.{Volume, parts_of}
 use Rattle.fc_volume.specs.Reading.{entries_at, entries_from, entries_in, entries_in_body, file_at, file_from, file_of, number_found}
+use Rattle.fc_image.proofs.EntriesLemmas.{later as contains_later, cases as contains_cases}
+use Rattle.fc_refusals.proofs.NodeLemmas.{body_test}
 
 -- ---- where a path leads
 
@@ -150,16 +152,9 @@ file_object image layout o at file =
     ap₂ (λ (sectors : List ℕ) (n : ℕ). bytes_in (sector_bytes layout) image sectors n)
     (ap (λ (s : Option (List ℕ)). unwrap_or s []) (file_sectors layout o at file)) (sym (size_of layout o file))
 
-body_test : (image : List ℕ) (layout : Layout) (o : Object) (b : Bool) → is_directory_object o ≡ b → is_directory_body (node_of image layout o).body ≡ b
-body_test image layout o true e = ap (λ (c : Bool). is_directory_body (if c then ModelBody.Directory else ModelBody.File (object_bytes image layout o))) e
-body_test image layout o false e = ap (λ (c : Bool). is_directory_body (if c then ModelBody.Directory else ModelBody.File (object_bytes image layout o))) e
-
 entries_body : (dir : Directory) → entries_in_body (body_in dir) ≡ Ok (entries_of dir)
 entries_body (Directory.Small dir) = refl
 entries_body (Directory.Big dir) = refl
-
-entries_are : (entries others : List Entry) → (let r : Result (List Entry) CommandError = Ok entries in r) ≡ Ok others → entries ≡ others
-entries_are entries others e = cc
 
 kept : (t : Object → Bool) (xs : List Object) (o : Object) → Contains xs o → t o ≡ true → Contains (filter t xs) o
 kept t [] o at e = absurd (no_element o at)

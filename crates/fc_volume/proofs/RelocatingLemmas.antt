@@ -21,6 +21,7 @@ use Rattle.fc_volume.specs.declared.changes.relocate.Relocation.{Relocation}
 use Rattle.fc_volume.specs.Relocating.{AreFilled, AreMoreFilled, HasMore, IsRelocationWritten, with_more}
 use Rattle.fc_volume.specs.Rewrites.{IsRepairedAndWritten}
 use Rattle.fc_volume.proofs.TakingLemmas.{some_stays}
+use Rattle.std.proofs.lemmas.Bool.{or_parts as or_false}
 
 -- ---- what is written
 
@@ -38,10 +39,6 @@ filled d m sectors bytes (Ok value) keeps back = λ was told image now.
   where
     one_image : (a b : List ℕ) → (let x : Option (List ℕ) = Some a in x) ≡ Some b → a ≡ b
     one_image a b e = cc
-
-or_false : (a b : Bool) → (a || b) ≡ false → (a ≡ false) × (b ≡ false)
-or_false true b e = absurd (cc)
-or_false false b e = (refl, e)
 
 -- not to the first, nor to the others
 pub apart_from : (xs ys : List ℕ) (s : ℕ) → is_among (xs ++ ys) s ≡ false → (is_among xs s ≡ false) × (is_among ys s ≡ false)

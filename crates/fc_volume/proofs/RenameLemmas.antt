@@ -33,15 +33,14 @@ use Rattle.fc_image.specs.Report.{holder_address}
 use Rattle.fc_image.specs.Sound.{AreSound}
 use Rattle.fc_image.specs.Stays.{HasSectorsOf, OpensAs}
 use Rattle.fc_image.specs.Walk.{Listing, Object, is_directory_object, object_bytes, object_size}
-use Rattle.fc_image.proofs.PathsLemmas.{cut, itself, same_last, unless}
+use Rattle.fc_image.proofs.PathsLemmas.{cut, itself, same_last}
 use Rattle.fc_objects.specs.Extents.{sectors_in}
 use Rattle.fc_tree.specs.declared.node.Node.{Node}
 use Rattle.fc_tree.specs.Agree.{Agree, HasForm, IsDirectory}
 use Rattle.fc_tree.specs.Counts.{address_in}
 use Rattle.fc_tree.specs.Nodes.{HoldObjects, body_in}
 use Rattle.fc_tree.specs.Parts.{AreOwners, Parts}
-use Rattle.fc_tree.proofs.SoundLemmas.{folds_alike, same_by_folds}
-use Rattle.fc_tree.proofs.MemberLemmas.{contains_later}
+use Rattle.fc_tree.proofs.SoundLemmas.{folds_alike}
 use Rattle.fc_tree.proofs.WalkedLemmas.{child_is_object, child_path, contained, find_only, holder-push, listed_directory, listing_found, one_listing, one_object, place_of, same_some}
 use Rattle.fc_laws.specs.nodes.Edits.{IsRenamed, Nodes, NodesFollow, OwnersFollow, as_moved, relisted, with_body, with_entry, with_own_body}
 use Rattle.fc_changes.specs.Owed.{IsWritten}
@@ -57,18 +56,18 @@ use Rattle.fc_volume.specs.RenameLaws.{RenameLaws}
 use Rattle.fc_volume.specs.Changing.{WritesPlaces}
 use Rattle.fc_volume.specs.Relocating.{AreMoreFilled, IsRelocationWritten, more_sectors, relocated, sectors_of_relocation, with_more}
 use Rattle.fc_volume.specs.Renaming.{IsRenameReady, IsTurned}
-use Rattle.fc_volume.proofs.RewriteLemmas.{says_it, size_of_form}
+use Rattle.fc_volume.proofs.RewriteLemmas.{size_of_form}
 use Rattle.fc_volume.proofs.SettingLemmas.{one_content}
 use Rattle.fc_volume.proofs.TurnedLemmas.{Turns, fills, moved_form, now_of, sectors_turned, turns, with_turned}
 use Rattle.fc_volume.proofs.RespelledLemmas.{HasRoomForOther, entries_renamed, form_renamed, other_kept, size_renamed}
 use Rattle.fc_volume.proofs.TargetLemmas as target_of
+use Rattle.std.proofs.lemmas.Bool.{false_from_ne_true as unless}
+use Rattle.fc_image.proofs.EntriesLemmas.{later as contains_later}
+use Rattle.fc_image.proofs.CommandLemmas.{same_by_folds}
+use Rattle.fc_image.proofs.RenameLemmas.{last_pushed}
+use Rattle.fc_laws.proofs.lemmas.agree.SayLemmas.{as_directory as says_it}
 
 -- ---- paths
-
-pub last_pushed : (front : Path) (last : List ℕ) → last_name (front ++ last ∷ []) ≡ last
-last_pushed [] last = refl
-last_pushed (x ∷ []) last = refl
-last_pushed (x ∷ y ∷ front) last = last_pushed (y ∷ front) last
 
 -- a path lies in the directory where its holder's path leads
 pub named_in : (path place : Path) → 0 < length path → is_same_path (holder path) place ≡ true → is_same_path path (place ++ last_name path ∷ []) ≡ true

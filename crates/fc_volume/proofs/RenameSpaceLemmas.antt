@@ -18,11 +18,9 @@ use Rattle.fc_image.specs.Opening.{Opened}
 use Rattle.fc_image.specs.Walk.{Listing, Object, is_directory_object}
 use Rattle.fc_image.specs.effects.Sharing.{new_ids, units}
 use Rattle.fc_image.specs.effects.Short.{Gain, Growth, gain_at, gain_by_new_name, gain_by_rename, gain_in, gain_of, growth_in, growth_of, growth_with, is_copied, is_full_with, is_sharing, moved_growth, needed_bits, needed_ids, new_length, short, space_reasons}
+use Rattle.fc_volume.proofs.JudgedLemmas.{none_below}
 
 -- ---- no space
-
-none_below : (n : ℕ) → nat_lt n 0 ≡ false
-none_below n = grind (arith, nat_tests)
 
 -- nothing is refused for want of space on a new map
 no_reasons : (v : Opened) (m : Map) (from to : Path) → growth_in v (Command.Rename from to) ≡ None → new_length v (Command.Rename from to) ≡ 0 → v.layout ≡ Layout.New m

@@ -1,7 +1,7 @@
 -- `rename` within a directory, of a volume: what is asked before the writing.
 use Rattle.std.proofs.Common.{◌≡◌, ◌<◌, ◌==◌, cond, ◌++◌, ◌∷◌, [], ℕ, Bool, true, false, not, map, List, length, slice_get, Option, Some, None, refl, sym, ap, ap₂, subst, ◌∙◌, arith, find}
 use Rattle.std.specs.Prelude.{All, Contains, IsSome, filter, is_some, nat_le, option_map, if◌then◌else◌}
-use Rattle.std.proofs.lemmas.Bool.{leb-true}
+use Rattle.std.proofs.lemmas.Bool.{leb-true, false_from_ne_true as unless}
 use Rattle.std.specs.Option.{ForSome, option_and_then, option_map_or}
 use Rattle.std.specs.Str.{bytes_eq}
 use Rattle.std.specs.FinMap.{get}
@@ -16,7 +16,6 @@ use Rattle.fc_newmap.specs.Map.{Map}
 use Rattle.fc_newmap.specs.NewMap.{IsNewMap}
 use Rattle.fc_alloc.specs.declared.owner.Owner.{Owner}
 use Rattle.fc_alloc.specs.Owners.{HaveOwnNodes, is_node}
-use Rattle.fc_image.proofs.PathsLemmas.{unless}
 use Rattle.fc_placing.specs.Copying.{SaysCopied}
 use Rattle.fc_placing.specs.Places.{FitsDirectory}
 use Rattle.fc_model.specs.Command.{Command}
@@ -58,7 +57,6 @@ use Rattle.fc_volume.specs.Renaming.{CanRename, CanTurn, IsAccepted, IsRenameRea
 use Rattle.fc_volume.specs.Moving.{CanMove, IsMoveReady, SaysFull}
 use Rattle.fc_volume.specs.Rewrites.{HoldsEntry}
 use Rattle.fc_volume.specs.Volume.{StandsFor, Volume, parts_of}
-use Rattle.fc_volume.proofs.PieceLemmas.{all_low}
 use Rattle.fc_volume.proofs.ReadingLemmas.{each_at}
 use Rattle.fc_model.specs.Answer.{first_of, reasons, when}
 use Rattle.fc_drafts.proofs.SizeLemmas.{small_full, small_renamed_fits}
@@ -78,6 +76,7 @@ use Rattle.fc_volume.proofs.TargetLemmas as target_of
 use Rattle.fc_volume.proofs.CdirHeldLemmas.{by_form}
 use Rattle.fc_drafts.specs.Gains.{GetsName, GetsNameFor}
 use Rattle.fc_volume.specs.Roomy.{IsRoomy}
+use Rattle.fc_tree.proofs.ReadingLemmas.{all_on_disk as all_low}
 
 -- ---- want of room
 
@@ -89,7 +88,7 @@ ten_of m s len has = by (m.geometry.version == 0) has
     by true h = h
     by false h = absurd h
 
-full_short : (v : Opened) (from to : Path) → option_map_or (λ (gain : Gain). is_full_with gain.listing.content gain) (gain_in v (Command.Rename from to)) false ≡ true
+pub full_short : (v : Opened) (from to : Path) → option_map_or (λ (gain : Gain). is_full_with gain.listing.content gain) (gain_in v (Command.Rename from to)) false ≡ true
     → short v (Command.Rename from to) ≡ Some refusals.DirFull
 unfolding short
 full_short v from to room = ap (λ (b : Bool). first_of (when b refusals.DirFull ∷ space_reasons v.layout v (Command.Rename from to))) room

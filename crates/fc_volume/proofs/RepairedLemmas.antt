@@ -26,6 +26,7 @@ use Rattle.fc_compact.specs.Compacting.{ChangesLoose}
 use Rattle.fc_volume.specs.Compacting.{CanCompact, KeepsDisc, KeepsMap}
 use Rattle.fc_volume.specs.Volume.{CountsAs, HasCopies}
 use Rattle.fc_volume.specs.declared.copies.Copies.{Copies}
+use Rattle.fc_copies.proofs.CommitLemmas.{same_frame}
 
 -- ---- disks
 
@@ -39,9 +40,6 @@ keeps_told {d = d} law {Q = Q} {old = old} keeps less = record {
 }
 
 -- ---- copies
-
-same_frame : (g : Geometry) (image : List ℕ) → ChangesCopies g image image
-same_frame g image = record { same_length = refl; outside = λ s out. refl }
 
 -- equal copies are kept as they are
 pub equal_kept : (m : Map) (image : List ℕ) → HoldsCopies m.geometry m.zones image → KeepsMap m image image

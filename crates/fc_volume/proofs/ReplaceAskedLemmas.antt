@@ -57,7 +57,6 @@ use Rattle.fc_volume.specs.Volume.{StandsFor, Volume, parts_of}
 use Rattle.fc_volume.proofs.CdirAskedLemmas.{first_none}
 use Rattle.fc_volume.proofs.CdirHeldLemmas.{hole_apart, hole_on_disc}
 use Rattle.fc_volume.proofs.FilePlaceLemmas.{there_apart}
-use Rattle.fc_volume.proofs.PieceLemmas.{all_low}
 use Rattle.fc_volume.proofs.ReplaceLemmas.{IsOver, fits, no_gain, wants}
 use Rattle.fc_volume.proofs.ReplaceLemmas as over
 use Rattle.fc_volume.proofs.RenameLemmas.{object_as}
@@ -66,6 +65,7 @@ use Rattle.fc_volume.proofs.SettingLemmas.{one_content}
 use Rattle.fc_volume.proofs.SetVolumeLemmas.{HasMap}
 use Rattle.fc_volume.proofs.TargetLemmas.{holds_entry}
 use Rattle.fc_volume.proofs.TargetLemmas as target_of
+use Rattle.fc_tree.proofs.ReadingLemmas.{all_on_disk as all_low}
 
 -- `w` is the same volume as `v`, by its parts.
 module _ (laws : ReplaceLaws) (w v : Volume) (same : w ≡ v) (m : Map) (layout : layout_of v.space ≡ Layout.New m) (maps : HasMap w) (path : Path) (t : Target) (words : FileWords)

@@ -10,16 +10,6 @@ use Rattle.fc_laws.specs.nodes.Edits.{OwnersEdited}
 use Rattle.fc_laws.specs.nodes.Owning.{OwningLaw}
 use Rattle.fc_volume.specs.Replacing.{HasOwnerNow, owners_with_room}
 
--- none is of the node
-none_changed : (new : Owner) (owners : List Owner) → has_node owners new.node ≡ false → with_changed new owners ≡ owners
-none_changed new [] none = refl
-none_changed new (p ∷ owners) none = by (p.node == new.node) refl none (none_changed new owners)
-  where
-    by : (b : Bool) → (p.node == new.node) ≡ b → (b || has_node owners new.node) ≡ false → (has_node owners new.node ≡ false → with_changed new owners ≡ owners)
-        → with_changed new (p ∷ owners) ≡ p ∷ owners
-    by true e f more = absurd (cc)
-    by false e f more = ap (λ (c : Bool). cond c new p ∷ with_changed new owners) e ∙ ap (λ (os : List Owner). p ∷ os) (more f)
-
 -- only the last is
 last_changed : (new : Owner) (owners : List Owner) → has_node owners new.node ≡ false → with_changed new (owners ++ new ∷ []) ≡ owners ++ new ∷ []
 last_changed new [] none = ap (λ (x : Owner). x ∷ []) (either (new.node == new.node))

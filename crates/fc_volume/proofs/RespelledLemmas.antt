@@ -32,6 +32,8 @@ use Rattle.fc_image.specs.Opening.{Opened}
 use Rattle.fc_image.specs.Walk.{Listing, Object}
 use Rattle.fc_tree.specs.Agree.{HasForm, IsDirectory}
 use Rattle.fc_volume.proofs.RoomyLemmas.{still_roomy}
+use Rattle.fc_zone.proofs.ReadingLemmas.{first_part as both_first}
+use Rattle.fc_record.proofs.KindLemmas.{and_second as both_second}
 
 -- ---- growth
 
@@ -80,14 +82,6 @@ module _ (v : Opened) (from to : Path) (l : Listing) (o : Object) (there : objec
 no_test : (b : Bool) (growth : Growth) → cond b (Some growth) None ≡ None → b ≡ false
 no_test true growth e = absurd (cc)
 no_test false growth e = refl
-
-both_first : (a b : Bool) → (a && b) ≡ true → a ≡ true
-both_first true b e = refl
-both_first false b e = e
-
-both_second : (a b : Bool) → (a && b) ≡ true → b ≡ true
-both_second true b e = e
-both_second false b e = absurd (cc)
 
 pub big_not_full : (dir : BigDir) (o : Object) (gain : Gain) → IsBig dir → growth_with o (Directory.Big dir) gain ≡ None → is_full_with (Directory.Big dir) gain ≡ false
 big_not_full dir o gain big none =

@@ -38,6 +38,7 @@ use Rattle.fc_volume.specs.ChangeLaws.{ChangeLaws}
 use Rattle.fc_volume.specs.Rewrites.{IsRepairedAndWritten}
 use Rattle.fc_volume.proofs.SettingLemmas.{one_content}
 use Rattle.fc_volume.proofs.TargetLemmas as target_of
+use Rattle.fc_laws.proofs.lemmas.agree.SayLemmas.{as_directory as says_it}
 
 -- ---- directories
 
@@ -52,10 +53,6 @@ size_of_form form e dir has is = by form dir has ∙ ap (λ (b : Bool). cond b (
     by forms.Seven (Directory.Big d) h = absurd h
     by forms.Ten (Directory.Big d) h = absurd h
     by forms.Long (Directory.Big d) h = h
-
-pub says_it : (dir : Directory) → IsSayable dir → IsDirectory dir
-says_it (Directory.Small dir) is = is
-says_it (Directory.Big dir) is = is
 
 -- ---- the node of a listed directory, however it was found
 

@@ -42,7 +42,6 @@ use Rattle.fc_volume.specs.Saving.{CanPutIn, IsFileAccepted}
 use Rattle.fc_volume.specs.Volume.{StandsFor, Volume, parts_of}
 use Rattle.fc_volume.proofs.CdirAskedLemmas.{first_none}
 use Rattle.fc_volume.proofs.CdirHeldLemmas.{gain, hole_on_disc, unowned}
-use Rattle.fc_volume.proofs.PieceLemmas.{all_low}
 use Rattle.fc_volume.proofs.RoomyLemmas.{HasRoomFor, room_found}
 use Rattle.fc_volume.proofs.SaveGainLemmas.{gains, holder_number, wants}
 use Rattle.fc_volume.proofs.SaveLemmas.{IsReady, can_file, place_is}
@@ -50,6 +49,7 @@ use Rattle.fc_volume.proofs.SaveSpaceLemmas.{address_fits}
 use Rattle.fc_volume.proofs.SettingLemmas.{one_content}
 use Rattle.fc_volume.proofs.SetVolumeLemmas.{HasMap}
 use Rattle.fc_volume.proofs.TargetLemmas as target_of
+use Rattle.fc_tree.proofs.ReadingLemmas.{all_on_disk as all_low}
 
 -- `w` is the same volume as `v`, by its parts.
 module _ (laws : SaveLaws) (w v : Volume) (same : w ≡ v) (m : Map) (layout : layout_of v.space ≡ Layout.New m) (maps : HasMap w) (path : Path) (dir : ℕ) (words : FileWords)

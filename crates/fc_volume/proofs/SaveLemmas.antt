@@ -74,10 +74,7 @@ use Rattle.fc_volume.proofs.SaveSpaceLemmas.{none_changed}
 use Rattle.fc_volume.proofs.SavingLemmas.{of_both}
 use Rattle.fc_volume.proofs.SettingLemmas.{one_content}
 use Rattle.fc_volume.proofs.TargetLemmas as target_of
-
-says_it : (dir : Directory) → IsSayable dir → IsDirectory dir
-says_it (Directory.Small dir) is = is
-says_it (Directory.Big dir) is = is
+use Rattle.fc_laws.proofs.lemmas.agree.SayLemmas.{as_directory as says_it}
 
 -- ---- what is ready
 

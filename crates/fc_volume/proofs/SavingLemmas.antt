@@ -24,7 +24,7 @@ use Rattle.fc_volume.specs.Changing.{refusal_in}
 use Rattle.fc_volume.specs.Roomy.{IsRoomyFor}
 use Rattle.fc_volume.specs.Saving.{IsFileAccepted}
 use Rattle.fc_volume.specs.Volume.{Volume, parts_of}
-use Rattle.fc_volume.proofs.CdirAskedLemmas.{first_some}
+use Rattle.fc_volume.proofs.AcceptedLemmas.{first_some}
 
 -- ---- the two commands
 

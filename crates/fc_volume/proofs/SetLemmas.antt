@@ -41,9 +41,10 @@ use Rattle.fc_volume.specs.ChangeLaws.{ChangeLaws}
 use Rattle.fc_volume.specs.Changing.{WritesPlaces}
 use Rattle.fc_volume.specs.Rewrites.{IsRepairedAndWritten}
 use Rattle.fc_volume.specs.Setting.{IsSetReady}
-use Rattle.fc_volume.proofs.RewriteLemmas.{IsDirectoryBytes, says_it, size_of_form}
+use Rattle.fc_volume.proofs.RewriteLemmas.{IsDirectoryBytes, size_of_form}
 use Rattle.fc_volume.proofs.RewriteLemmas as rewrite
 use Rattle.fc_volume.proofs.TargetLemmas as target_of
+use Rattle.fc_laws.proofs.lemmas.agree.SayLemmas.{as_directory as says_it}
 
 -- ---- directories
 
@@ -66,7 +67,7 @@ entries_now parent at e old new is = ap entries_of is.is ∙ by old
     by (Directory.Small dir) = refl
     by (Directory.Big dir) = refl
 
-set_own : (path : Path) (load exec access : ℕ) (o : Object) → is_same_path path o.path ≡ true → (set_object path load exec access o).entry ≡ set_entry o.entry load exec access
+pub set_own : (path : Path) (load exec access : ℕ) (o : Object) → is_same_path path o.path ≡ true → (set_object path load exec access o).entry ≡ set_entry o.entry load exec access
 set_own path load exec access o same =
     ap (λ (b : Bool). (cond b (record o { entry = set_entry o.entry load exec access }) o).entry) same
 

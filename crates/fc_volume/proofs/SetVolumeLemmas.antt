@@ -39,12 +39,9 @@ use Rattle.fc_laws.specs.agree.Agreed.{AgreeOn}
 use Rattle.fc_refusals.specs.Targets.{IsTarget}
 use Rattle.fc_volume.specs.Rewrites.{HoldsEntry}
 use Rattle.fc_volume.specs.Setting.{IsSetReady}
-use Rattle.fc_volume.proofs.PieceLemmas.{all_low}
 use Rattle.fc_volume.proofs.TargetLemmas.{holds_entry}
 use Rattle.fc_volume.proofs.SetLemmas.{IsReady, agrees, long, takes_over, writes_places}
-
-some_same : (a b : List ℕ) → (let x : Rattle.std.specs.Prelude.Option (List ℕ) = Some a in x) ≡ Some b → a ≡ b
-some_same a b e = cc
+use Rattle.fc_tree.proofs.ReadingLemmas.{all_on_disk as all_low}
 
 module _ {D : Type 0} (d : Ghosts D) (laws : ChangeLaws) (m : Map) (v v' : Volume) (old new : D) (path : Path) (load exec access : ℕ) (t : Target) (r : Rewording)
     (layout : layout_of v.space ≡ Layout.New m) (is : IsReady m (nodes_of v.tree) path load exec access t r) (stands : StandsFor d v old) where

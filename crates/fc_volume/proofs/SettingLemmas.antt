@@ -12,8 +12,9 @@ use Rattle.fc_drafts.proofs.FindLemmas.{held}
 use Rattle.fc_image.specs.Layout.{Layout}
 use Rattle.fc_tree.specs.declared.node.Node.{Node}
 use Rattle.fc_tree.specs.Nodes.{body_in}
-use Rattle.fc_tree.proofs.WalkedLemmas.{element_at, same_some}
+use Rattle.fc_tree.proofs.WalkedLemmas.{same_some}
 use Rattle.fc_volume.specs.Rewrites.{HoldsEntry}
+use Rattle.fc_tree.proofs.StepLemmas.{get_there as element_at}
 
 -- a body says one directory
 pub one_content : (a b : Directory) → body_in a ≡ body_in b → a ≡ b

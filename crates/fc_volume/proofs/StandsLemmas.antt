@@ -30,6 +30,7 @@ use Rattle.fc_volume.specs.Compacting.{CanCompact, CompactsParts, IsDone, KeepsD
 use Rattle.fc_volume.specs.Volume.{HasCopies, HoldsMap, StandsFor, Volume, parts_of}
 use Rattle.fc_volume.proofs.AgreeLemmas.{agree_after, own_same, parts_after}
 use Rattle.fc_volume.proofs.CompactedLemmas.{compacts, new_kind}
+use Rattle.fc_objects.proofs.CopyLemmas.{one_told as some_same}
 
 -- ---- before
 
@@ -55,9 +56,6 @@ can_compact d v disk m stands layout image told =
     }
 
 -- ---- after
-
-some_same : (a b : List ℕ) → (let x : Option (List ℕ) = Some a in x) ≡ Some b → a ≡ b
-some_same a b e = cc
 
 module _ {D : Type 0} {d : Ghosts D} (law : ByOwnersLaw) (one_map : SameMapLaw) (v v' : Volume) (old new : D) (m m' : Map) (stands : StandsFor d v old)
     (layout : layout_of v.space ≡ Layout.New m) (layout' : layout_of v'.space ≡ Layout.New m') (tree : v'.tree ≡ v.tree) (owners : v'.owners ≡ v.owners) (copies : v'.copies ≡ Equal)

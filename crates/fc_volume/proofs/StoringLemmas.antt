@@ -18,10 +18,9 @@ use Rattle.fc_volume.specs.Compacting.{KeepsMap}
 use Rattle.fc_volume.specs.Rewrites.{IsRepairedAndWritten}
 use Rattle.fc_volume.specs.Storing.{AreStored, IsFirstStored, IsTakenAndNamed}
 use Rattle.fc_volume.specs.Volume.{HasCopies}
-
-none_of_both : (a b : Bool) → (a || b) ≡ false → (a ≡ false) × (b ≡ false)
-none_of_both true b e = absurd (cc)
-none_of_both false b e = (refl, e)
+use Rattle.std.proofs.lemmas.Bool.{or_parts as none_of_both}
+use Rattle.fc_objects.proofs.CopyLemmas.{one_told as same_told}
+use Rattle.fc_image.proofs.SameMapLemmas.{new_map as one_map}
 
 -- A write to some sectors is one to more.
 module _ (m : Map) (xs ys image image' : List ℕ) where
@@ -33,9 +32,6 @@ module _ (m : Map) (xs ys image image' : List ℕ) where
 
   pub wider_last : IsWritten m ys image image' → IsWritten m (xs ++ ys) image image'
   wider_last written = record { length_stays = written.length_stays; writes = λ s out no_map. written.writes s (parts s out).1 no_map }
-
-same_told : (a b : List ℕ) → (let x : Option (List ℕ) = Some a in x) ≡ Some b → a ≡ b
-same_told a b e = cc
 
 -- by other words for the same
 pub stored_as : (size : ℕ) {place place' : List Extent} {bytes bytes' : List ℕ} {was image : List ℕ} → place ≡ place' → bytes ≡ bytes' → AreStored size (sectors_in place) bytes was image
@@ -78,9 +74,6 @@ written_first m first = record { mid = first.mid; repaired = first.repaired; equ
 pub copies_kept : (m : Map) (sectors bytes was image : List ℕ) → is_apart sectors (map_sectors m.geometry) ≡ true → IsFirstStored m sectors bytes was image → HoldsCopies m.geometry m.zones image
 copies_kept m sectors bytes was image apart first =
     written_bytes_law.copies_stay m m.zones first.mid image (written_bytes_law.map_stays m sectors bytes first.mid image apart first.stored.part) first.equal
-
-pub one_map : (a b : Map) → Layout.New a ≡ Layout.New b → a ≡ b
-one_map a b e = cc
 
 pub by_maps : (P : Map → Map → Type 0) (a b c d : Map) → a ≡ b → c ≡ d → P a c → P b d
 by_maps P a b c d e f p = subst (P b) f (subst (λ (m : Map). P m c) e p)

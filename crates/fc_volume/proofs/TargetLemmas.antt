@@ -5,7 +5,7 @@ use Rattle.std.specs.Int.{div_ceil}
 use Rattle.std.specs.Option.{option_map, option_map_or}
 use Rattle.std.specs.Ordering.{nat_cmp}
 use Rattle.std.specs.FinMap.{FinMap, get}
-use Rattle.std.proofs.lemmas.Bool.{eqb-true, leb-true, ltb-true}
+use Rattle.std.proofs.lemmas.Bool.{eqb-true, leb-true, ltb-true, and_parts as both_true}
 use Rattle.std.proofs.lemmas.Option.{slice_get_within}
 use Rattle.std.proofs.lemmas.Nat.{div-add-mod'}
 use Rattle.std.proofs.Math.Nat.{pow-le-pow_right}
@@ -89,11 +89,6 @@ pub child_entry : (layout : Layout) (listings : List Listing) (l : Listing) (i :
 child_entry layout listings l i o law sound listed at = ap (λ (es : List Entry). slice_get es i) (sym (law layout listings l sound listed)) ∙ entry_of_child l.children i o at
 
 -- ---- addresses
-
-both_true : (a b : Bool) → (a && b) ≡ true → (a ≡ true) × (b ≡ true)
-both_true true true e = (refl, refl)
-both_true true false e = absurd (cc)
-both_true false b e = absurd (cc)
 
 valid_idlen : (r : DiscRecord) → is_valid r ≡ true → is_idlen_right r ≡ true
 unfolding record_fault

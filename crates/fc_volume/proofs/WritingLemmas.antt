@@ -11,6 +11,7 @@ use Rattle.fc_image.specs.Layout.{is_among}
 use Rattle.fc_changes.specs.Owed.{IsWritten}
 use Rattle.fc_objects.specs.Extents.{sectors_in}
 use Rattle.fc_objects.specs.Written.{IsPartWritten}
+use Rattle.fc_volume.proofs.RelocatingLemmas.{both_written as written_then}
 
 -- what was written, by other words for the same
 pub part_kept : {D : Type 0} (d : Ghosts D) {old new : D} {size size' : ℕ} {place place' : List Extent} {bytes bytes' : List ℕ} → size ≡ size' → place ≡ place' → bytes ≡ bytes'
@@ -53,10 +54,4 @@ part_written m sectors bytes image image' part = record {
     | inl same ↦ same
     | inr torn ↦ absurd (let yes = among_at sectors torn.0 s torn.1 torn.2 in cc)
   ];
-}
-
-pub written_then : (m : Map) (sectors : List ℕ) (a b c : List ℕ) → IsWritten m sectors a b → IsWritten m sectors b c → IsWritten m sectors a c
-written_then m sectors a b c first second = record {
-  length_stays = second.length_stays ∙ first.length_stays;
-  writes = λ s apart out. second.writes s apart out ∙ first.writes s apart out;
 }

@@ -158,19 +158,12 @@ plain_word (a ∷ b ∷ rest) h =
     let differs : (a == 45) ≡ false = grind (arith, nat_tests) in
     rw differs refl
 
-pub lone_dash : (w after : Text) → w ≡ 45 ∷ after → length after ≡ 0 → word_of w ≡ plain
-lone_dash w [] e none = ap word_of e
-lone_dash w (b ∷ bs) e none = absurd (omega (arith, none))
-
 pub short_option : (w after : Text) → w ≡ 45 ∷ after → 0 < length after → ((rest : Text) → after ≢ 45 ∷ rest) → word_of w ≡ refused
 short_option w [] e some h = absurd (omega (arith, some))
 short_option w (b ∷ bs) e some h =
     let ne : b ≢ 45 = λ e. h bs (ap (λ x. x ∷ bs) e) in
     let differs : (b == 45) ≡ false = grind (arith, nat_tests) in
     ap word_of e ∙ rw differs refl
-
-pub long_option : (w after text : Text) → w ≡ 45 ∷ after → after ≡ 45 ∷ text → word_of w ≡ dashed_word text
-long_option w after text e f = ap word_of (e ∙ ap (λ x. 45 ∷ x) f)
 
 pub some_bytes : (text : Text) → (length text == 0) ≡ false → 0 < length text
 some_bytes [] e = absurd (true≢false e)

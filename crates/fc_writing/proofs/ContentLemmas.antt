@@ -6,19 +6,17 @@ use Rattle.std.proofs.lemmas.List.{get_or-append-add, get_or_append_left, length
 use Rattle.std.proofs.lemmas.List.Elements.{Contains-append_cases, Contains-append_left, Contains-append_right}
 use Rattle.fc_device.specs.declared.disk.Extent.{Extent}
 use Rattle.fc_device.specs.Sectors.{sector_at}
-use Rattle.fc_newmap.proofs.PlaceLemmas.{contains_cases, contains_here, contains_later, contains_none, in_back, in_front}
+use Rattle.fc_newmap.proofs.PlaceLemmas.{contains_cases, contains_none, in_back, in_front}
 use Rattle.fc_objects.specs.Copied.{AreFirstCopied, IsPartCopied}
 use Rattle.fc_objects.specs.Extents.{sectors_in}
 use Rattle.fc_objects.specs.Written.{AreApart, HasParts, IsPartWritten, part_at}
 use Rattle.fc_image.specs.Layout.{is_among}
 use Rattle.fc_writing.specs.Content.{Content, HasContent, IsPart, content_sectors, copied, numbered, stored}
+use Rattle.fc_zone.proofs.ZoneLemmas.{Contains-head as contains_here, Contains-tail as contains_later}
+use Rattle.fc_device.proofs.StopLemmas.{one_told}
 
 pub clash : (b : Bool) → b ≡ true → b ≡ false → ⊥
 clash b is not = cc
-
--- bytes that are told are these
-pub one_told : {a b : List ℕ} → Some a ≡ Some b → a ≡ b
-one_told e = cc
 
 -- ---- lists of sectors
 

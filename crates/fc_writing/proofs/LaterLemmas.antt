@@ -12,7 +12,7 @@ use Rattle.fc_newmap.specs.NewMap.{IsNewMap}
 use Rattle.fc_newmap.specs.RunsLaw.{placed}
 use Rattle.fc_newmap.specs.Edits.{KeepsRuns}
 use Rattle.fc_newmap.proofs.HeldLemmas.{geometry_facts}
-use Rattle.fc_newmap.proofs.PlaceLemmas.{contains_cases, contains_here, contains_later, contains_none, id_run_in, in_id_runs, in_range, in_zone, zone_in}
+use Rattle.fc_newmap.proofs.PlaceLemmas.{contains_cases, contains_none, id_run_in, in_id_runs, in_range, in_zone, zone_in}
 use Rattle.fc_image.proofs.EntriesLemmas.{from_filter}
 use Rattle.fc_image.specs.effects.Placed.{BeginsBefore}
 use Rattle.fc_image.specs.effects.Steady.{has_id_that}
@@ -28,6 +28,7 @@ use Rattle.fc_writing.specs.Laws.{LaterLaw}
 use Rattle.fc_writing.specs.Steps.{AreTaken, CanRoot, CanTakeAll, is_changed}
 use Rattle.fc_writing.proofs.ContentLemmas.{clash}
 use Rattle.fc_writing.proofs.StepLemmas.{rooted_geometry}
+use Rattle.fc_zone.proofs.ZoneLemmas.{Contains-head as contains_here, Contains-tail as contains_later}
 
 same_filter : (p q : ℕ → Bool) (xs : List ℕ) → ((x : ℕ) → p x ≡ q x) → filter p xs ≡ filter q xs
 same_filter p q [] same = refl

@@ -15,9 +15,10 @@ use Rattle.fc_writing.specs.declared.ready.Source.TheVariants as from
 use Rattle.fc_writing.specs.Content.{Content, HasContent, IsPart, content_sectors}
 use Rattle.fc_writing.specs.Ready.{CanPut, IsSourceEnough, content_of, copied_place, early_content, early_place, from_of, late_content, late_place, source_content, source_from, written_place}
 use Rattle.fc_writing.specs.Stages.{Stage}
-use Rattle.fc_writing.proofs.ContentLemmas.{one_told, apart_between, clash, has_both, has_none, has_stays, part_outside, part_then, part_wider}
+use Rattle.fc_writing.proofs.ContentLemmas.{apart_between, clash, has_both, has_none, has_stays, part_outside, part_then, part_wider}
 use Rattle.fc_writing.proofs.EarlyLemmas.{early_beside, early_sectors, late_beside, late_sectors}
 use Rattle.fc_writing.proofs.ListLemmas.{all_carried, carried_same}
+use Rattle.fc_device.proofs.StopLemmas.{one_told}
 
 -- two things that a call keeps
 pub keeps_both : {D : Type 0} (d : Ghosts D) {P Q : List ℕ → List ℕ → Type 0} {old new : D} → Keeps d.moment d.left_since d.bytes old new P → Keeps d.moment d.left_since d.bytes old new Q

@@ -33,6 +33,7 @@ use Rattle.fc_writing.specs.declared.ready.SpaceStep.{SpaceStep}
 use Rattle.fc_writing.specs.New.{InStep}
 use Rattle.fc_writing.specs.Steps.{AreTaken, CanEdit, CanTakeAll, HasEdited, HasMoved, is_changed, rooted_map}
 use Rattle.fc_writing.proofs.ContentLemmas.{clash}
+use Rattle.fc_changes.proofs.CommittedLemmas.{all_same}
 
 -- ---- plans, one after another
 
@@ -75,10 +76,6 @@ zones_more m mid new plans i p low is before now z none =
     now z (or_left (in_zone z p) false (or_right (list_any (in_zone z) (take i plans)) (in_zone z p || false) both)) ∙ before z (or_left (list_any (in_zone z) (take i plans)) (in_zone z p || false) both)
 
 -- ---- a map with the same runs
-
-all_same : (m m' : Map) → KeepsRuns m m' → (zones : List ℕ) → runs_in m' zones ≡ runs_in m zones
-all_same m m' kept [] = refl
-all_same m m' kept (z ∷ zones) = ap₂ (λ (runs : List Run) (others : List ZoneRun). placed z runs ++ others) (kept.runs z) (all_same m m' kept zones)
 
 pub holes_same : (m m' : Map) → KeepsRuns m m' → hole_runs m' ≡ hole_runs m
 holes_same m m' kept = ap (filter (λ (p : ZoneRun). is_hole p.1.kind)) (ap (λ (g : Geometry). runs_in m' (zone_numbers g)) kept.geometry ∙ all_same m m' kept (zone_numbers m.geometry))

@@ -17,7 +17,7 @@ use Rattle.fc_zone.specs.Zone.{IsShapeOf, IsRun, HasField, field_at, Spells, nex
 use Rattle.fc_zone.specs.Reading.{end_of_run, is_run, run_of, end_of_chain, cons_ok, runs_from, in_zone, zone_of, runs_or_none, runs_of}
 use Rattle.fc_zone.proofs.ZoneLemmas.{Spells-le}
 
-first_part : (a b : Bool) → (a && b) ≡ true → a ≡ true
+pub first_part : (a b : Bool) → (a && b) ≡ true → a ≡ true
 first_part true b e = refl
 first_part false b e = e
 
@@ -245,7 +245,7 @@ module _ (shape : ZoneShape) (bs : List ℕ) (are_bits : AreBits bs) (within : s
       let rest = faulty_run runs fuel (from + run.len) at (cond (option_eq eqb hole (Some from)) (next_hole shape bs from) hole) h.3 early none (omega arith) in
       rw (ne_eqb from shape.end (omega arith), IsRun-is_run shape bs from (from + run.len) is, len, rest) refl
 
-in_zone-Ok : (zone : ℕ) (r : Result (List Run) ℕ) (runs : List Run) → in_zone zone r ≡ Ok runs → r ≡ Ok runs
+pub in_zone-Ok : (zone : ℕ) (r : Result (List Run) ℕ) (runs : List Run) → in_zone zone r ≡ Ok runs → r ≡ Ok runs
 in_zone-Ok zone (Ok others) runs e = ap (λ (rs : List Run). Ok rs) (cc)
 in_zone-Ok zone (Err place) runs e = absurd (cc)
 

@@ -5,8 +5,8 @@ use Rattle.std.proofs.lemmas.Bool.{leb-true}
 use Rattle.fc_record.specs.Record.{geometry, record_fault}
 use Rattle.fc_record.proofs.FaultLemmas.{valid_meets}
 use Rattle.fc_newmap.proofs.GeometryLemmas.{geometry_of_valid}
-use Rattle.fc_copies.proofs.GateLemmas.{second_part}
 use Rattle.fc_copies.proofs.copies_fit.Goals as goal
+use Rattle.fc_record.proofs.KindLemmas.{and_second as second_part}
 
 none_is : {A : Type 0} (o : Option A) → is_none o ≡ true → o ≡ None
 none_is None e = refl

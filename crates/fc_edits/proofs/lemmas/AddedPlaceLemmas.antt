@@ -3,7 +3,7 @@ use Rattle.std.proofs.Common.{◌≡◌, ◌<◌, ◌≤◌, inl, inr, ⊎_elim,
 use Rattle.std.specs.Prelude.{Contains, IsPermutation, nat_le, ◌==◌, ◌&&◌, ◌||◌}
 use Rattle.std.specs.Int.{div_ceil}
 use Rattle.std.specs.List.{list_any}
-use Rattle.std.proofs.lemmas.Bool.{eqb-true}
+use Rattle.std.proofs.lemmas.Bool.{eqb-true, false_from_ne_true as unless}
 use Rattle.std.specs.Option.{option_to_list}
 use Rattle.std.proofs.lemmas.List.{append-nil}
 use Rattle.std.proofs.lemmas.List.Elements.{Contains-append_left}
@@ -18,7 +18,6 @@ use Rattle.fc_image.specs.Edits.{IsAt}
 use Rattle.fc_image.specs.effects.Short.{holes_without, old_need}
 use Rattle.fc_image.specs.effects.Placed.{file_low}
 use Rattle.fc_image.specs.effects.Steady.{holes_with, is_given_back, runs_that, zone_holes}
-use Rattle.fc_image.proofs.OneZoneLemmas.{and_second}
 use Rattle.fc_newmap.specs.Map.{bits_in}
 use Rattle.fc_plan.specs.Giving.{is_one_of}
 use Rattle.fc_plan.specs.Taking.{as_runs}
@@ -27,8 +26,8 @@ use Rattle.fc_tree.proofs.MemberLemmas.{contains_here, in_map, no_element}
 use Rattle.fc_tree.proofs.WalkedLemmas.{child_is_object}
 use Rattle.fc_changes.specs.Changed.{IsInNewSpace}
 use Rattle.fc_changes.specs.Owed.{IsSpaceEdit}
-use Rattle.fc_changes.proofs.BasicLemmas.{clash, unless}
-use Rattle.fc_changes.proofs.MadeLemmas.{file_low_small, turned}
+use Rattle.fc_changes.proofs.BasicLemmas.{clash}
+use Rattle.fc_changes.proofs.MadeLemmas.{file_low_small}
 use Rattle.fc_changes.proofs.OutsideLemmas.{low_owned}
 use Rattle.fc_changes.proofs.PlacedLemmas.{id_is, is_shared, unused}
 use Rattle.fc_changes.proofs.SpaceLemmas.{no_runs, not_given, still_owned}
@@ -48,6 +47,8 @@ use Rattle.fc_edits.specs.Placing.{Placing, takings_of}
 use Rattle.fc_edits.specs.NewPlaces.{ApartInOne, GivesBack, IsSpaceChange, LiesAgain, NewPlaces, Taking, is_taken}
 use Rattle.fc_edits.specs.OldPlaces.{OldLiesAgain, OldPlaces, with_holes}
 use Rattle.fc_edits.proofs.lemmas.ShapeLemmas.{of_one, only}
+use Rattle.fc_image.proofs.EditLemmas.{apart_turned as turned}
+use Rattle.fc_record.proofs.KindLemmas.{and_second}
 
 -- ---- the map's space
 

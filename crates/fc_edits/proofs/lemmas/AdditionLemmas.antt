@@ -13,7 +13,7 @@ use Rattle.fc_image.specs.Walk.{Listing, Object, is_directory_object}
 use Rattle.fc_image.specs.Order.{directories}
 use Rattle.fc_tree.specs.Nodes.{number_of}
 use Rattle.fc_tree.proofs.MemberLemmas.{contains_here, from_map, no_element}
-use Rattle.fc_tree.proofs.WalkedLemmas.{apart_names, child_path}
+use Rattle.fc_tree.proofs.WalkedLemmas.{child_path}
 use Rattle.fc_laws.specs.nodes.Edits.{Nodes, OwnersEdited, owners_with}
 use Rattle.fc_laws.specs.nodes.Laws.{IsHeld}
 use Rattle.fc_laws.specs.agree.Agreed.{CanSay}
@@ -34,6 +34,7 @@ use Rattle.fc_edits.proofs.lemmas.NewPlaceLemmas.{places_fit}
 use Rattle.fc_edits.proofs.lemmas.OldPlaceLemmas.{old_fit}
 use Rattle.fc_edits.proofs.lemmas.ListLemmas.{flat_mapped}
 use Rattle.fc_edits.proofs.lemmas.ShapeLemmas.{of_one, only}
+use Rattle.fc_tree.proofs.EndLemmas.{no_twin as apart_names}
 
 -- ---- what goes
 

@@ -21,7 +21,7 @@ use Rattle.fc_laws.specs.nodes.Edits.{Nodes}
 use Rattle.fc_laws.specs.nodes.Laws.{IsHeld}
 use Rattle.fc_laws.proofs.lemmas.nodes.FitsLemmas.{fits_at, kid_at}
 use Rattle.fc_laws.proofs.lemmas.nodes.OtherLemmas.{no_file}
-use Rattle.fc_laws.proofs.lemmas.nodes.ListLemmas.{in_first, in_other, map_append}
+use Rattle.fc_laws.proofs.lemmas.nodes.ListLemmas.{in_first, in_other}
 use Rattle.fc_laws.proofs.lemmas.nodes.ShapeLemmas.{held_by, said, some_mapped}
 use Rattle.fc_edits.specs.Lookups.{held_as, says_at}
 use Rattle.fc_edits.specs.Edit.{Amended, AreEdited, Edit, IsEdit, TopStays, TopTurns, joined_in, joining, left_in, leaving, numbers, objects, turned}
@@ -30,6 +30,7 @@ use Rattle.fc_edits.proofs.lemmas.ListLemmas.{flat_same, in_flat, is_in, map_fla
 use Rattle.fc_edits.proofs.lemmas.ShapeLemmas.{only}
 use Rattle.fc_edits.proofs.lemmas.TellLemmas.{once_amended, tell_held, tell_length, tell_other, tell_said}
 use Rattle.fc_edits.proofs.lemmas.EnterLemmas.{all_new, distinct_amended, enter_here, enter_length, enter_other, entered_held, entered_says, fresh, none_new, nums, without_here, without_length, without_other}
+use Rattle.fc_image.proofs.TreeLemmas.{map_both as map_append}
 
 -- ---- the edit
 

@@ -22,7 +22,7 @@ use Rattle.fc_tree.specs.declared.node.Node.{Node}
 use Rattle.fc_tree.specs.Agree.{AreWalked, HasForm, reader_of_nodes}
 use Rattle.fc_tree.specs.Nodes.{number_of}
 use Rattle.fc_tree.specs.Parts.{AreOwners}
-use Rattle.fc_tree.proofs.MemberLemmas.{contains_cases, contains_here, contains_later, from_map}
+use Rattle.fc_tree.proofs.MemberLemmas.{contains_here, from_map}
 use Rattle.fc_tree.proofs.SoundLemmas.{children_stored}
 use Rattle.fc_tree.proofs.WalkedLemmas.{root_path}
 use Rattle.fc_laws.specs.nodes.Edits.{Nodes, NodesFollow}
@@ -42,6 +42,7 @@ use Rattle.fc_edits.proofs.lemmas.FollowLemmas.{nodes_follow}
 use Rattle.fc_edits.proofs.lemmas.OwnerLemmas.{owners_follow}
 use Rattle.fc_edits.proofs.lemmas.RelistingLemmas.{after_parted, kept, relisting}
 use Rattle.fc_edits.proofs.lemmas.ApartLemmas.{children_from, come_apart, same_apart, stay_listed}
+use Rattle.fc_image.proofs.EntriesLemmas.{later as contains_later, cases as contains_cases}
 
 -- ---- on any map
 

@@ -8,8 +8,9 @@ use Rattle.fc_image.specs.Walk.{Object, Listing, Reader}
 use Rattle.fc_image.specs.Edits.{Apart, AreChildren, IsAt, IsListing, StayListed}
 use Rattle.fc_image.proofs.EditLemmas.{apart_law}
 use Rattle.fc_image.proofs.RelistLemmas.{edited_apart_law}
-use Rattle.fc_tree.proofs.MemberLemmas.{contains_here, contains_later}
+use Rattle.fc_tree.proofs.MemberLemmas.{contains_here}
 use Rattle.fc_edits.specs.Places.{ApartPairs}
+use Rattle.fc_image.proofs.EntriesLemmas.{later as contains_later}
 
 -- ---- objects that lie apart
 

@@ -10,21 +10,23 @@ use Rattle.fc_image.specs.Layout.{Layout}
 use Rattle.fc_image.specs.Walk.{Listing, Object}
 use Rattle.fc_image.specs.Order.{held}
 use Rattle.fc_image.proofs.PathsLemmas.{many}
-use Rattle.fc_image.proofs.ShuffleLemmas.{IsPermutation-flat_map}
-use Rattle.fc_tree.proofs.MemberLemmas.{contains_here, contains_later, from_map, in_map, many_permuted, no_element, some_many}
+use Rattle.fc_image.proofs.ShuffleLemmas.{IsPermutation-flat_map, flat_map-append as flat_append}
+use Rattle.fc_tree.proofs.MemberLemmas.{contains_here, from_map, in_map, many_permuted, no_element, some_many}
 use Rattle.fc_tree.proofs.SoundLemmas.{children_stored}
 use Rattle.fc_tree.proofs.WalkedLemmas.{child_is_object}
 use Rattle.fc_laws.specs.nodes.Edits.{Nodes}
 use Rattle.fc_laws.specs.nodes.Laws.{IsHeld}
-use Rattle.fc_laws.proofs.lemmas.nodes.ListLemmas.{in_first, in_other, map_append}
+use Rattle.fc_laws.proofs.lemmas.nodes.ListLemmas.{in_first, in_other}
 use Rattle.fc_edits.specs.Edit.{Amended, Edit, IsAmended, IsEdit, KeepsEntry, TopStays, TopTurns, joined_in, joining, leaving, left_in, numbers, turned}
 use Rattle.fc_edits.specs.Growing.{EditGrowing, Growing, Holder, IsGrowing, Told, amended_first, told}
 use Rattle.fc_edits.specs.NewNodes.{AreDistinct, HasNumbers, nodes_after}
 use Rattle.fc_edits.specs.NodesEdit.{NodesEdit}
 use Rattle.fc_edits.proofs.lemmas.AfterLemmas.{after_law}
-use Rattle.fc_edits.proofs.lemmas.ListLemmas.{flat_append, in_flat, map_map}
+use Rattle.fc_edits.proofs.lemmas.ListLemmas.{in_flat, map_map}
 use Rattle.fc_edits.proofs.lemmas.NumberLemmas as n_
 use Rattle.fc_edits.proofs.lemmas.ShapeLemmas.{none_flat}
+use Rattle.fc_image.proofs.TreeLemmas.{map_both as map_append}
+use Rattle.fc_image.proofs.EntriesLemmas.{later as contains_later}
 
 -- ---- lists
 

@@ -1,7 +1,7 @@
 -- The place of a new object on a map of which other identifiers get runs too.
 use Rattle.std.proofs.Common.{◌≡◌, ◌<◌, ◌≤◌, ◌⊎◌, inl, inr, ⊎_elim, ℕ, ◌+◌, ◌*◌, ◌/◌, Bool, true, false, cond, List, [], ◌∷◌, ◌++◌, length, refl, sym, ap, ap₂, subst, ◌∙◌, arith, eq-eqb, Some}
 use Rattle.std.specs.Prelude.{Contains, ◌==◌, ◌&&◌, ◌||◌}
-use Rattle.std.proofs.lemmas.Bool.{le-leb}
+use Rattle.std.proofs.lemmas.Bool.{le-leb, false_from_ne_true as unless, or_from as neither}
 use Rattle.std.proofs.lemmas.List.Elements.{Contains-append_left}
 use Rattle.fc_names.specs.Names.{Path}
 use Rattle.fc_names.specs.declared.name.NameForm.{NameForm}
@@ -20,10 +20,9 @@ use Rattle.fc_image.specs.effects.Steady.{is_given_back}
 use Rattle.fc_image.proofs.EntriesLemmas.{same_some}
 use Rattle.fc_image.proofs.HolesLemmas.{apart_at, apart_from, in_id}
 use Rattle.fc_image.proofs.MapEditLemmas.{places_law}
-use Rattle.fc_image.proofs.OneZoneLemmas.{and_first}
 use Rattle.fc_tree.specs.declared.node.Node.{Node}
 use Rattle.fc_changes.specs.Changed.{IsInNewSpace, IsInSlack, IsNowhere}
-use Rattle.fc_changes.proofs.BasicLemmas.{any_in, clash, unless}
+use Rattle.fc_changes.proofs.BasicLemmas.{any_in, clash}
 use Rattle.fc_changes.proofs.ChangeLemmas.{a_sector}
 use Rattle.fc_changes.proofs.MadeLemmas.{file_low_small}
 use Rattle.fc_changes.proofs.PlacedLemmas.{IsShared, is_shared}
@@ -31,13 +30,14 @@ use Rattle.fc_changes.proofs.SpaceLemmas.{still_owned}
 use Rattle.fc_laws.specs.nodes.Edits.{Nodes}
 use Rattle.fc_laws.specs.agree.Agreed.{AgreeOn}
 use Rattle.fc_laws.proofs.lemmas.agree.BeforeLemmas.{new_facts, new_shape, object_lies}
-use Rattle.fc_laws.proofs.lemmas.agree.NewPlaceLemmas.{none_at}
 use Rattle.fc_edits.specs.Edit.{Edit, joining, objects}
 use Rattle.fc_edits.specs.NewPlaces.{GivesBack, IsSpaceChange, Taking, is_taken}
 use Rattle.fc_edits.specs.Placing.{IsPlaced, takings_of}
-use Rattle.fc_edits.proofs.lemmas.IdentifierLemmas.{by_map, neither, owner_id, owns, some_sector}
+use Rattle.fc_edits.proofs.lemmas.IdentifierLemmas.{by_map, owns, some_sector}
 use Rattle.fc_edits.proofs.lemmas.NewPlaceLemmas.{owned_by, runs_keep}
 use Rattle.fc_edits.proofs.lemmas.NewSpaceLemmas.{id_in, new_id_unused, parts_some, slack_files}
+use Rattle.fc_changes.proofs.NewPlaceLemmas.{owner_id, none_at}
+use Rattle.fc_record.proofs.KindLemmas.{and_first}
 
 -- Object o joins a directory by this edit. What had runs and gets others is a directory's.
 pub record Beside : Type 0 where

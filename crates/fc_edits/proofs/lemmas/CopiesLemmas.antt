@@ -8,7 +8,7 @@ use Rattle.fc_image.specs.Walk.{Listing, Object, is_directory_object}
 use Rattle.fc_image.specs.Objects.{objects_of}
 use Rattle.fc_image.proofs.PathsLemmas.{itself}
 use Rattle.fc_tree.specs.Nodes.{number_of}
-use Rattle.fc_tree.proofs.MemberLemmas.{contains_cases, contains_here, contains_later, no_element}
+use Rattle.fc_tree.proofs.MemberLemmas.{contains_here, no_element}
 use Rattle.fc_tree.proofs.WalkedLemmas.{child_is_object, child_path, listed_directory}
 use Rattle.fc_laws.specs.nodes.Edits.{Nodes}
 use Rattle.fc_laws.specs.nodes.Laws.{IsHeld}
@@ -21,6 +21,7 @@ use Rattle.fc_edits.specs.Copying.{Copies, Copying, copied, edit, from_it, new_p
 use Rattle.fc_edits.specs.NewNodes.{HasNumbers, nodes_after}
 use Rattle.fc_edits.proofs.lemmas.AfterLemmas.{after_law}
 use Rattle.fc_edits.proofs.lemmas.ShapeLemmas.{of_one}
+use Rattle.fc_image.proofs.EntriesLemmas.{later as contains_later, cases as contains_cases}
 
 pub is_copy : (c : Copying) → copied c c.o ≡ record { path = new_path c; entry = record c.o.entry { name = c.name; address = c.address }; sectors = c.sectors }
 is_copy c = ap (λ (b : Bool). cond b (record { path = new_path c; entry = record c.o.entry { name = c.name; address = c.address }; sectors = c.sectors }) c.o) (itself c.o.path)

@@ -7,7 +7,6 @@ use Rattle.fc_image.specs.Layout.{Layout}
 use Rattle.fc_image.specs.Walk.{Listing, Object}
 use Rattle.fc_image.specs.Objects.{objects_of}
 use Rattle.fc_tree.specs.Nodes.{number_of}
-use Rattle.fc_tree.proofs.WalkedLemmas.{apart_names}
 use Rattle.fc_laws.specs.nodes.Edits.{Nodes, OwnersEdited, owners_with}
 use Rattle.fc_laws.specs.nodes.Laws.{IsHeld}
 use Rattle.fc_laws.specs.agree.Agreed.{CanSay}
@@ -23,6 +22,7 @@ use Rattle.fc_edits.proofs.lemmas.AddedPlaceLemmas.{placed_so}
 use Rattle.fc_edits.proofs.lemmas.NewAgreeLemmas.{agree_now}
 use Rattle.fc_edits.proofs.lemmas.NewPlaceLemmas.{places_fit}
 use Rattle.fc_edits.proofs.lemmas.CopiesLemmas as c_
+use Rattle.fc_tree.proofs.EndLemmas.{no_twin as apart_names}
 
 pub is_copy : (c : Copying) → copied c c.o ≡ record { path = new_path c; entry = record c.o.entry { name = c.name; address = c.address }; sectors = c.sectors }
 is_copy = c_.is_copy

@@ -20,7 +20,7 @@ use Rattle.fc_tree.specs.declared.node.Node.{Node}
 use Rattle.fc_tree.specs.Nodes.{number_of}
 use Rattle.fc_tree.proofs.MemberLemmas.{contains_here, no_element}
 use Rattle.fc_tree.proofs.SoundLemmas.{children_stored}
-use Rattle.fc_tree.proofs.WalkedLemmas.{apart_names, child_is_object, child_path}
+use Rattle.fc_tree.proofs.WalkedLemmas.{child_is_object, child_path}
 use Rattle.fc_refusals.specs.declared.target.Target.{Target}
 use Rattle.fc_laws.specs.nodes.Edits.{Nodes, OwnersEdited, owners_with}
 use Rattle.fc_laws.specs.nodes.Laws.{IsHeld}
@@ -28,7 +28,7 @@ use Rattle.fc_laws.specs.agree.Agreed.{CanSay}
 use Rattle.fc_laws.proofs.lemmas.nodes.ListLemmas.{cut_at, in_first, map_remove}
 use Rattle.fc_laws.proofs.lemmas.agree.BeforeLemmas.{sound as new_sound}
 use Rattle.fc_laws.proofs.lemmas.agree.CutLemmas.{cut_law}
-use Rattle.fc_laws.proofs.lemmas.agree.RemovedLemmas.{gone_held, gone_listed}
+use Rattle.fc_laws.proofs.lemmas.agree.RemovedLemmas.{gone_listed}
 use Rattle.fc_oldchanges.proofs.SpaceLemmas.{AreGiven, AreSpaced, given, right_before}
 use Rattle.fc_oldlaws.specs.agree.Laws.{AgreeOn}
 use Rattle.fc_oldlaws.proofs.lemmas.agree.BeforeLemmas.{sound}
@@ -45,6 +45,8 @@ use Rattle.fc_edits.proofs.lemmas.NewAgreeLemmas.{agree_law, agree_now}
 use Rattle.fc_edits.proofs.lemmas.NewPlaceLemmas.{places_fit}
 use Rattle.fc_edits.proofs.lemmas.OldPlaceLemmas.{old_fit}
 use Rattle.fc_edits.proofs.lemmas.ShapeLemmas.{as_it_is, not_own, of_one, only}
+use Rattle.fc_changes.proofs.DeletedLemmas.{none_held as gone_held}
+use Rattle.fc_tree.proofs.EndLemmas.{no_twin as apart_names}
 
 module _ (nodes : Nodes) (layout : Layout) (listings : List Listing) (c : Deletion) (h : IsHeld nodes layout listings) (d : IsDeletion nodes layout listings c) where
   pub l_in : Contains listings c.l

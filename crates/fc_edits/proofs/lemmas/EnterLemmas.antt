@@ -8,13 +8,14 @@ use Rattle.fc_image.specs.Walk.{Listing, Object}
 use Rattle.fc_image.proofs.PathsLemmas.{many}
 use Rattle.fc_tree.specs.declared.node.Body.{Body}
 use Rattle.fc_tree.specs.declared.node.Node.{Node}
-use Rattle.fc_tree.proofs.MemberLemmas.{contains_cases, contains_here, contains_later, from_map, in_map, no_element}
+use Rattle.fc_tree.proofs.MemberLemmas.{contains_here, from_map, in_map, no_element}
 use Rattle.fc_tree.proofs.WalkedLemmas.{same_some}
 use Rattle.fc_laws.specs.nodes.Edits.{Nodes}
 use Rattle.fc_laws.proofs.lemmas.nodes.ShapeLemmas.{held_by, put_here, put_length, put_other, said, take_here, take_length, take_other}
 use Rattle.fc_edits.specs.Edit.{Amended}
 use Rattle.fc_edits.specs.NewNodes.{AreDistinct, arriving, enter, entered, without}
 use Rattle.fc_edits.proofs.lemmas.TellLemmas.{AreOnce}
+use Rattle.fc_image.proofs.EntriesLemmas.{later as contains_later, cases as contains_cases}
 
 -- ---- nodes that are taken out
 

@@ -13,20 +13,23 @@ use Rattle.fc_image.specs.Objects.{objects_of}
 use Rattle.fc_image.specs.Order.{held}
 use Rattle.fc_tree.specs.declared.node.Body.TheVariants as bodies
 use Rattle.fc_tree.specs.Nodes.{number_of, body_in}
-use Rattle.fc_tree.proofs.MemberLemmas.{contains_here, contains_later, from_map, no_element}
+use Rattle.fc_tree.proofs.MemberLemmas.{contains_here, from_map, no_element}
 use Rattle.fc_tree.proofs.WalkedLemmas.{same_some, root_path, child_is_object}
 use Rattle.fc_laws.specs.nodes.Edits.{Nodes, NodesFollow}
 use Rattle.fc_laws.specs.nodes.Laws.{IsHeld}
 use Rattle.fc_laws.proofs.lemmas.nodes.FitsLemmas.{ChildFits, DirectoryFits, fits, fits_at, kid_lower, not_pushed}
 use Rattle.fc_laws.proofs.lemmas.nodes.FollowLemmas.{AllFit, follow}
-use Rattle.fc_laws.proofs.lemmas.nodes.ListLemmas.{in_first, in_other, map_append}
+use Rattle.fc_laws.proofs.lemmas.nodes.ListLemmas.{in_first, in_other}
 use Rattle.fc_laws.proofs.lemmas.nodes.OtherLemmas.{no_file}
 use Rattle.fc_edits.specs.NodesEdit.{NodesEdit}
 use Rattle.fc_edits.specs.Lookups.{held_as, said, says_at}
 use Rattle.fc_edits.specs.Edit.{Amended, AreEdited, Edit, IsEdit, TopStays, TopTurns, joined_in, leaving, left_in, listings_after, now, numbers, objects, still, turned}
-use Rattle.fc_edits.proofs.lemmas.ListLemmas.{flat_append, flat_mapped, in_flat, map_flat, parted}
+use Rattle.fc_edits.proofs.lemmas.ListLemmas.{flat_mapped, in_flat, map_flat, parted}
 use Rattle.fc_edits.proofs.lemmas.NumberLemmas as n_
 use Rattle.fc_edits.proofs.lemmas.PathNumberLemmas as paths
+use Rattle.fc_image.proofs.ShuffleLemmas.{flat_map-append as flat_append}
+use Rattle.fc_image.proofs.TreeLemmas.{map_both as map_append}
+use Rattle.fc_image.proofs.EntriesLemmas.{later as contains_later}
 
 module _ (ne : NodesEdit) where
   abbrev pub nodes : Nodes

@@ -12,7 +12,7 @@ use Rattle.fc_alloc.specs.declared.owner.Owner.{Owner}
 use Rattle.fc_image.specs.Layout.{Layout}
 use Rattle.fc_image.specs.Walk.{Listing, Object, is_directory_object}
 use Rattle.fc_tree.specs.Nodes.{number_of}
-use Rattle.fc_tree.proofs.MemberLemmas.{contains_cases, contains_here, contains_later, from_map, in_map}
+use Rattle.fc_tree.proofs.MemberLemmas.{contains_here, from_map, in_map}
 use Rattle.fc_tree.proofs.WalkedLemmas.{given, listed_directory, same_some}
 use Rattle.fc_laws.specs.nodes.Edits.{OwnersEdited, owners_with}
 use Rattle.fc_laws.specs.agree.Agreed.{CanSay}
@@ -28,6 +28,7 @@ use Rattle.fc_edits.proofs.lemmas.GrowingLemmas as below
 use Rattle.fc_edits.proofs.lemmas.GrowingLemmas.{e, g, gr, h, its_turn, layout, listings, nodes, o_directory, o_in, other_number}
 use Rattle.fc_edits.proofs.lemmas.GrownRootLemmas as root
 use Rattle.fc_edits.proofs.lemmas.NumberLemmas as n_
+use Rattle.fc_image.proofs.EntriesLemmas.{later as contains_later, cases as contains_cases}
 
 -- ---- owners
 

@@ -13,9 +13,9 @@ use Rattle.fc_image.specs.Order.{held}
 use Rattle.fc_image.specs.effects.Steady.{regrown_entry}
 use Rattle.fc_image.proofs.PathsLemmas.{is_at, itself}
 use Rattle.fc_tree.specs.Nodes.{number_of}
-use Rattle.fc_tree.proofs.MemberLemmas.{contains_cases, contains_here, contains_later, from_map, in_map, many_permuted, no_element}
-use Rattle.fc_tree.proofs.WalkedLemmas.{apart_names, child_is_object, child_path, few_objects, listed_directory}
-use Rattle.fc_changes.proofs.BasicLemmas.{clash, holder_pushed, unless}
+use Rattle.fc_tree.proofs.MemberLemmas.{contains_here, from_map, in_map, many_permuted, no_element}
+use Rattle.fc_tree.proofs.WalkedLemmas.{child_is_object, child_path, few_objects, listed_directory}
+use Rattle.fc_changes.proofs.BasicLemmas.{clash, holder_pushed}
 use Rattle.fc_changes.proofs.RenamedLemmas.{same_turned}
 use Rattle.fc_laws.specs.nodes.Edits.{Nodes}
 use Rattle.fc_laws.specs.nodes.Laws.{IsHeld}
@@ -30,6 +30,9 @@ use Rattle.fc_edits.proofs.lemmas.AroundLemmas as ar
 use Rattle.fc_edits.proofs.lemmas.AroundLemmas.{mapped_same}
 use Rattle.fc_edits.proofs.lemmas.ListLemmas.{in_flat, map_map, two_apart}
 use Rattle.fc_edits.proofs.lemmas.NumberLemmas as n_
+use Rattle.std.proofs.lemmas.Bool.{false_from_ne_true as unless}
+use Rattle.fc_image.proofs.EntriesLemmas.{later as contains_later, cases as contains_cases}
+use Rattle.fc_tree.proofs.EndLemmas.{no_twin as apart_names}
 
 pub same_both : (p q : Path) → is_same_path p q ≡ is_same_path q p
 same_both p q = by (is_same_path p q) refl

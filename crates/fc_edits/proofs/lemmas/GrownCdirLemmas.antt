@@ -11,8 +11,8 @@ use Rattle.fc_image.specs.Layout.{Layout}
 use Rattle.fc_image.specs.Walk.{Listing, Object, is_directory_object}
 use Rattle.fc_image.proofs.PathsLemmas.{itself}
 use Rattle.fc_tree.specs.Nodes.{body_in, number_of}
-use Rattle.fc_tree.proofs.MemberLemmas.{contains_cases, contains_here, contains_later, from_map, no_element}
-use Rattle.fc_tree.proofs.WalkedLemmas.{apart_names, child_is_object, child_path, listed_directory, root}
+use Rattle.fc_tree.proofs.MemberLemmas.{contains_here, from_map, no_element}
+use Rattle.fc_tree.proofs.WalkedLemmas.{child_is_object, child_path, listed_directory, root}
 use Rattle.fc_laws.specs.nodes.Edits.{Nodes, OwnersEdited, owners_with}
 use Rattle.fc_laws.specs.nodes.Laws.{IsHeld}
 use Rattle.fc_laws.specs.agree.Agreed.{CanSay}
@@ -31,6 +31,8 @@ use Rattle.fc_edits.proofs.lemmas.ShapeLemmas.{kids_unlike, none_flat, not_own, 
 use Rattle.fc_edits.proofs.lemmas.AfterLemmas.{after_law}
 use Rattle.fc_edits.proofs.lemmas.NumberLemmas as n_
 use Rattle.fc_edits.proofs.lemmas.NewAgreeLemmas.{agree_now}
+use Rattle.fc_image.proofs.EntriesLemmas.{later as contains_later, cases as contains_cases}
+use Rattle.fc_tree.proofs.EndLemmas.{no_twin as apart_names}
 
 module _ (c : Growing) where
   pub left_is : left_in (edit c) ≡ (c.dir, c.l.object) ∷ []

@@ -6,10 +6,10 @@ use Rattle.fc_model.specs.Tree.{holder}
 use Rattle.fc_image.specs.Walk.{Listing, Object}
 use Rattle.fc_image.proofs.PathsLemmas.{itself}
 use Rattle.fc_tree.specs.Nodes.{number_of}
-use Rattle.fc_tree.proofs.MemberLemmas.{contains_here, contains_later}
+use Rattle.fc_tree.proofs.MemberLemmas.{contains_here}
 use Rattle.fc_tree.proofs.SoundLemmas.{same_listing, same_object}
 use Rattle.fc_tree.proofs.WalkedLemmas.{child_is_object, child_path, same_some}
-use Rattle.fc_changes.proofs.BasicLemmas.{holder_pushed, unless}
+use Rattle.fc_changes.proofs.BasicLemmas.{holder_pushed}
 use Rattle.fc_laws.specs.agree.Agreed.{CanSay}
 use Rattle.fc_laws.proofs.lemmas.nodes.FitsLemmas.{kid_lower}
 use Rattle.fc_edits.specs.Edit.{Amended}
@@ -19,6 +19,8 @@ use Rattle.fc_edits.proofs.lemmas.GrowingLemmas as below
 use Rattle.fc_edits.proofs.lemmas.GrowingLemmas.{e, g, gr, h, layout, listings, nodes, o_in}
 use Rattle.fc_edits.proofs.lemmas.NumberLemmas as n_
 use Rattle.fc_edits.proofs.lemmas.TellLemmas.{once_amended}
+use Rattle.std.proofs.lemmas.Bool.{false_from_ne_true as unless}
+use Rattle.fc_image.proofs.EntriesLemmas.{later as contains_later}
 
 -- ---- below the root
 

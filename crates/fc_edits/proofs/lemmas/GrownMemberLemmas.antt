@@ -6,8 +6,7 @@ use Rattle.std.proofs.lemmas.List.Sorted.{IsPermutation-map, IsPermutation-sym}
 use Rattle.fc_image.specs.Layout.{id_of, is_apart}
 use Rattle.fc_image.specs.Walk.{Object}
 use Rattle.fc_image.proofs.ShuffleLemmas.{shuffled}
-use Rattle.fc_tree.proofs.MemberLemmas.{contains_cases, contains_here, contains_later, from_map, in_map}
-use Rattle.fc_changes.proofs.MadeLemmas.{turned}
+use Rattle.fc_tree.proofs.MemberLemmas.{contains_here, from_map, in_map}
 use Rattle.fc_laws.specs.agree.Agreed.{CanSay}
 use Rattle.fc_laws.proofs.lemmas.nodes.ListLemmas.{in_first, in_other}
 use Rattle.fc_edits.specs.Edit.{Amended, Edit, joined_in, joining, leaving, left_in, numbers, objects}
@@ -19,6 +18,8 @@ use Rattle.fc_edits.proofs.lemmas.GrowingLemmas as below
 use Rattle.fc_edits.proofs.lemmas.GrowingLemmas.{e, g, gr, its_turn, layout, listings, ne, nodes}
 use Rattle.fc_edits.proofs.lemmas.NumberLemmas as n_
 use Rattle.fc_edits.proofs.lemmas.GrownRootLemmas as root
+use Rattle.fc_image.proofs.EditLemmas.{apart_turned as turned}
+use Rattle.fc_image.proofs.EntriesLemmas.{later as contains_later, cases as contains_cases}
 
 -- ---- objects that lie apart in one identifier do so in another order
 

@@ -1,7 +1,7 @@
 -- `rename` without a copy, into a directory that grows by it, by the laws of growth.
 use Rattle.std.proofs.Common.{◌≡◌, ◌⊎◌, inl, inr, ⊎_elim, ℕ, Bool, true, false, List, [], ◌∷◌, ◌++◌, refl, sym, ap, subst, ◌∙◌, arith}
 use Rattle.std.specs.Prelude.{Contains, ◌==◌}
-use Rattle.std.proofs.lemmas.Bool.{eqb-true}
+use Rattle.std.proofs.lemmas.Bool.{eqb-true, false_from_ne_true as unless, or_cases as either, or_from as neither}
 use Rattle.std.proofs.lemmas.List.Elements.{Contains-append_left}
 use Rattle.fc_newmap.specs.Map.{id_runs, is_used}
 use Rattle.fc_image.specs.Layout.{Layout, dir_form, id_of, is_among, is_apart}
@@ -13,7 +13,7 @@ use Rattle.fc_image.proofs.MapEditLemmas.{places_law}
 use Rattle.fc_tree.specs.Nodes.{number_of}
 use Rattle.fc_tree.proofs.MemberLemmas.{contains_here, in_map, no_element}
 use Rattle.fc_tree.proofs.WalkedLemmas.{same_some}
-use Rattle.fc_changes.proofs.BasicLemmas.{clash, not_zero, unless}
+use Rattle.fc_changes.proofs.BasicLemmas.{clash, not_zero}
 use Rattle.fc_changes.proofs.ChangeLemmas.{a_sector}
 use Rattle.fc_changes.proofs.SpaceLemmas.{still_owned}
 use Rattle.fc_laws.specs.nodes.Edits.{Nodes}
@@ -30,7 +30,7 @@ use Rattle.fc_edits.proofs.lemmas.GrowingLawLemmas as law
 use Rattle.fc_edits.proofs.lemmas.GrowingLemmas as growing
 use Rattle.fc_edits.proofs.lemmas.GrownMemberLemmas as members
 use Rattle.fc_edits.proofs.lemmas.GrownPlaceLemmas.{grown_places, grown_places_law}
-use Rattle.fc_edits.proofs.lemmas.IdentifierLemmas.{alone_one, either, neither, owns, used_of}
+use Rattle.fc_edits.proofs.lemmas.IdentifierLemmas.{alone_one, owns, used_of}
 use Rattle.fc_edits.proofs.lemmas.MovesLemmas as m_
 use Rattle.fc_edits.proofs.lemmas.NewPlaceLemmas.{owned_by, runs_keep}
 use Rattle.fc_edits.proofs.lemmas.NewSpaceLemmas.{new_id_unused}

@@ -3,7 +3,7 @@ use Rattle.std.proofs.Common.{◌≡◌, ◌<◌, ◌≤◌, ◌⊎◌, inl, inr
 use Rattle.std.specs.Prelude.{Contains, filter, not, nat_le, ◌==◌, ◌&&◌}
 use Rattle.std.specs.List.{range_with_len}
 use Rattle.std.specs.Option.{option_map_or}
-use Rattle.std.proofs.lemmas.Bool.{eqb-true, le-leb, leb-true}
+use Rattle.std.proofs.lemmas.Bool.{eqb-true, le-leb, leb-true, false_from_ne_true as unless, or_cases as either, or_from as neither, not-true as not_true}
 use Rattle.std.proofs.lemmas.List.Elements.{Contains-append_left}
 use Rattle.fc_names.specs.Names.{is_same_path}
 use Rattle.fc_names.specs.declared.name.NameForm.{NameForm}
@@ -21,15 +21,12 @@ use Rattle.fc_image.specs.effects.Steady.{is_given_back}
 use Rattle.fc_image.proofs.EntriesLemmas.{in_filter}
 use Rattle.fc_image.proofs.HolesLemmas.{apart_at, apart_from}
 use Rattle.fc_image.proofs.MapEditLemmas.{places_law}
-use Rattle.fc_image.proofs.MoveLemmas.{not_true}
-use Rattle.fc_image.proofs.OneZoneLemmas.{and_first, and_second}
 use Rattle.fc_image.proofs.PathsLemmas.{itself}
 use Rattle.fc_tree.specs.Nodes.{number_of}
 use Rattle.fc_tree.proofs.MemberLemmas.{in_map}
 use Rattle.fc_tree.proofs.WalkedLemmas.{same_some}
-use Rattle.fc_changes.proofs.BasicLemmas.{clash, unless}
+use Rattle.fc_changes.proofs.BasicLemmas.{clash}
 use Rattle.fc_changes.proofs.ChangeLemmas.{a_sector}
-use Rattle.fc_changes.proofs.MadeLemmas.{turned}
 use Rattle.fc_changes.proofs.OutsideLemmas.{low_owned}
 use Rattle.fc_changes.proofs.PlacedLemmas.{filter_test}
 use Rattle.fc_changes.proofs.SpaceLemmas.{still_owned}
@@ -46,10 +43,13 @@ use Rattle.fc_edits.specs.Places.{Stays}
 use Rattle.fc_edits.proofs.lemmas.GrowingLawLemmas as law
 use Rattle.fc_edits.proofs.lemmas.GrowingLemmas as growing
 use Rattle.fc_edits.proofs.lemmas.GrownMemberLemmas as members
-use Rattle.fc_edits.proofs.lemmas.IdentifierLemmas.{alone_facts, alone_one, among_flat, by_map, either, neither, owner_id, owns, taken_either, used_of}
+use Rattle.fc_edits.proofs.lemmas.IdentifierLemmas.{alone_facts, alone_one, among_flat, by_map, owns, taken_either, used_of}
 use Rattle.fc_edits.proofs.lemmas.LeavingLemmas.{left_among, left_number}
 use Rattle.fc_edits.proofs.lemmas.NewAgreeLemmas.{agree_now}
 use Rattle.fc_edits.proofs.lemmas.NewPlaceLemmas.{owned_by, places_fit, runs_keep}
+use Rattle.fc_image.proofs.EditLemmas.{apart_turned as turned}
+use Rattle.fc_changes.proofs.NewPlaceLemmas.{owner_id}
+use Rattle.fc_record.proofs.KindLemmas.{and_first, and_second}
 
 -- ---- the directory
 

@@ -1,7 +1,7 @@
 -- An edit by which one object joins a directory, in which a directory grows, by the laws of growth.
 use Rattle.std.proofs.Common.{◌≡◌, ◌⊎◌, inl, inr, ⊎_elim, ℕ, ◌*◌, ◌/◌, true, false, List, [], ◌∷◌, ◌++◌, sym, ap, subst, ◌∙◌, arith}
 use Rattle.std.specs.Prelude.{Contains, ◌==◌}
-use Rattle.std.proofs.lemmas.Bool.{eqb-true}
+use Rattle.std.proofs.lemmas.Bool.{eqb-true, or_cases as either}
 use Rattle.fc_newmap.specs.Map.{is_used}
 use Rattle.fc_image.specs.Layout.{Layout, id_of, is_among, is_apart}
 use Rattle.fc_image.specs.Walk.{Object, is_directory_object}
@@ -22,7 +22,7 @@ use Rattle.fc_edits.proofs.lemmas.AddedPlaceLemmas.{is_fresh}
 use Rattle.fc_edits.proofs.lemmas.BesideLemmas.{Beside, IsBeside, fresh_of, is_beside}
 use Rattle.fc_edits.proofs.lemmas.GrowingLemmas as growing
 use Rattle.fc_edits.proofs.lemmas.GrownMemberLemmas as members
-use Rattle.fc_edits.proofs.lemmas.IdentifierLemmas.{either, owns, taken_either}
+use Rattle.fc_edits.proofs.lemmas.IdentifierLemmas.{owns, taken_either}
 use Rattle.fc_edits.proofs.lemmas.NewSpaceLemmas.{new_id_unused}
 use Rattle.fc_edits.proofs.lemmas.ShapeLemmas.{of_one}
 

@@ -7,7 +7,7 @@ use Rattle.fc_image.specs.Walk.{Object}
 use Rattle.fc_image.specs.Objects.{objects_of}
 use Rattle.fc_image.specs.Order.{held}
 use Rattle.fc_tree.specs.Nodes.{number_of}
-use Rattle.fc_tree.proofs.MemberLemmas.{contains_here, contains_later, in_map}
+use Rattle.fc_tree.proofs.MemberLemmas.{contains_here, in_map}
 use Rattle.fc_tree.proofs.WalkedLemmas.{same_some}
 use Rattle.fc_laws.proofs.lemmas.nodes.ListLemmas.{in_first}
 use Rattle.fc_laws.proofs.lemmas.nodes.OtherLemmas.{top_object}
@@ -19,6 +19,7 @@ use Rattle.fc_edits.proofs.lemmas.AroundLemmas.{mapped_same}
 use Rattle.fc_edits.proofs.lemmas.GrowingLemmas.{e, g, gr, h, holds_still, its_kind, its_path, layout, listings, nodes, o_in, other_number, other_turn, path_still, unlike_others}
 use Rattle.fc_edits.proofs.lemmas.ListLemmas.{in_flat}
 use Rattle.fc_edits.proofs.lemmas.NumberLemmas as n_
+use Rattle.fc_image.proofs.EntriesLemmas.{later as contains_later}
 
 module _ (x : EditGrowing) (cut : IsPermutation (x.edit.amended ++ map (told x.edit) x.growing.again) x.growing.others) (at_top : x.growing.o.path ≡ []) where
   abbrev e2 : Edit

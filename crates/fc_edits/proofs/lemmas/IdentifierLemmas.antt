@@ -1,7 +1,7 @@
 -- Objects and the identifiers that they own, and which identifiers get runs.
 use Rattle.std.proofs.Common.{◌≡◌, ◌<◌, ◌≤◌, ◌⊎◌, inl, inr, ⊎_elim, ℕ, suc, ◌+◌, Bool, true, false, cond, List, [], ◌∷◌, ◌++◌, flat_map, length, refl, sym, ap, ap₂, subst, arith, eq-eqb, Some}
 use Rattle.std.specs.Prelude.{Contains, IsPermutation, filter, nat_lt, ◌==◌, ◌&&◌, ◌||◌}
-use Rattle.std.proofs.lemmas.Bool.{eqb-true}
+use Rattle.std.proofs.lemmas.Bool.{eqb-true, or_cases as either, or_from as neither}
 use Rattle.std.proofs.lemmas.List.Sorted.{IsPermutation-cons, IsPermutation-refl, IsPermutation-trans, length_permutation}
 use Rattle.fc_record.specs.declared.Kind.{Kind}
 use Rattle.fc_newmap.specs.Map.{Map, ZoneRun, all_runs, has_id, id_runs, is_used}
@@ -11,19 +11,19 @@ use Rattle.fc_alloc.specs.declared.owner.Owner.{Owner}
 use Rattle.fc_image.specs.Walk.{Listing, Object}
 use Rattle.fc_image.specs.Objects.{has_sectors, is_owner_of, objects_of, owner_count}
 use Rattle.fc_image.specs.effects.Short.{is_alone}
-use Rattle.fc_image.proofs.EntriesLemmas.{in_filter}
+use Rattle.fc_image.proofs.EntriesLemmas.{in_filter, cases as contains_cases}
 use Rattle.fc_image.proofs.HolesLemmas.{in_id}
-use Rattle.fc_image.proofs.OneZoneLemmas.{and_first, and_second}
 use Rattle.fc_image.proofs.ShuffleLemmas.{IsPermutation-filter, flipped}
 use Rattle.fc_tree.specs.declared.node.Node.{Node}
-use Rattle.fc_tree.proofs.MemberLemmas.{contains_cases, no_element}
+use Rattle.fc_tree.proofs.MemberLemmas.{no_element}
 use Rattle.fc_changes.proofs.BasicLemmas.{any_in, clash}
 use Rattle.fc_laws.specs.nodes.Edits.{Nodes}
 use Rattle.fc_laws.specs.agree.Agreed.{AgreeOn}
 use Rattle.fc_laws.proofs.lemmas.agree.BeforeLemmas.{new_facts, object_lies}
-use Rattle.fc_laws.proofs.lemmas.agree.NewPlaceLemmas.{some_there}
 use Rattle.fc_laws.proofs.lemmas.nodes.ListLemmas.{in_other}
 use Rattle.fc_edits.specs.NewPlaces.{Taking, is_taken}
+use Rattle.fc_changes.proofs.NewPlaceLemmas.{owner_id, some_there}
+use Rattle.fc_record.proofs.KindLemmas.{and_first, and_second}
 
 -- ---- lists and tests
 
@@ -58,9 +58,6 @@ pub some_sector : (sectors : List ℕ) → nat_lt 0 (length sectors) ≡ true �
 some_sector [] h = absurd (cc)
 some_sector (s ∷ sectors) h = (s, ap (λ (b : Bool). b || is_among sectors s) (eq-eqb s s refl))
 
-pub owner_id : (k : ℕ) (o : Object) → is_owner_of k o ≡ true → id_of o.entry.address ≡ k
-owner_id k o own = eqb-true (id_of o.entry.address) k (and_second (has_sectors o) (id_of o.entry.address == k) own)
-
 pub taken_either : (xs ys : List Taking) (k : ℕ) → is_taken (xs ++ ys) k ≡ (is_taken xs k || is_taken ys k)
 taken_either [] ys k = refl
 taken_either (t ∷ xs) ys k = by (t.id == k) (taken_either xs ys k)
@@ -68,14 +65,6 @@ taken_either (t ∷ xs) ys k = by (t.id == k) (taken_either xs ys k)
     by : (b : Bool) → is_taken (xs ++ ys) k ≡ (is_taken xs k || is_taken ys k) → (b || is_taken (xs ++ ys) k) ≡ ((b || is_taken xs k) || is_taken ys k)
     by true rest = refl
     by false rest = rest
-
-pub either : (a b : Bool) → (a || b) ≡ true → (a ≡ true) ⊎ (b ≡ true)
-either true b h = inl refl
-either false b h = inr h
-
-pub neither : (a b : Bool) → a ≡ false → b ≡ false → (a || b) ≡ false
-neither true b x y = absurd (cc)
-neither false b x y = y
 
 -- the sectors of one of some objects
 pub among_flat : (os : List Object) (p : Object) (s : ℕ) → Contains os p → is_among p.sectors s ≡ true → is_among (flat_map (λ (q : Object). q.sectors) os) s ≡ true

@@ -9,7 +9,7 @@ use Rattle.fc_image.specs.Objects.{objects_of}
 use Rattle.fc_image.specs.Edits.{Apart}
 use Rattle.fc_image.proofs.HolesLemmas.{apart_at, apart_from}
 use Rattle.fc_tree.specs.Nodes.{number_of}
-use Rattle.fc_tree.proofs.MemberLemmas.{contains_cases, from_flat, in_map, no_element}
+use Rattle.fc_tree.proofs.MemberLemmas.{from_flat, in_map, no_element}
 use Rattle.fc_tree.proofs.SoundLemmas.{root_object}
 use Rattle.fc_tree.proofs.WalkedLemmas.{child_is_object, root, root_path, same_some}
 use Rattle.fc_changes.proofs.BasicLemmas.{clash}
@@ -18,6 +18,7 @@ use Rattle.fc_laws.specs.nodes.Laws.{IsHeld}
 use Rattle.fc_laws.proofs.lemmas.nodes.ListLemmas.{in_first}
 use Rattle.fc_edits.specs.Edit.{Amended, Edit, IsEdit, TopStays, TopTurns, leaving, left_in, numbers, objects}
 use Rattle.fc_edits.specs.Places.{Stays}
+use Rattle.fc_image.proofs.EntriesLemmas.{cases as contains_cases}
 
 -- ---- objects that lie apart
 

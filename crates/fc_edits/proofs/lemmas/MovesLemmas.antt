@@ -15,22 +15,25 @@ use Rattle.fc_image.specs.Objects.{objects_of}
 use Rattle.fc_image.specs.Commanded.{moved_path}
 use Rattle.fc_image.proofs.RelistLemmas.{root_path_stays}
 use Rattle.fc_tree.specs.Nodes.{number_of}
-use Rattle.fc_tree.proofs.MemberLemmas.{contains_here, contains_later, from_flat, from_map, in_map, no_element}
+use Rattle.fc_tree.proofs.MemberLemmas.{contains_here, from_flat, from_map, in_map, no_element}
 use Rattle.fc_tree.proofs.SoundLemmas.{children_stored}
 use Rattle.fc_tree.proofs.WalkedLemmas.{child_is_object, child_path}
 use Rattle.fc_laws.specs.nodes.Edits.{Nodes}
 use Rattle.fc_laws.specs.nodes.Laws.{IsHeld}
 use Rattle.fc_laws.proofs.lemmas.nodes.FitsLemmas.{kid_lower}
-use Rattle.fc_laws.proofs.lemmas.nodes.ListLemmas.{in_first, map_append}
+use Rattle.fc_laws.proofs.lemmas.nodes.ListLemmas.{in_first}
 use Rattle.fc_laws.proofs.lemmas.nodes.MovingLemmas.{moved_step}
 use Rattle.fc_laws.proofs.lemmas.nodes.OtherLemmas.{unlike}
 use Rattle.fc_edits.specs.NewNodes.{AreDistinct, HasNumbers, nodes_after}
 use Rattle.fc_edits.specs.Edit.{Amended, AreEdited, IsAmended, IsEdit, KeepsEntry, joined_in, left_in, numbers, objects}
 use Rattle.fc_edits.specs.Moving.{Moves, Moving, edit, itself, moved, new_path}
-use Rattle.fc_edits.proofs.lemmas.ListLemmas.{flat_append, map_map}
+use Rattle.fc_edits.proofs.lemmas.ListLemmas.{map_map}
 use Rattle.fc_edits.proofs.lemmas.ShapeLemmas.{none_flat, not_own}
 use Rattle.fc_edits.proofs.lemmas.AfterLemmas.{after_law}
 use Rattle.fc_edits.proofs.lemmas.StillLemmas.{IsStill}
+use Rattle.fc_image.proofs.ShuffleLemmas.{flat_map-append as flat_append}
+use Rattle.fc_image.proofs.TreeLemmas.{map_both as map_append}
+use Rattle.fc_image.proofs.EntriesLemmas.{later as contains_later}
 
 module _ (nodes : Nodes) (layout : Layout) (listings : List Listing) (c : Moving) (h : IsHeld nodes layout listings) (g : Moves nodes listings c) where
   pub left_is : left_in (edit c) ≡ (c.number, c.o) ∷ []

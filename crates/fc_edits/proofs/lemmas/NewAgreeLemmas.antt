@@ -2,7 +2,7 @@
 use Rattle.std.proofs.Common.{◌≡◌, ◌<◌, ⊎_elim, ℕ, Bool, true, false, cond, List, [], ◌++◌, length, map, refl, sym, ap, ap₂, subst, ◌∙◌, arith, ◌-◌, ◌*◌, ◌/◌}
 use Rattle.std.specs.Prelude.{Contains, nat_le, nat_lt, ◌==◌, ◌||◌, ◌&&◌}
 use Rattle.std.specs.List.{list_any}
-use Rattle.std.proofs.lemmas.Bool.{leb-true}
+use Rattle.std.proofs.lemmas.Bool.{leb-true, or_right as or_second, false_from_ne_true as unless}
 use Rattle.std.proofs.lemmas.List.Elements.{Contains-append_cases}
 use Rattle.fc_names.specs.declared.name.NameForm.{NameForm}
 use Rattle.fc_names.specs.declared.name.NameForm.TheVariants.{Long, Ten}
@@ -17,10 +17,9 @@ use Rattle.fc_image.specs.Objects.{is_movable, is_owned, is_owner_of, objects_of
 use Rattle.fc_image.specs.Opening.{boot_place, reserved_in}
 use Rattle.fc_image.specs.Edits.{Apart}
 use Rattle.fc_image.proofs.MapEditLemmas.{places_law}
-use Rattle.fc_image.proofs.MoveLemmas.{unless}
 use Rattle.fc_tree.specs.declared.node.Node.{Node}
 use Rattle.fc_tree.proofs.MemberLemmas.{from_map}
-use Rattle.fc_changes.proofs.BasicLemmas.{any_in, clash, in_any, or_cases, or_second}
+use Rattle.fc_changes.proofs.BasicLemmas.{any_in, clash, in_any, or_cases}
 use Rattle.fc_laws.specs.nodes.Edits.{Nodes}
 use Rattle.fc_laws.specs.nodes.Laws.{IsOwned}
 use Rattle.fc_laws.proofs.lemmas.nodes.ListLemmas.{in_first}

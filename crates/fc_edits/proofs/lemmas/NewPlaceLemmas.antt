@@ -2,7 +2,7 @@
 use Rattle.std.proofs.Common.{◌≡◌, ◌<◌, ◌≤◌, inl, inr, ⊎_elim, ℕ, Bool, true, false, cond, List, [], ◌∷◌, ◌++◌, length, refl, sym, ap, ap₂, subst, ◌∙◌, eq-eqb}
 use Rattle.std.specs.Prelude.{Contains, filter, not, nat_le, nat_lt, ◌==◌, ◌&&◌, ◌||◌}
 use Rattle.std.specs.List.{list_any}
-use Rattle.std.proofs.lemmas.Bool.{cases_eq, eqb-true, leb-false}
+use Rattle.std.proofs.lemmas.Bool.{cases_eq, eqb-true, leb-false, false_from_ne_true as unless, or_right as or_second, or_parts as neither}
 use Rattle.std.proofs.lemmas.List.Elements.{Contains-append_cases, Contains-append_right}
 use Rattle.fc_record.specs.declared.Geometry.{Geometry}
 use Rattle.fc_record.specs.declared.Kind.{Kind}
@@ -24,9 +24,9 @@ use Rattle.fc_image.specs.effects.Steady.{is_given_back}
 use Rattle.fc_image.proofs.HolesLemmas.{apart_from, in_id, loose_sectors, none_loose}
 use Rattle.fc_image.proofs.MapEditLemmas.{places_law}
 use Rattle.fc_tree.specs.declared.node.Node.{Node}
-use Rattle.fc_tree.proofs.MemberLemmas.{contains_here, contains_later, from_map}
+use Rattle.fc_tree.proofs.MemberLemmas.{contains_here, from_map}
 use Rattle.fc_plan.specs.Giving.{is_one_of}
-use Rattle.fc_changes.proofs.BasicLemmas.{any_in, clash, not_zero, or_second, unless}
+use Rattle.fc_changes.proofs.BasicLemmas.{any_in, clash, not_zero}
 use Rattle.fc_changes.proofs.ChangeLemmas.{a_sector}
 use Rattle.fc_changes.proofs.OutsideLemmas.{low_owned}
 use Rattle.fc_changes.proofs.SpaceLemmas.{still_owned}
@@ -35,21 +35,15 @@ use Rattle.fc_laws.specs.nodes.Laws.{IsHeld}
 use Rattle.fc_laws.specs.agree.Agreed.{AgreeOn}
 use Rattle.fc_laws.proofs.lemmas.nodes.ListLemmas.{in_other}
 use Rattle.fc_laws.proofs.lemmas.agree.BeforeLemmas.{had, new_facts, new_shape, object_lies, sound, tight}
-use Rattle.fc_laws.proofs.lemmas.agree.NewPlaceLemmas.{some_there}
 use Rattle.fc_edits.specs.Edit.{Edit, IsEdit, joining, leaving, objects}
 use Rattle.fc_edits.specs.Places.{ApartPairs, PlacesFit, Stays}
 use Rattle.fc_edits.proofs.lemmas.LeavingLemmas.{left_among, left_apart, left_other}
 use Rattle.fc_edits.specs.NewPlaces.{ApartInOne, GivesBack, HasPlaceOf, IsSpaceChange, LiesAgain, NewPlaces, NewPlacesLaw, Taking, is_taken}
+use Rattle.fc_image.proofs.MoveLemmas.{id_of_run as same_id}
+use Rattle.fc_changes.proofs.NewPlaceLemmas.{some_there}
+use Rattle.fc_image.proofs.EntriesLemmas.{later as contains_later}
 
 -- ---- tests and lists
-
-pub neither : (a b : Bool) → (a || b) ≡ false → (a ≡ false) × (b ≡ false)
-neither true b h = absurd (cc)
-neither false b h = (refl, h)
-
-pub same_id : (a b : ℕ) (kind : RunKind) → has_id a kind ≡ true → has_id b kind ≡ true → a ≡ b
-same_id a b kinds.Hole x y = absurd (cc)
-same_id a b (kinds.Id c) x y = sym (eqb-true c a x) ∙ eqb-true c b y
 
 -- a run that is neither a hole nor movable
 pub stuck : (objects : List Object) (kind : RunKind) → is_hole_or_movable objects kind ≡ false → (k : ℕ) × (has_id k kind ≡ true) × (is_movable objects k ≡ false)

@@ -13,9 +13,7 @@ use Rattle.fc_newmap.proofs.PlaceLemmas.{id_run_in}
 use Rattle.fc_image.specs.Layout.{id_of, low_of}
 use Rattle.fc_image.specs.Walk.{Object, is_directory_object}
 use Rattle.fc_image.specs.Objects.{has_sectors, is_owner_of}
-use Rattle.fc_image.proofs.EntriesLemmas.{in_filter, in_mapped}
-use Rattle.fc_image.proofs.MoveLemmas.{not_true}
-use Rattle.fc_image.proofs.OneZoneLemmas.{and_first, and_second}
+use Rattle.fc_image.proofs.EntriesLemmas.{in_filter, in_mapped, cases as contains_cases}
 use Rattle.fc_image.specs.effects.Sharing.{Holding, holding_of, holdings_in, is_shareable, is_spare, may_share_with, new_ids, shares, slack, slack_among, units}
 use Rattle.fc_image.specs.effects.Placed.{IsNewId, IsTaken, StandsInNewSpace, first_low, holes_left}
 use Rattle.fc_plan.specs.Taking.{as_runs, with_id}
@@ -25,10 +23,12 @@ use Rattle.fc_plan.proofs.Ordered.{taken_in_order}
 use Rattle.fc_plan.proofs.Plans.{rising_apart}
 use Rattle.fc_plan.proofs.Shorts.{are_new_ids}
 use Rattle.fc_plan.proofs.Units.{units_some}
-use Rattle.fc_tree.proofs.MemberLemmas.{contains_cases, contains_here, no_element}
+use Rattle.fc_tree.proofs.MemberLemmas.{contains_here, no_element}
 use Rattle.fc_changes.specs.Changed.{IsInNewSpace}
 use Rattle.fc_changes.proofs.BasicLemmas.{any_in}
 use Rattle.fc_changes.proofs.PlacedLemmas.{filter_test, found_in}
+use Rattle.std.proofs.lemmas.Bool.{not-true as not_true}
+use Rattle.fc_record.proofs.KindLemmas.{and_first, and_second}
 
 -- ---- in new space
 

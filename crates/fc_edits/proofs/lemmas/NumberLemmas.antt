@@ -15,20 +15,24 @@ use Rattle.fc_image.specs.Sound.{AreSound}
 use Rattle.fc_image.proofs.PathsLemmas.{is_at, itself, listed_few, many}
 use Rattle.fc_tree.specs.declared.node.Node.{Node}
 use Rattle.fc_tree.specs.Nodes.{number_of}
-use Rattle.fc_tree.proofs.MemberLemmas.{contains_cases, contains_here, from_flat, from_map, in_filter, in_map, many_permuted, no_element}
+use Rattle.fc_tree.proofs.MemberLemmas.{contains_here, from_flat, from_map, in_filter, in_map, many_permuted, no_element}
 use Rattle.fc_tree.proofs.WalkedLemmas.{root, root_and_held, given, few_objects, child_is_object, listed_directory, root_path}
-use Rattle.fc_tree.proofs.SoundLemmas.{root_object, root_or_child, same_by_folds}
+use Rattle.fc_tree.proofs.SoundLemmas.{root_object, root_or_child}
 use Rattle.fc_tree.proofs.PlaceLemmas.{one_path}
 use Rattle.fc_laws.specs.nodes.Edits.{Nodes}
 use Rattle.fc_laws.specs.nodes.Laws.{IsHeld}
 use Rattle.fc_laws.proofs.lemmas.nodes.ShapeLemmas.{some_mapped}
 use Rattle.fc_laws.proofs.lemmas.nodes.FitsLemmas.{fits, kid_at, kid_lower, one_number}
-use Rattle.fc_laws.proofs.lemmas.nodes.ListLemmas.{in_first, in_other, map_append}
+use Rattle.fc_laws.proofs.lemmas.nodes.ListLemmas.{in_first, in_other}
 use Rattle.fc_laws.proofs.lemmas.nodes.OtherLemmas.{all_objects}
 use Rattle.fc_edits.specs.NodesEdit.{NodesEdit}
 use Rattle.fc_edits.specs.Lookups.{held_as, held_by}
 use Rattle.fc_edits.specs.Edit.{Amended, AreEdited, Edit, IsEdit, TopStays, TopTurns, joined_in, joining, leaving, left_in, numbers, objects, turned}
-use Rattle.fc_edits.proofs.lemmas.ListLemmas.{few_second, flat_append, flat_mapped, in_flat, is_in, map_flat, parted, two_apart}
+use Rattle.fc_edits.proofs.lemmas.ListLemmas.{few_second, flat_mapped, in_flat, is_in, map_flat, parted, two_apart}
+use Rattle.fc_image.proofs.ShuffleLemmas.{flat_map-append as flat_append}
+use Rattle.fc_image.proofs.TreeLemmas.{map_both as map_append}
+use Rattle.fc_image.proofs.EntriesLemmas.{cases as contains_cases}
+use Rattle.fc_image.proofs.CommandLemmas.{same_by_folds}
 
 -- of one path there is at most one directory
 pub few_listings : (layout : Layout) (listings : List Listing) (sound : AreSound layout listings) (path : Path) → many (λ (k : Listing). is_at path k.object) listings ≤ 1

@@ -10,7 +10,7 @@ use Rattle.fc_image.specs.Walk.{Listing, Object}
 use Rattle.fc_image.specs.Objects.{is_owned, is_owner_of, objects_of}
 use Rattle.fc_image.specs.Sound.{AreSound}
 use Rattle.fc_image.proofs.PathsLemmas.{many, many-append}
-use Rattle.fc_tree.proofs.MemberLemmas.{contains_here, contains_later, from_map, in_map, many_permuted, some_many}
+use Rattle.fc_tree.proofs.MemberLemmas.{contains_here, from_map, in_map, many_permuted, some_many}
 use Rattle.fc_changes.proofs.BasicLemmas.{any_in, in_any}
 use Rattle.fc_laws.proofs.lemmas.nodes.ListLemmas.{in_first, in_other}
 use Rattle.fc_edits.specs.Edit.{joining, leaving, listings_after, objects}
@@ -18,13 +18,10 @@ use Rattle.fc_edits.specs.PartsEdit.{PartsEdit}
 use Rattle.fc_edits.specs.Places.{Stays}
 use Rattle.fc_edits.proofs.lemmas.AgreeLemmas as ag
 use Rattle.fc_edits.proofs.lemmas.OwnerLemmas.{objects_now}
+use Rattle.fc_image.proofs.CommandLemmas.{both_ways as same_bool}
+use Rattle.fc_image.proofs.EntriesLemmas.{later as contains_later}
 
 -- ---- tests and lists
-
-same_bool : (a b : Bool) → (a ≡ true → b ≡ true) → (b ≡ true → a ≡ true) → a ≡ b
-same_bool true b there back = sym (there refl)
-same_bool false true there back = back refl
-same_bool false false there back = refl
 
 from_many : {X : Type 0} (t : X → Bool) (xs : List X) → 1 ≤ many t xs → (x : X) × Contains xs x × (t x ≡ true)
 unfolding many

@@ -14,21 +14,23 @@ use Rattle.fc_image.specs.Order.{held}
 use Rattle.fc_image.specs.Sound.{AreSound}
 use Rattle.fc_tree.specs.Nodes.{number_of}
 use Rattle.fc_tree.specs.Parts.{AreOwners, first_in, owner_of}
-use Rattle.fc_tree.proofs.MemberLemmas.{contains_cases, contains_here, contains_later, from_flat, from_map, in_map, no_element}
+use Rattle.fc_tree.proofs.MemberLemmas.{contains_here, from_flat, from_map, in_map, no_element}
 use Rattle.fc_tree.proofs.WalkedLemmas.{child_is_object, child_path, holder-push, place_of, root_path}
 use Rattle.fc_laws.specs.nodes.Edits.{Nodes, OwnersEdited, OwnersFollow, owner_with, owners_with}
 use Rattle.fc_laws.specs.nodes.Laws.{IsHeld, IsOwned}
 use Rattle.fc_laws.proofs.lemmas.nodes.FitsLemmas.{fits, kid_lower, not_pushed}
-use Rattle.fc_laws.proofs.lemmas.nodes.ListLemmas.{cut_at, in_first, map_append}
+use Rattle.fc_laws.proofs.lemmas.nodes.ListLemmas.{cut_at, in_first}
 use Rattle.fc_laws.proofs.lemmas.nodes.OwnerLemmas.{KeepsOwner, among-append, among_one, among_permuted, found_objects, keeps_owner, owner_known, owners_among, owners_edited}
 use Rattle.fc_edits.specs.NodesEdit.{NodesEdit, NodesLaw}
 use Rattle.fc_edits.specs.Edit.{Amended, AreEdited, Edit, IsEdit, TopStays, TopTurns, joined_in, joining, leaving, left_in, listings_after, now, objects, owners_in, owners_joined, owners_left, still, turned}
 use Rattle.fc_edits.proofs.lemmas.NumberLemmas as n_
 use Rattle.fc_edits.proofs.lemmas.PathNumberLemmas as paths
 use Rattle.fc_edits.proofs.lemmas.FollowLemmas.{held_now, nodes_follow}
+use Rattle.fc_image.proofs.TreeLemmas.{map_both as map_append}
+use Rattle.fc_image.proofs.EntriesLemmas.{later as contains_later, cases as contains_cases}
 
 -- the owners among objects that are numbered
-among_list : (nodes : Nodes) (layout : Layout) (dir : ℕ) (ps : List (ℕ × Object)) → ((p : ℕ × Object) → Contains ps p → owner_of nodes layout p.1 ≡ owner_with layout dir p.0 p.1)
+pub among_list : (nodes : Nodes) (layout : Layout) (dir : ℕ) (ps : List (ℕ × Object)) → ((p : ℕ × Object) → Contains ps p → owner_of nodes layout p.1 ≡ owner_with layout dir p.0 p.1)
     → owners_among nodes layout (objects ps) ≡ owners_in layout dir ps
 among_list nodes layout dir [] each = refl
 among_list nodes layout dir (p ∷ ps) each =

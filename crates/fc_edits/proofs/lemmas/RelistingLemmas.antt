@@ -9,12 +9,12 @@ use Rattle.fc_image.specs.Order.{held, listed}
 use Rattle.fc_image.specs.EditedWalk.{IsRelisting}
 use Rattle.fc_laws.specs.nodes.Edits.{Nodes}
 use Rattle.fc_laws.specs.nodes.Laws.{IsHeld}
-use Rattle.fc_laws.proofs.lemmas.nodes.ListLemmas.{map_append}
 use Rattle.fc_edits.specs.NodesEdit.{NodesEdit}
 use Rattle.fc_edits.specs.Edit.{Amended, AreEdited, Edit, IsEdit, joined_in, left_in, listings_after, now, objects, still, turned}
 use Rattle.fc_edits.proofs.lemmas.ListLemmas.{map_map}
 use Rattle.fc_edits.proofs.lemmas.NumberLemmas as n_
 use Rattle.fc_edits.proofs.lemmas.FollowLemmas.{held_stay_now, no_children}
+use Rattle.fc_image.proofs.TreeLemmas.{map_both as map_append}
 
 -- ---- the edit of the listings
 

@@ -12,7 +12,7 @@ use Rattle.fc_tree.specs.Agree.{HasForm}
 use Rattle.fc_tree.specs.Nodes.{number_of}
 use Rattle.fc_tree.specs.Parts.{AreOwners, first_in}
 use Rattle.fc_tree.proofs.MemberLemmas.{contains_here, no_element}
-use Rattle.fc_tree.proofs.WalkedLemmas.{apart_names, child_is_object, child_path}
+use Rattle.fc_tree.proofs.WalkedLemmas.{child_is_object, child_path}
 use Rattle.fc_laws.specs.nodes.Edits.{Nodes, OwnersEdited, owners_with}
 use Rattle.fc_laws.specs.nodes.Laws.{IsHeld}
 use Rattle.fc_laws.specs.agree.Agreed.{CanSay}
@@ -31,6 +31,7 @@ use Rattle.fc_edits.proofs.lemmas.OldPlaceLemmas.{old_fit}
 use Rattle.fc_edits.proofs.lemmas.OwnerLemmas.{owners_stay}
 use Rattle.fc_edits.proofs.lemmas.ShapeLemmas.{kids_unlike, of_one}
 use Rattle.fc_edits.proofs.lemmas.StillLemmas.{IsStill, still_new, still_old}
+use Rattle.fc_tree.proofs.EndLemmas.{no_twin as apart_names}
 
 module _ (nodes : Nodes) (layout : Layout) (listings : List Listing) (c : Rewording) (h : IsHeld nodes layout listings) (d : IsReworded nodes layout listings c) where
   pub l_in : Contains listings c.l

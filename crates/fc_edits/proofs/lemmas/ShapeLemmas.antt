@@ -12,7 +12,7 @@ use Rattle.fc_image.specs.Sound.{AreSound}
 use Rattle.fc_image.proofs.PathsLemmas.{has_that, itself, many, names_once}
 use Rattle.fc_image.proofs.RelistLemmas.{folded_long}
 use Rattle.fc_tree.specs.Nodes.{number_of}
-use Rattle.fc_tree.proofs.MemberLemmas.{contains_cases, contains_here, contains_later, many_mapped, many_permuted, no_element}
+use Rattle.fc_tree.proofs.MemberLemmas.{contains_here, many_mapped, many_permuted, no_element}
 use Rattle.fc_tree.proofs.NumberLemmas.{own_name}
 use Rattle.fc_tree.proofs.SoundLemmas.{children_stored, same_object}
 use Rattle.fc_tree.proofs.WalkedLemmas.{child_is_object, child_path}
@@ -20,9 +20,10 @@ use Rattle.fc_tree.proofs.PlaceLemmas.{one_path}
 use Rattle.fc_laws.specs.nodes.Edits.{Nodes}
 use Rattle.fc_laws.specs.nodes.Laws.{IsHeld}
 use Rattle.fc_laws.proofs.lemmas.nodes.ListLemmas.{in_first, map_fixed}
-use Rattle.fc_changes.proofs.BasicLemmas.{unless}
 use Rattle.fc_edits.specs.Edit.{Amended}
 use Rattle.fc_edits.proofs.lemmas.ListLemmas.{two_apart}
+use Rattle.std.proofs.lemmas.Bool.{false_from_ne_true as unless}
+use Rattle.fc_image.proofs.EntriesLemmas.{later as contains_later, cases as contains_cases}
 
 -- the element of a list of one
 pub only : {X : Type 0} (x y : X) → Contains (x ∷ []) y → x ≡ y

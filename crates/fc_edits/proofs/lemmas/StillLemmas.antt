@@ -24,7 +24,7 @@ use Rattle.fc_tree.specs.declared.node.Node.{Node}
 use Rattle.fc_tree.proofs.MemberLemmas.{contains_here, no_element}
 use Rattle.fc_tree.proofs.WalkedLemmas.{place_of}
 use Rattle.fc_plan.specs.Giving.{is_one_of}
-use Rattle.fc_changes.proofs.BasicLemmas.{clash, unless}
+use Rattle.fc_changes.proofs.BasicLemmas.{clash}
 use Rattle.fc_laws.specs.nodes.Edits.{Nodes}
 use Rattle.fc_laws.specs.agree.Agreed.{AgreeOn}
 use Rattle.fc_laws.proofs.lemmas.nodes.ListLemmas.{cut_at}
@@ -37,6 +37,8 @@ use Rattle.fc_edits.specs.OldPlaces.{OldLiesAgain, OldPlaces, with_holes}
 use Rattle.fc_edits.specs.Places.{ApartPairs}
 use Rattle.fc_edits.proofs.lemmas.NewPlaceLemmas.{owner_same}
 use Rattle.fc_edits.proofs.lemmas.ShapeLemmas.{only}
+use Rattle.std.proofs.lemmas.Bool.{false_from_ne_true as unless}
+use Rattle.fc_laws.proofs.lemmas.agree.MapLemmas.{no_id as no_run}
 
 -- Object o, of number n, becomes x, in its place.
 pub record IsStill (listings : List Listing) (e : Edit) (n : ℕ) (o x : Object) : Type 0 where
@@ -49,10 +51,6 @@ pub record IsStill (listings : List Listing) (e : Edit) (n : ℕ) (o x : Object)
   pub attrs : is_directory x.entry.attrs ≡ is_directory o.entry.attrs
 
 -- ---- a map that stays
-
-no_run : (k : RunKind) → has_id_that (is_one_of []) k ≡ false
-no_run kinds.Hole = refl
-no_run (kinds.Id k) = refl
 
 none_back : (runs : List ZoneRun) → filter (λ (p : ZoneRun). has_id_that (is_one_of []) p.1.kind) runs ≡ []
 none_back [] = refl

@@ -9,9 +9,8 @@ use Rattle.fc_image.specs.Walk.{Listing}
 use Rattle.fc_image.proofs.PathsLemmas.{is_at, itself, many}
 use Rattle.fc_tree.specs.declared.node.Body.{Body}
 use Rattle.fc_tree.specs.Nodes.{body_in, number_of}
-use Rattle.fc_tree.proofs.MemberLemmas.{contains_cases, contains_here, contains_later, from_map, in_map, many_permuted, no_element}
+use Rattle.fc_tree.proofs.MemberLemmas.{contains_here, from_map, in_map, many_permuted, no_element}
 use Rattle.fc_tree.proofs.PlaceLemmas.{one_path}
-use Rattle.fc_tree.proofs.SoundLemmas.{same_by_folds}
 use Rattle.fc_laws.specs.nodes.Edits.{Nodes, with_body}
 use Rattle.fc_laws.specs.nodes.Laws.{IsHeld}
 use Rattle.fc_laws.proofs.lemmas.nodes.ShapeLemmas.{body_held, body_other, body_said, edited_length}
@@ -20,6 +19,8 @@ use Rattle.fc_edits.specs.Edit.{Amended, Edit, IsEdit}
 use Rattle.fc_edits.specs.NewNodes.{tell}
 use Rattle.fc_edits.proofs.lemmas.ListLemmas.{few_second, two_apart}
 use Rattle.fc_edits.proofs.lemmas.NumberLemmas.{few_listings}
+use Rattle.fc_image.proofs.EntriesLemmas.{later as contains_later, cases as contains_cases}
+use Rattle.fc_image.proofs.CommandLemmas.{same_by_folds}
 
 pub tell_held : (bs : List Amended) (nodes : Nodes) (m : ℕ) → held_as (tell bs nodes) m ≡ held_as nodes m
 tell_held [] nodes m = refl

@@ -13,9 +13,8 @@ use Rattle.fc_image.specs.Objects.{objects_of}
 use Rattle.fc_image.proofs.RelistLemmas.{prefix_long}
 use Rattle.fc_tree.specs.Nodes.{number_of}
 use Rattle.fc_tree.specs.Parts.{AreOwners}
-use Rattle.fc_tree.proofs.MemberLemmas.{contains_cases, contains_here, contains_later, no_element}
-use Rattle.fc_tree.proofs.WalkedLemmas.{apart_names, child_path}
-use Rattle.fc_changes.proofs.BasicLemmas.{unless}
+use Rattle.fc_tree.proofs.MemberLemmas.{contains_here, no_element}
+use Rattle.fc_tree.proofs.WalkedLemmas.{child_path}
 use Rattle.fc_laws.specs.nodes.Edits.{Nodes, OwnersEdited, owners_with}
 use Rattle.fc_laws.specs.nodes.Laws.{IsHeld}
 use Rattle.fc_laws.specs.agree.Agreed.{CanSay}
@@ -26,6 +25,9 @@ use Rattle.fc_edits.specs.Moving.{IsMoving, Moves, Moving, edit, itself, moved, 
 use Rattle.fc_edits.specs.Transfer.{IsRenaming, IsTransfer, RenameLaw, Renames, Renaming, Transfer, Transfers, from_it, renaming_of, to_it, transfer_of, within}
 use Rattle.fc_edits.proofs.lemmas.OwnerLemmas.{owners_stay}
 use Rattle.fc_edits.proofs.lemmas.ShapeLemmas.{none_flat, of_one}
+use Rattle.std.proofs.lemmas.Bool.{false_from_ne_true as unless}
+use Rattle.fc_image.proofs.EntriesLemmas.{later as contains_later, cases as contains_cases}
+use Rattle.fc_tree.proofs.EndLemmas.{no_twin as apart_names}
 
 -- what the directory says that an object joins is at its own path, which stays
 joins_path : (c : Moving) → is_prefix (folded_path c.o.path) (folded_path c.l.object.path) ≡ false → (moved c c.o).path ≡ (moved c c.l.object).path ++ (moved c c.o).entry.name ∷ []

@@ -31,7 +31,7 @@ use Rattle.fc_tree.specs.Nodes.{HasNode, HoldObjects, body_in, body_of}
 use Rattle.fc_tree.specs.Parts.{AreOwners, ArePartsOf}
 use Rattle.fc_tree.proofs.FindLemmas.{object_of_number}
 use Rattle.fc_tree.proofs.HeldLemmas.{nodes_law}
-use Rattle.fc_tree.proofs.MemberLemmas.{contains_here, contains_later, from_map, in_filter}
+use Rattle.fc_tree.proofs.MemberLemmas.{contains_here, from_map, in_filter}
 use Rattle.fc_tree.proofs.WalkedLemmas.{directories_listed, listed_directory, listing_found, same_some, sound_law}
 use Rattle.fc_oldchanges.proofs.BeforeLemmas.{Walked, opened_as, parts}
 use Rattle.fc_laws.specs.nodes.Edits.{Nodes}
@@ -40,10 +40,11 @@ use Rattle.fc_laws.proofs.lemmas.agree.WalkedLemmas as on_any
 use Rattle.fc_laws.proofs.lemmas.takeover.KindLemmas.{new_kind}
 use Rattle.fc_oldlaws.specs.agree.Laws.{AgreeOn as OldAgreeOn, parts_with as old_parts_with}
 use Rattle.fc_edits.specs.Views.{ViewLaw}
+use Rattle.fc_image.proofs.EntriesLemmas.{later as contains_later}
 
 -- ---- one directory of each
 
-one_content : (a b : Directory) → body_in a ≡ body_in b → a ≡ b
+pub one_content : (a b : Directory) → body_in a ≡ body_in b → a ≡ b
 one_content (Directory.Small a) (Directory.Small b) e = cc
 one_content (Directory.Small a) (Directory.Big b) e = absurd (cc)
 one_content (Directory.Big a) (Directory.Small b) e = absurd (cc)

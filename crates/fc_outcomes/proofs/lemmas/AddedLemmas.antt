@@ -2,7 +2,7 @@
 use Rattle.std.proofs.Common.{◌≡◌, ◌<◌, ◌≤◌, inl, inr, ⊎_elim, ℕ, ◌*◌, Bool, true, false, cond, List, [], ◌∷◌, length, map, refl, sym, ap, ap₂, subst, ◌∙◌, arith, Some, None, Option}
 use Rattle.std.specs.Prelude.{Contains, IsPermutation, is_some, nat_lt, ◌==◌, ◌||◌}
 use Rattle.std.specs.Option.{option_map_or}
-use Rattle.std.proofs.lemmas.Bool.{eqb-true, lt-ltb}
+use Rattle.std.proofs.lemmas.Bool.{eqb-true, lt-ltb, false_from_ne_true as unless}
 use Rattle.fc_names.specs.Names.{Path, is_directory}
 use Rattle.fc_names.specs.declared.name.NameForm.{NameForm}
 use Rattle.fc_record.specs.declared.Geometry.{Geometry}
@@ -25,9 +25,9 @@ use Rattle.fc_image.specs.effects.Steady.{NewDirectory}
 use Rattle.fc_image.proofs.CommandLemmas.{command_law}
 use Rattle.fc_plan.proofs.Left.{left_of_none}
 use Rattle.fc_plan.proofs.Units.{units_some}
-use Rattle.fc_tree.proofs.MemberLemmas.{contains_here, contains_later}
+use Rattle.fc_tree.proofs.MemberLemmas.{contains_here}
 use Rattle.fc_changes.specs.Changed.{IsFileAt, IsInNewSpace}
-use Rattle.fc_changes.proofs.BasicLemmas.{clash, map_or_none, unless}
+use Rattle.fc_changes.proofs.BasicLemmas.{clash, map_or_none}
 use Rattle.fc_changes.proofs.ChangeLemmas.{a_sector}
 use Rattle.fc_changes.proofs.DirectoriesLemmas.{moved_none}
 use Rattle.fc_changes.proofs.OutsideLemmas.{object_owns}
@@ -36,7 +36,6 @@ use Rattle.fc_changes.proofs.PlacedLemmas.{high, id_is, is_shared, same_bits, sa
 use Rattle.fc_changes.proofs.SpaceLemmas.{untaken_is}
 use Rattle.fc_laws.specs.nodes.Laws.{IsHeld}
 use Rattle.fc_laws.proofs.lemmas.agree.BeforeLemmas.{new_shape}
-use Rattle.fc_laws.proofs.lemmas.agree.DirectoryAddedLemmas.{size_of_new}
 use Rattle.fc_edits.specs.Addition.{ComesAlone, NewAddition, edit, leaves, over_it}
 use Rattle.fc_edits.specs.Placing.{takings_of}
 use Rattle.fc_edits.specs.Edit.{listings_after, objects}
@@ -54,6 +53,8 @@ use Rattle.fc_outcomes.proofs.lemmas.JoinedLemmas as joined
 use Rattle.fc_outcomes.proofs.lemmas.JoinedLemmas.{Makes, makes_directory, makes_file}
 use Rattle.fc_outcomes.proofs.lemmas.NewImageLemmas as new_image
 use Rattle.fc_outcomes.proofs.lemmas.PutLemmas.{directory_bytes}
+use Rattle.fc_changes.proofs.CdirLemmas.{size_of_new}
+use Rattle.fc_image.proofs.EntriesLemmas.{later as contains_later}
 
 -- what is left when something is taken for one identifier
 pub untaken_one : (holes : List ZoneRun) (id : ℕ) (parts : List ZoneRun) → untaken holes (takings_of id parts) ≡ holes_left holes parts

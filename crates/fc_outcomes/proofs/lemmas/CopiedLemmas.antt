@@ -2,7 +2,7 @@
 use Rattle.std.proofs.Common.{◌≡◌, ◌<◌, inl, inr, ⊎_elim, ℕ, ◌*◌, Bool, true, false, cond, ◌||◌, List, [], ◌∷◌, refl, sym, ap, ap₂, subst, ◌∙◌, Option, Some, None}
 use Rattle.std.specs.Prelude.{Contains, IfSome, IsSomeAnd, nat_lt, ◌≤◌}
 use Rattle.std.specs.Option.{option_map_or}
-use Rattle.std.proofs.lemmas.Bool.{lt-ltb}
+use Rattle.std.proofs.lemmas.Bool.{lt-ltb, false_from_ne_true as unless}
 use Rattle.fc_names.specs.Names.{Path, is_same_path}
 use Rattle.fc_names.specs.declared.name.NameForm.{NameForm}
 use Rattle.fc_record.specs.declared.Geometry.{Geometry}
@@ -27,9 +27,9 @@ use Rattle.fc_image.proofs.PathsLemmas.{is_at, itself}
 use Rattle.fc_image.proofs.RenameLemmas.{last_pushed, moved_itself}
 use Rattle.fc_plan.proofs.Units.{units_some}
 use Rattle.fc_tree.specs.Nodes.{number_of}
-use Rattle.fc_tree.proofs.MemberLemmas.{contains_cases, contains_here, contains_later, many_permuted, no_element}
+use Rattle.fc_tree.proofs.MemberLemmas.{contains_here, many_permuted, no_element}
 use Rattle.fc_tree.proofs.WalkedLemmas.{listed_directory}
-use Rattle.fc_changes.proofs.BasicLemmas.{clash, map_or_none, unless}
+use Rattle.fc_changes.proofs.BasicLemmas.{clash, map_or_none}
 use Rattle.fc_changes.proofs.ChangeLemmas.{a_sector}
 use Rattle.fc_changes.proofs.DirectoriesLemmas.{entries_now, moved_none, no_new_holder}
 use Rattle.fc_changes.proofs.MadeLemmas.{file_low_small, stands_new}
@@ -67,6 +67,7 @@ use Rattle.fc_outcomes.proofs.lemmas.PutLemmas.{directory_bytes}
 use Rattle.fc_outcomes.proofs.lemmas.RenamePathLemmas.{after_same, edited_by, kept_name, named_rename, other_of, turned_other}
 use Rattle.fc_outcomes.proofs.lemmas.SteadyLemmas.{holder_still, unnamed}
 use Rattle.fc_outcomes.proofs.lemmas.WordLemmas.{same_length}
+use Rattle.fc_image.proofs.EntriesLemmas.{later as contains_later, cases as contains_cases}
 
 module _ (x : NewCopying) (from to : Path) (k_bytes l_bytes stored image image' : List ℕ) (w : CopyingWritten x from to k_bytes l_bytes stored image image') where
   abbrev c : Copying

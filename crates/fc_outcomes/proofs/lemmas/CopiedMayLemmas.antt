@@ -11,7 +11,6 @@ use Rattle.fc_image.specs.Stays.{OpensAs}
 use Rattle.fc_image.specs.effects.Placed.{file_low}
 use Rattle.fc_image.specs.effects.Steady.{has_grown, has_new_holder, holds_named, is_renamed_by, may_be_rewritten}
 use Rattle.fc_tree.proofs.WalkedLemmas.{child_path}
-use Rattle.fc_changes.proofs.BasicLemmas.{or_left, or_second}
 use Rattle.fc_changes.proofs.MadeLemmas.{file_low_small}
 use Rattle.fc_changes.proofs.ReadsLemmas.{lies_in}
 use Rattle.fc_laws.specs.nodes.Laws.{IsHeld}
@@ -20,6 +19,7 @@ use Rattle.fc_laws.proofs.lemmas.takeover.ApartLemmas.{places_law}
 use Rattle.fc_edits.specs.Copying.{NewCopying, copied}
 use Rattle.fc_edits.proofs.lemmas.CopyingLemmas as memory
 use Rattle.fc_outcomes.specs.Copying.{IsToCopy, new_view}
+use Rattle.std.proofs.lemmas.Bool.{or_left, or_right as or_second}
 
 module _ (x : NewCopying) (from to : Path) (its : IsToCopy x from to) where
   abbrev command : Command

@@ -11,12 +11,12 @@ use Rattle.fc_image.proofs.PathsLemmas.{itself}
 use Rattle.fc_image.proofs.RelistLemmas.{root_path_stays}
 use Rattle.fc_tree.proofs.SoundLemmas.{root_or_child, same_object}
 use Rattle.fc_tree.proofs.WalkedLemmas.{child_path, listed_directory, root, root_path}
-use Rattle.fc_changes.proofs.BasicLemmas.{unless}
 use Rattle.fc_laws.specs.nodes.Edits.{Nodes}
 use Rattle.fc_laws.specs.nodes.Laws.{IsHeld}
 use Rattle.fc_laws.proofs.lemmas.nodes.MovingLemmas.{moved_step}
 use Rattle.fc_edits.specs.Copying.{Copies, Copying, new_path}
 use Rattle.fc_edits.proofs.lemmas.CopiesLemmas as c_
+use Rattle.std.proofs.lemmas.Bool.{false_from_ne_true as unless}
 
 module _ (nodes : Nodes) (layout : Layout) (listings : List Listing) (c : Copying) (h : IsHeld nodes layout listings) (g : Copies nodes listings c) where
   pub dir_other : (k : Listing) → Contains listings k → is_same_path c.o.path k.object.path ≡ false

@@ -61,7 +61,7 @@ use Rattle.fc_outcomes.proofs.lemmas.PutLemmas.{directory_bytes}
 use Rattle.fc_outcomes.proofs.lemmas.SteadyLemmas.{holder_same, plain_asks, unnamed, written_asks}
 
 -- what goes stood at the path
-goes_at : (path : Path) (out : List Listing) (o : Object) → GoesAlone out o → is_same_path path o.path ≡ true → (k : Listing) → Contains out k → is_same_path path k.object.path ≡ true
+pub goes_at : (path : Path) (out : List Listing) (o : Object) → GoesAlone out o → is_same_path path o.path ≡ true → (k : Listing) → Contains out k → is_same_path path k.object.path ≡ true
 goes_at path [] o alone same k at = absurd (no_element k at)
 goes_at path (d ∷ []) o alone same k at =
     ap (λ (x : Listing). is_same_path path x.object.path) (sym (only d k at)) ∙ ap (λ (x : Object). is_same_path path x.path) alone.0 ∙ same

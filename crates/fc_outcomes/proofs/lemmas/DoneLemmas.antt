@@ -37,7 +37,8 @@ use Rattle.fc_edits.proofs.lemmas.NewAgreeLemmas.{agree_law}
 use Rattle.fc_edits.proofs.lemmas.RelistingLemmas.{kept as relisted_kept}
 use Rattle.fc_outcomes.specs.Written.{IsEditWritten, KeepsPaths, MovesPaths}
 use Rattle.fc_outcomes.specs.Done.{IsDone, view_before}
-use Rattle.fc_outcomes.proofs.lemmas.OpenedLemmas.{Had, had, stays_listed}
+use Rattle.fc_outcomes.proofs.lemmas.OpenedLemmas.{Had, had}
+use Rattle.fc_image.proofs.MapEditLemmas.{stays_listed}
 
 module _ (mem : PartsEdit) (image image' : List ℕ) (opens : OpensAs image mem.kind (view_before mem)) (w : IsEditWritten image image' mem.layout mem.layout' mem.nodes mem.listings mem.edit) where
   abbrev pub kind : Kind

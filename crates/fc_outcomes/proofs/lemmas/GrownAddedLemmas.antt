@@ -16,10 +16,10 @@ use Rattle.fc_image.specs.Commanded.{IsKept}
 use Rattle.fc_image.specs.Opening.{Opened}
 use Rattle.fc_image.specs.effects.Steady.{replaced_entry, with_made}
 use Rattle.fc_image.proofs.LookupLemmas.{lookup_law}
-use Rattle.fc_tree.proofs.MemberLemmas.{contains_cases, contains_here, contains_later, from_map, no_element}
+use Rattle.fc_tree.proofs.MemberLemmas.{contains_here, from_map, no_element}
 use Rattle.fc_tree.proofs.SoundLemmas.{children_stored}
 use Rattle.fc_tree.proofs.WalkedLemmas.{child_is_object, child_path}
-use Rattle.fc_changes.proofs.BasicLemmas.{clash, unless}
+use Rattle.fc_changes.proofs.BasicLemmas.{clash}
 use Rattle.fc_changes.proofs.PlacedLemmas.{found_in}
 use Rattle.fc_changes.proofs.ReadsLemmas.{LiesIn, lies_in, same_path_of}
 use Rattle.fc_laws.specs.nodes.Laws.{IsHeld}
@@ -46,6 +46,8 @@ use Rattle.fc_outcomes.specs.NewImage.{NewImageEdit}
 use Rattle.fc_outcomes.specs.Puts.{ArePutsOf, IsDirectoryPut, Put}
 use Rattle.fc_outcomes.specs.Written.{KeepsPaths}
 use Rattle.fc_outcomes.proofs.lemmas.GrownImageLemmas as gi
+use Rattle.std.proofs.lemmas.Bool.{false_from_ne_true as unless}
+use Rattle.fc_image.proofs.EntriesLemmas.{later as contains_later, cases as contains_cases}
 
 module _ (x : NewGrownAddition) (c : Command) (path : Path) (puts : List Put) (stored image image' : List ℕ) (wr : NewGrownAdditionWritten x c path puts stored image image') where
   abbrev pub ng : NewGrowing

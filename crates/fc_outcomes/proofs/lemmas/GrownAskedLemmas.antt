@@ -21,10 +21,10 @@ use Rattle.fc_image.specs.effects.Steady.{AreWritten, DirectorySteady, EntryStea
 use Rattle.fc_image.proofs.LookupLemmas.{lookup_law}
 use Rattle.fc_image.proofs.PathsLemmas.{itself}
 use Rattle.fc_tree.specs.Nodes.{number_of}
-use Rattle.fc_tree.proofs.MemberLemmas.{contains_cases, contains_here, contains_later, no_element}
+use Rattle.fc_tree.proofs.MemberLemmas.{contains_here, no_element}
 use Rattle.fc_tree.proofs.SoundLemmas.{same_listing}
 use Rattle.fc_tree.proofs.WalkedLemmas.{child_is_object, same_some}
-use Rattle.fc_changes.proofs.BasicLemmas.{clash, or_left, or_second, unless}
+use Rattle.fc_changes.proofs.BasicLemmas.{clash}
 use Rattle.fc_changes.proofs.BeforeLemmas.{address_by}
 use Rattle.fc_changes.proofs.DirectoriesLemmas.{IsPlain}
 use Rattle.fc_changes.proofs.ReadsLemmas.{LiesIn}
@@ -48,7 +48,7 @@ use Rattle.fc_edits.proofs.lemmas.GrownAdditionLemmas as ga
 use Rattle.fc_edits.proofs.lemmas.GrownHolderLemmas.{not_by_other, not_by_same}
 use Rattle.fc_edits.proofs.lemmas.GrownMemberLemmas as members
 use Rattle.fc_edits.proofs.lemmas.GrownPlaceLemmas as place
-use Rattle.fc_edits.proofs.lemmas.IdentifierLemmas.{either, taken_either}
+use Rattle.fc_edits.proofs.lemmas.IdentifierLemmas.{taken_either}
 use Rattle.fc_edits.proofs.lemmas.NewAgreeLemmas as na
 use Rattle.fc_edits.proofs.lemmas.NumberLemmas as n_
 use Rattle.fc_edits.proofs.lemmas.OwnedLemmas.{joins_found}
@@ -67,6 +67,8 @@ use Rattle.fc_outcomes.proofs.lemmas.PutLemmas.{directory_bytes}
 use Rattle.fc_outcomes.proofs.lemmas.SteadyLemmas.{now_in}
 use Rattle.fc_outcomes.proofs.lemmas.GrownAddedLemmas as added
 use Rattle.fc_outcomes.proofs.lemmas.GrownImageLemmas as gi
+use Rattle.std.proofs.lemmas.Bool.{false_from_ne_true as unless, or_left, or_right as or_second, or_cases as either}
+use Rattle.fc_image.proofs.EntriesLemmas.{later as contains_later, cases as contains_cases}
 
 module _ (x : NewGrownAddition) (c : Command) (path : Path) (puts : List Put) (stored image image' : List ℕ) (wr : NewGrownAdditionWritten x c path puts stored image image') (n : ℕ)
     (names : Makes (record { kind = x.kind; layout = Layout.New x.m; listings = x.listings }) c path n None) (found : List Listing) (sound' : AreSound (Layout.New x.m') found)

@@ -24,7 +24,7 @@ use Rattle.fc_image.proofs.CommandLemmas.{command_law}
 use Rattle.fc_image.proofs.LookupLemmas.{lookup_law}
 use Rattle.fc_image.proofs.PathsLemmas.{itself}
 use Rattle.fc_image.proofs.RenameLemmas.{last_pushed}
-use Rattle.fc_tree.proofs.MemberLemmas.{contains_here, contains_later, no_element}
+use Rattle.fc_tree.proofs.MemberLemmas.{contains_here, no_element}
 use Rattle.fc_changes.proofs.BasicLemmas.{clash}
 use Rattle.fc_changes.proofs.MadeLemmas.{file_low_small}
 use Rattle.fc_laws.specs.agree.Agreed.{parts_with}
@@ -43,7 +43,7 @@ use Rattle.fc_edits.proofs.lemmas.GrowingLemmas.{its_path}
 use Rattle.fc_edits.proofs.lemmas.GrownCopyingLemmas as gc
 use Rattle.fc_edits.proofs.lemmas.GrownHolderLemmas.{not_by_same}
 use Rattle.fc_edits.proofs.lemmas.GrownMemberLemmas as members
-use Rattle.fc_edits.proofs.lemmas.IdentifierLemmas.{either, taken_either}
+use Rattle.fc_edits.proofs.lemmas.IdentifierLemmas.{taken_either}
 use Rattle.fc_edits.proofs.lemmas.NewAgreeLemmas as na
 use Rattle.fc_edits.proofs.lemmas.NewSpaceLemmas.{bits_same, stands_now}
 use Rattle.fc_edits.proofs.lemmas.NumberLemmas as n_
@@ -67,6 +67,8 @@ use Rattle.fc_outcomes.proofs.lemmas.PutLemmas.{directory_bytes}
 use Rattle.fc_outcomes.proofs.lemmas.RenamePathLemmas.{after_same, edited_by, kept_name, named_rename, other_of, turned_other}
 use Rattle.fc_outcomes.proofs.lemmas.SteadyLemmas.{unnamed}
 use Rattle.fc_outcomes.proofs.lemmas.WordLemmas.{same_length}
+use Rattle.std.proofs.lemmas.Bool.{or_cases as either}
+use Rattle.fc_image.proofs.EntriesLemmas.{later as contains_later}
 
 module _ (x : NewGrownCopying) (from to : Path) (puts : List Put) (stored image image' : List ℕ) (wr : NewGrownCopyingWritten x from to puts stored image image') where
   abbrev command : Command

@@ -11,7 +11,7 @@ use Rattle.fc_image.specs.Commanded.{IsMoved, moved_path}
 use Rattle.fc_image.proofs.PathsLemmas.{itself}
 use Rattle.fc_image.proofs.RenameLemmas.{last_pushed, moved_itself}
 use Rattle.fc_tree.specs.Nodes.{number_of}
-use Rattle.fc_tree.proofs.MemberLemmas.{contains_cases, contains_here, no_element}
+use Rattle.fc_tree.proofs.MemberLemmas.{contains_here, no_element}
 use Rattle.fc_tree.proofs.WalkedLemmas.{listed_directory}
 use Rattle.fc_changes.proofs.BasicLemmas.{clash}
 use Rattle.fc_laws.specs.nodes.Laws.{IsHeld}
@@ -40,6 +40,7 @@ use Rattle.fc_outcomes.specs.Puts.{ArePutsOf, Put}
 use Rattle.fc_outcomes.specs.Written.{MovesPaths}
 use Rattle.fc_outcomes.proofs.lemmas.CopiedPathLemmas as path
 use Rattle.fc_outcomes.proofs.lemmas.GrownImageLemmas as gi
+use Rattle.fc_image.proofs.EntriesLemmas.{cases as contains_cases}
 
 module _ (x : NewGrownCopying) where
   abbrev pub ng : NewGrowing

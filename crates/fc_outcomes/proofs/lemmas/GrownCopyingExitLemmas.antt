@@ -21,7 +21,7 @@ use Rattle.fc_plan.proofs.Left.{left_of_none}
 use Rattle.fc_tree.proofs.MemberLemmas.{contains_here}
 use Rattle.fc_tree.proofs.SoundLemmas.{same_object}
 use Rattle.fc_changes.proofs.BasicLemmas.{clash}
-use Rattle.fc_changes.proofs.MadeLemmas.{file_low_small, turned}
+use Rattle.fc_changes.proofs.MadeLemmas.{file_low_small}
 use Rattle.fc_changes.proofs.OutsideLemmas.{object_busy}
 use Rattle.fc_laws.specs.takeover.Places.{MayBeWritten, OpensBy}
 use Rattle.fc_laws.proofs.lemmas.agree.BeforeLemmas.{new_shape, object_lies, some_zones}
@@ -48,6 +48,7 @@ use Rattle.fc_outcomes.proofs.lemmas.GrownCopyingMayLemmas as may
 use Rattle.fc_outcomes.proofs.lemmas.GrownHolesLemmas.{parts_in_holes}
 use Rattle.fc_outcomes.proofs.lemmas.GrownNewSpaceLemmas as space_of
 use Rattle.fc_outcomes.proofs.lemmas.NewOutsideLemmas.{loose_busy}
+use Rattle.fc_image.proofs.EditLemmas.{apart_turned as turned}
 
 module _ (x : NewGrownCopying) (from to : Path) (image : List ℕ) (opens : OpensAs image x.kind (grown_view x)) (its : IsToCopyGrown x from to) where
   abbrev c : Command

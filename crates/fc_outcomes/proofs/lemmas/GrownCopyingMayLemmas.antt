@@ -9,9 +9,8 @@ use Rattle.fc_image.specs.Walk.{Listing}
 use Rattle.fc_image.specs.Opening.{Opened}
 use Rattle.fc_image.specs.effects.Steady.{has_grown, has_new_holder, holds_named, is_renamed_by, may_be_rewritten}
 use Rattle.fc_image.proofs.PathsLemmas.{is_at, itself}
-use Rattle.fc_tree.proofs.MemberLemmas.{contains_cases, contains_here, contains_later, many_permuted}
+use Rattle.fc_tree.proofs.MemberLemmas.{contains_here, many_permuted}
 use Rattle.fc_tree.proofs.WalkedLemmas.{child_path}
-use Rattle.fc_changes.proofs.BasicLemmas.{or_left, or_second, unless}
 use Rattle.fc_changes.proofs.ReadsLemmas.{lies_in}
 use Rattle.fc_edits.specs.Copying.{edit}
 use Rattle.fc_edits.specs.Edit.{Amended}
@@ -23,6 +22,8 @@ use Rattle.fc_edits.proofs.lemmas.ListLemmas.{two_apart}
 use Rattle.fc_edits.proofs.lemmas.NumberLemmas.{few_listings}
 use Rattle.fc_outcomes.specs.GrownCopying.{IsToCopyGrown, grown_view}
 use Rattle.fc_outcomes.proofs.lemmas.GrownCopiedLemmas as copy
+use Rattle.std.proofs.lemmas.Bool.{false_from_ne_true as unless, or_left, or_right as or_second}
+use Rattle.fc_image.proofs.EntriesLemmas.{later as contains_later, cases as contains_cases}
 
 module _ (x : NewGrownCopying) (from to : Path) (its : IsToCopyGrown x from to) where
   abbrev c : Command

@@ -14,7 +14,7 @@ use Rattle.fc_image.specs.Opening.{Opened}
 use Rattle.fc_image.specs.effects.Short.{growth_in}
 use Rattle.fc_image.specs.effects.Steady.{edited, entries_after, named_entry, regrown_entry, without_name}
 use Rattle.fc_image.proofs.ShuffleLemmas.{filter-map}
-use Rattle.fc_tree.proofs.MemberLemmas.{contains_cases, contains_here, contains_later}
+use Rattle.fc_tree.proofs.MemberLemmas.{contains_here}
 use Rattle.fc_laws.specs.agree.Agreed.{CanSay}
 use Rattle.fc_laws.proofs.lemmas.nodes.OtherLemmas.{unlike}
 use Rattle.fc_edits.specs.Edit.{Amended}
@@ -29,6 +29,7 @@ use Rattle.fc_edits.proofs.lemmas.NumberLemmas as n_
 use Rattle.fc_edits.proofs.lemmas.ShapeLemmas.{not_own}
 use Rattle.fc_outcomes.proofs.lemmas.GrownSteadyLemmas.{after_elsewhere, after_is, nodes_with}
 use Rattle.fc_outcomes.proofs.lemmas.RenamePathLemmas.{edited_by, other_of}
+use Rattle.fc_image.proofs.EntriesLemmas.{later as contains_later, cases as contains_cases}
 
 -- A name goes from entries of which one gets another place.
 without_regrown : (name : List ℕ) (dir : Path) (new : Object) (es : List Entry) → without_name name (map (regrown_entry dir (Some new)) es) ≡ map (regrown_entry dir (Some new)) (without_name name es)

@@ -28,7 +28,6 @@ use Rattle.fc_tree.proofs.MemberLemmas.{contains_here, in_map}
 use Rattle.fc_changes.specs.Changed.{IsFileAt, IsInNewSpace}
 use Rattle.fc_changes.proofs.MadeLemmas.{file_low_small, no_slack}
 use Rattle.fc_changes.proofs.PlacedLemmas.{is_shared}
-use Rattle.fc_laws.proofs.lemmas.agree.DirectoryAddedLemmas.{size_of_new}
 use Rattle.fc_laws.proofs.lemmas.nodes.ListLemmas.{in_other}
 use Rattle.fc_edits.specs.Addition.{ComesAlone, over_it}
 use Rattle.fc_edits.specs.Edit.{Edit, listings_after, now, objects, still}
@@ -48,6 +47,7 @@ use Rattle.fc_edits.proofs.lemmas.GrownAdditionLemmas as ga
 use Rattle.fc_outcomes.proofs.lemmas.GrownNewSpaceLemmas.{high_new, its_id, left_new, runs_are, taken_new}
 use Rattle.fc_outcomes.proofs.lemmas.GrownMayLemmas.{directory_may, object_may}
 use Rattle.fc_outcomes.proofs.lemmas.NewImageLemmas as new_image
+use Rattle.fc_changes.proofs.CdirLemmas.{size_of_new}
 
 -- ---- a file
 

@@ -16,9 +16,8 @@ use Rattle.fc_image.specs.Stays.{IsNewKind, OpensAs}
 use Rattle.fc_image.specs.effects.Steady.{has_grown, has_new_holder, holds_named, is_idle, is_renamed_by, may_be_rewritten}
 use Rattle.fc_image.proofs.HolesLemmas.{apart_at, apart_from}
 use Rattle.fc_tree.specs.Nodes.{number_of}
-use Rattle.fc_tree.proofs.MemberLemmas.{contains_cases, contains_here, contains_later, no_element}
-use Rattle.fc_changes.proofs.BasicLemmas.{clash, or_left, or_second}
-use Rattle.fc_changes.proofs.MadeLemmas.{turned}
+use Rattle.fc_tree.proofs.MemberLemmas.{contains_here, no_element}
+use Rattle.fc_changes.proofs.BasicLemmas.{clash}
 use Rattle.fc_changes.proofs.OutsideLemmas.{AreBusy, object_busy}
 use Rattle.fc_laws.specs.takeover.Places.{MayBeWritten}
 use Rattle.fc_laws.proofs.lemmas.agree.BeforeLemmas.{object_lies, some_zones}
@@ -50,6 +49,9 @@ use Rattle.fc_edits.proofs.lemmas.ShapeLemmas.{only}
 use Rattle.fc_outcomes.specs.GrownAddition.{grown_view}
 use Rattle.fc_outcomes.specs.Growth.{Grows}
 use Rattle.fc_outcomes.proofs.lemmas.NewOutsideLemmas.{loose_busy}
+use Rattle.std.proofs.lemmas.Bool.{or_left, or_right as or_second}
+use Rattle.fc_image.proofs.EditLemmas.{apart_turned as turned}
+use Rattle.fc_image.proofs.EntriesLemmas.{later as contains_later, cases as contains_cases}
 
 module _ (x : NewGrownAddition) (c : Command) (image : List ℕ) (opens : OpensAs image x.kind (grown_view x)) (named : holds_named c x.c.l.object.path ≡ true) where
   abbrev ng : NewGrowing

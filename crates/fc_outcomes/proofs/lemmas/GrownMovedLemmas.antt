@@ -9,7 +9,7 @@ use Rattle.fc_image.specs.Commanded.{IsMoved}
 use Rattle.fc_image.specs.Stays.{HasSectorsOf}
 use Rattle.fc_image.proofs.HolesLemmas.{apart_at}
 use Rattle.fc_tree.specs.Nodes.{number_of}
-use Rattle.fc_tree.proofs.MemberLemmas.{contains_cases, contains_here, no_element}
+use Rattle.fc_tree.proofs.MemberLemmas.{contains_here, no_element}
 use Rattle.fc_tree.proofs.WalkedLemmas.{listed_directory}
 use Rattle.fc_changes.proofs.BasicLemmas.{clash}
 use Rattle.fc_laws.specs.nodes.Laws.{IsHeld}
@@ -40,6 +40,7 @@ use Rattle.fc_outcomes.specs.Written.{MovesPaths}
 use Rattle.fc_outcomes.proofs.lemmas.GrownImageLemmas as gi
 use Rattle.fc_outcomes.proofs.lemmas.GrownMovingMayLemmas.{moved_apart}
 use Rattle.fc_outcomes.proofs.lemmas.UnwrittenLemmas.{never_written, one_of_both, turned_bytes}
+use Rattle.fc_image.proofs.EntriesLemmas.{cases as contains_cases}
 
 module _ (x : NewGrownMoving) (from to : Path) (puts : List Put) (image image' : List ℕ) (wr : NewGrownMovingWritten x from to puts image image') where
   abbrev pub ng : NewGrowing

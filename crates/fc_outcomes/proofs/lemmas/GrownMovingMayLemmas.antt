@@ -18,10 +18,9 @@ use Rattle.fc_image.specs.effects.Steady.{has_grown, has_new_holder, holds_named
 use Rattle.fc_image.proofs.HolesLemmas.{apart_at, apart_from}
 use Rattle.fc_image.proofs.RenameLemmas.{moved_itself}
 use Rattle.fc_tree.specs.Nodes.{number_of}
-use Rattle.fc_tree.proofs.MemberLemmas.{contains_cases, contains_here, contains_later, in_map, no_element}
+use Rattle.fc_tree.proofs.MemberLemmas.{contains_here, in_map, no_element}
 use Rattle.fc_tree.proofs.WalkedLemmas.{child_path}
-use Rattle.fc_changes.proofs.BasicLemmas.{clash, or_left, or_second}
-use Rattle.fc_changes.proofs.MadeLemmas.{turned}
+use Rattle.fc_changes.proofs.BasicLemmas.{clash}
 use Rattle.fc_changes.proofs.OutsideLemmas.{object_busy}
 use Rattle.fc_changes.proofs.ReadsLemmas.{lies_in}
 use Rattle.fc_laws.specs.takeover.Places.{MayBeWritten}
@@ -53,7 +52,10 @@ use Rattle.fc_edits.proofs.lemmas.NumberLemmas as n_
 use Rattle.fc_edits.proofs.lemmas.ShapeLemmas.{only}
 use Rattle.fc_outcomes.specs.GrownMoving.{IsToMoveGrown, grown_view}
 use Rattle.fc_outcomes.proofs.lemmas.NewOutsideLemmas.{loose_busy}
-use Rattle.fc_outcomes.proofs.lemmas.RenamePathLemmas.{turned_same}
+use Rattle.std.proofs.lemmas.Bool.{or_left, or_right as or_second}
+use Rattle.fc_image.proofs.EditLemmas.{apart_turned as turned}
+use Rattle.fc_changes.proofs.RenamedLemmas.{same_turned as turned_same}
+use Rattle.fc_image.proofs.EntriesLemmas.{later as contains_later, cases as contains_cases}
 
 -- two of these objects
 two_apart : (os : List Object) → ApartPairs os → (a b : Object) → Contains os a → Contains os b → (a ≡ b) ⊎ (is_apart a.sectors b.sectors ≡ true)

@@ -20,7 +20,7 @@ use Rattle.fc_image.proofs.RenameLemmas.{moved_itself}
 use Rattle.fc_tree.proofs.MemberLemmas.{in_map, no_element}
 use Rattle.fc_tree.proofs.SoundLemmas.{same_object}
 use Rattle.fc_tree.proofs.WalkedLemmas.{child_path, listed_directory}
-use Rattle.fc_changes.proofs.BasicLemmas.{clash, holder_pushed, unless}
+use Rattle.fc_changes.proofs.BasicLemmas.{clash, holder_pushed}
 use Rattle.fc_changes.proofs.BeforeLemmas.{address_by}
 use Rattle.fc_changes.proofs.ReadsLemmas.{lies_in}
 use Rattle.fc_laws.specs.nodes.Laws.{IsHeld}
@@ -56,6 +56,7 @@ use Rattle.fc_outcomes.proofs.lemmas.GrownSteadyLemmas.{after_elsewhere}
 use Rattle.fc_outcomes.proofs.lemmas.PutLemmas.{directory_bytes}
 use Rattle.fc_outcomes.proofs.lemmas.RenamePathLemmas.{after_same, edited_by, kept_name, named_rename, other_of, turned_other}
 use Rattle.fc_outcomes.proofs.lemmas.SteadyLemmas.{stay_found, unnamed}
+use Rattle.std.proofs.lemmas.Bool.{false_from_ne_true as unless}
 
 module _ (x : NewGrownMoving) (from to : Path) (puts : List Put) (image image' : List ℕ) (wr : NewGrownMovingWritten x from to puts image image') (found : List Listing)
     (sound' : AreSound (Layout.New x.m') found) (order : IsPermutation (listings_after (grown_edit x.c x.growing)) found) where

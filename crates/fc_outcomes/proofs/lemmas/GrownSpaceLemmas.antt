@@ -2,7 +2,7 @@
 use Rattle.std.proofs.Common.{◌≡◌, ◌<◌, ◌≤◌, ◌⊎◌, inl, inr, ⊎_elim, ℕ, ◌*◌, ◌/◌, ◌%◌, Bool, true, false, cond, List, [], ◌∷◌, ◌++◌, length, refl, sym, ap, subst, ◌∙◌, arith, Some, None, Option}
 use Rattle.std.specs.Prelude.{Contains, IfSome, IsPermutation, IsSomeAnd, ◌==◌, ◌&&◌, ◌||◌}
 use Rattle.std.specs.Option.{option_and_then, option_map_or}
-use Rattle.std.proofs.lemmas.Bool.{eqb-true}
+use Rattle.std.proofs.lemmas.Bool.{eqb-true, false_from_ne_true as unless}
 use Rattle.std.proofs.lemmas.List.Elements.{Contains-append_right}
 use Rattle.fc_newmap.specs.Map.{ZoneRun, bits_in, hole_runs, id_runs, is_used}
 use Rattle.fc_model.specs.Command.{Command}
@@ -22,7 +22,7 @@ use Rattle.fc_plan.proofs.Ordered.{taken_in_order}
 use Rattle.fc_plan.proofs.Plans.{rising_apart}
 use Rattle.fc_plan.proofs.Units.{units_some}
 use Rattle.fc_tree.proofs.MemberLemmas.{contains_here}
-use Rattle.fc_changes.proofs.BasicLemmas.{clash, unless}
+use Rattle.fc_changes.proofs.BasicLemmas.{clash}
 use Rattle.fc_edits.specs.Growing.{Growing, at_place}
 use Rattle.fc_edits.specs.GrownPlaces.{GrowsAlone, GrowsElsewhere, GrowsThere, NewGrowing, TakesSpace}
 use Rattle.fc_edits.specs.NewPlaces.{Taking, is_taken, untaken}

@@ -17,7 +17,7 @@ use Rattle.fc_image.specs.Sound.{AreSound}
 use Rattle.fc_image.specs.effects.Short.{Growth, growth_in}
 use Rattle.fc_image.specs.effects.Steady.{edited, entries_after, grown_object, named_entry, regrown_entry}
 use Rattle.fc_image.proofs.PathsLemmas.{itself}
-use Rattle.fc_tree.proofs.SoundLemmas.{children_stored, folds_alike, root_or_child, same_by_folds}
+use Rattle.fc_tree.proofs.SoundLemmas.{children_stored, folds_alike, root_or_child}
 use Rattle.fc_tree.proofs.WalkedLemmas.{child_path, listed_directory, root, root_path}
 use Rattle.fc_changes.proofs.BasicLemmas.{holder_pushed}
 use Rattle.fc_changes.proofs.BeforeLemmas.{address_by}
@@ -33,6 +33,7 @@ use Rattle.fc_edits.proofs.lemmas.ListLemmas.{map_map}
 use Rattle.fc_edits.proofs.lemmas.NumberLemmas as n_
 use Rattle.fc_outcomes.specs.Growth.{holder_now}
 use Rattle.fc_outcomes.proofs.lemmas.SteadyLemmas.{out_or_stay, stay_found}
+use Rattle.fc_image.proofs.CommandLemmas.{same_by_folds}
 
 -- paths that lead to one place are the same to any path
 pub same_through : (p d q : Path) → is_same_path p d ≡ true → is_same_path p q ≡ is_same_path d q

@@ -1,7 +1,7 @@
 -- Directories and entries after an object has come, on any map.
 use Rattle.std.proofs.Common.{◌≡◌, inl, inr, ⊎_elim, ℕ, Bool, true, false, cond, List, [], ◌∷◌, ◌++◌, length, map, refl, sym, ap, ap₂, subst, ◌∙◌, Some, None, Option}
 use Rattle.std.specs.Prelude.{Contains, IfSome, IsPermutation, IsSomeAnd, is_some, slice_get}
-use Rattle.std.proofs.lemmas.Bool.{eqb-true}
+use Rattle.std.proofs.lemmas.Bool.{eqb-true, false_from_ne_true as unless}
 use Rattle.std.proofs.lemmas.List.Elements.{Contains-append_left}
 use Rattle.std.proofs.lemmas.List.Sorted.{IsPermutation-refl, IsPermutation-sym}
 use Rattle.std.specs.Option.{option_map, option_map_or}
@@ -25,11 +25,11 @@ use Rattle.fc_image.specs.effects.Short.{growth_in, new_dir_size, new_length, re
 use Rattle.fc_image.specs.effects.Steady.{AreWritten, DirectorySteady, EntrySteady, IsMadeDirectory, IsRewritten, NamedEntrySteady, NamedStays, edited, holds_named, is_moved_by, named_entry, named_object, new_directory, replaced_entry, source_object, with_made}
 use Rattle.fc_image.proofs.LookupLemmas.{lookup_law}
 use Rattle.fc_image.proofs.PathsLemmas.{itself}
-use Rattle.fc_tree.proofs.MemberLemmas.{contains_cases, contains_here, contains_later, from_map, in_map, no_element}
+use Rattle.fc_tree.proofs.MemberLemmas.{contains_here, from_map, in_map, no_element}
 use Rattle.fc_tree.proofs.SoundLemmas.{children_stored}
 use Rattle.fc_tree.proofs.WalkedLemmas.{child_is_object, child_path}
 use Rattle.fc_changes.specs.Changed.{MakesFile}
-use Rattle.fc_changes.proofs.BasicLemmas.{clash, unless}
+use Rattle.fc_changes.proofs.BasicLemmas.{clash}
 use Rattle.fc_changes.proofs.BeforeLemmas.{address_by}
 use Rattle.fc_changes.proofs.DirectoriesLemmas.{IsPlain, plain_cdir, plain_create, plain_save}
 use Rattle.fc_changes.proofs.PlacedLemmas.{found_in}
@@ -48,6 +48,7 @@ use Rattle.fc_outcomes.specs.Puts.{ArePutsOf, IsDirectoryPut, Put}
 use Rattle.fc_outcomes.specs.Steady.{AreAsked}
 use Rattle.fc_outcomes.specs.Written.{KeepsPaths}
 use Rattle.fc_outcomes.proofs.lemmas.SteadyLemmas.{holder_same, now_in, plain_asks, unnamed, written_asks}
+use Rattle.fc_image.proofs.EntriesLemmas.{later as contains_later, cases as contains_cases}
 
 -- ---- the commands
 

@@ -15,9 +15,9 @@ use Rattle.fc_image.specs.Edits.{Apart}
 use Rattle.fc_image.proofs.HolesLemmas.{apart_at, apart_from}
 use Rattle.fc_tree.specs.declared.node.Node.{Node}
 use Rattle.fc_tree.specs.Nodes.{number_of}
-use Rattle.fc_tree.proofs.MemberLemmas.{contains_cases, contains_here, in_map, no_element}
+use Rattle.fc_tree.proofs.MemberLemmas.{contains_here, in_map, no_element}
 use Rattle.fc_tree.proofs.WalkedLemmas.{listed_directory, root_path, same_some}
-use Rattle.fc_changes.proofs.BasicLemmas.{clash, unless}
+use Rattle.fc_changes.proofs.BasicLemmas.{clash}
 use Rattle.fc_laws.specs.nodes.Edits.{Nodes}
 use Rattle.fc_laws.specs.nodes.Laws.{IsHeld}
 use Rattle.fc_laws.proofs.lemmas.nodes.FitsLemmas.{one_number}
@@ -31,6 +31,8 @@ use Rattle.fc_edits.specs.PartsEdit.{PartsEdit}
 use Rattle.fc_edits.proofs.lemmas.LeavingLemmas.{one_of_sector}
 use Rattle.fc_outcomes.specs.Written.{WritesForEdit}
 use Rattle.fc_outcomes.specs.Done.{KeptLaw}
+use Rattle.std.proofs.lemmas.Bool.{false_from_ne_true as unless}
+use Rattle.fc_image.proofs.EntriesLemmas.{cases as contains_cases}
 
 -- the map is reserved
 pub map_reserved : (kind : Kind) (layout : Layout) (s : ℕ) → is_among (map_place layout) s ≡ true → is_among (reserved_in kind layout) s ≡ true

@@ -28,7 +28,7 @@ use Rattle.fc_image.proofs.RenameLemmas.{last_pushed, moved_itself}
 use Rattle.fc_tree.proofs.MemberLemmas.{in_map, no_element}
 use Rattle.fc_tree.proofs.SoundLemmas.{same_object}
 use Rattle.fc_tree.proofs.WalkedLemmas.{child_path, listed_directory}
-use Rattle.fc_changes.proofs.BasicLemmas.{clash, holder_pushed, or_left, or_second, unless}
+use Rattle.fc_changes.proofs.BasicLemmas.{clash, holder_pushed}
 use Rattle.fc_changes.proofs.BeforeLemmas.{address_by}
 use Rattle.fc_changes.proofs.DirectoriesLemmas.{entries_now, no_new_holder}
 use Rattle.fc_changes.proofs.ReadsLemmas.{LiesIn, lies_in}
@@ -47,10 +47,12 @@ use Rattle.fc_outcomes.specs.Puts.{ArePutOut, ArePutsOf, Put}
 use Rattle.fc_outcomes.specs.Steady.{AreAsked, AsksNothing}
 use Rattle.fc_outcomes.specs.Written.{MovesPaths}
 use Rattle.fc_outcomes.proofs.lemmas.PutLemmas.{directory_bytes}
-use Rattle.fc_outcomes.proofs.lemmas.RenamePathLemmas.{after_same, edited_by, kept_name, named_rename, other_of, turned_other, turned_same}
+use Rattle.fc_outcomes.proofs.lemmas.RenamePathLemmas.{after_same, edited_by, kept_name, named_rename, other_of, turned_other}
 use Rattle.fc_outcomes.proofs.lemmas.SteadyLemmas.{holder_still, now_in, unnamed}
 use Rattle.fc_outcomes.proofs.lemmas.UnwrittenLemmas.{turned_bytes}
 use Rattle.fc_outcomes.proofs.lemmas.WordLemmas.{same_length}
+use Rattle.std.proofs.lemmas.Bool.{false_from_ne_true as unless, or_left, or_right as or_second}
+use Rattle.fc_changes.proofs.RenamedLemmas.{same_turned as turned_same}
 
 module _ (v : Opened) (nodes nodes' : Nodes) (c : Moving) (h : IsHeld nodes v.layout v.listings) (g : IsMoving nodes v.layout v.listings c) (ed : AreEdited nodes nodes' (edit c)) (from to : Path)
     (its : IsToMove v from to c) where

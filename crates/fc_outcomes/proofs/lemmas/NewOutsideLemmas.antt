@@ -2,7 +2,7 @@
 use Rattle.std.proofs.Common.{◌≡◌, ◌<◌, ◌≤◌, inl, inr, ⊎_elim, ℕ, Bool, true, false, List, drop, refl, sym, ap, subst, ◌∙◌, arith, eq-eqb, cond}
 use Rattle.std.specs.Prelude.{Contains, nat_le, Option, Some, None, length, [], ◌==◌, ◌&&◌}
 use Rattle.std.specs.Option.{option_map_or}
-use Rattle.std.proofs.lemmas.Bool.{leb-true, eqb-true}
+use Rattle.std.proofs.lemmas.Bool.{leb-true, eqb-true, false_from_ne_true as unless}
 use Rattle.fc_image.specs.Edits.{IsAt}
 use Rattle.fc_record.specs.declared.Kind.{Kind}
 use Rattle.fc_record.specs.Kinds.{disc_size}
@@ -20,7 +20,6 @@ use Rattle.fc_image.specs.effects.Steady.{KeepsOrWritesLinks, MapOutside, expect
 use Rattle.fc_newmap.specs.Map.{sector_of, with_root}
 use Rattle.fc_changes.specs.Owed.{IsWritten}
 use Rattle.fc_changes.proofs.AfterLemmas.{behind_stays}
-use Rattle.fc_changes.proofs.BasicLemmas.{unless}
 use Rattle.fc_changes.proofs.BeforeLemmas.{boot_stays, parts}
 use Rattle.fc_changes.proofs.OutsideLemmas.{AreBusy, idle_stay, object_busy, owned_busy}
 use Rattle.fc_laws.proofs.lemmas.agree.BeforeLemmas.{object_lies, some_zones}

@@ -1,7 +1,7 @@
 -- The runs of a new map after an edit, as a command leaves them.
 use Rattle.std.proofs.Common.{◌≡◌, ◌≤◌, ◌<◌, ℕ, Bool, true, false, cond, List, [], ◌++◌, refl, sym, ap, ap₂, subst, ◌∙◌, arith, eq-eqb}
 use Rattle.std.specs.Prelude.{Contains, IsPermutation, not, nat_le, ◌==◌, ◌||◌, ◌&&◌}
-use Rattle.std.proofs.lemmas.Bool.{leb-true}
+use Rattle.std.proofs.lemmas.Bool.{leb-true, false_from_ne_true as unless}
 use Rattle.fc_record.specs.declared.Geometry.{Geometry}
 use Rattle.fc_zone.specs.declared.RunKind.{RunKind}
 use Rattle.fc_zone.specs.declared.RunKind.TheVariants as kinds
@@ -13,7 +13,7 @@ use Rattle.fc_image.specs.Objects.{is_lost, is_movable, is_owned, objects_of}
 use Rattle.fc_image.specs.Sound.{AreSound}
 use Rattle.fc_image.specs.effects.Steady.{NewMapSteady, back_runs, goes_back, has_id_that, holes_with, keeps_runs, runs_that, zone_holes}
 use Rattle.fc_plan.specs.Giving.{is_one_of}
-use Rattle.fc_changes.proofs.BasicLemmas.{any_in, clash, filter_same, unless}
+use Rattle.fc_changes.proofs.BasicLemmas.{any_in, clash, filter_same}
 use Rattle.fc_changes.proofs.SpaceLemmas.{no_runs, not_used, still_owned}
 use Rattle.fc_laws.proofs.lemmas.agree.BeforeLemmas.{new_facts}
 use Rattle.fc_edits.specs.Edit.{joining, listings_after, objects}
@@ -23,7 +23,7 @@ use Rattle.fc_edits.proofs.lemmas.NewPlaceLemmas as np_
 use Rattle.fc_edits.proofs.lemmas.OwnedLemmas.{owned_now}
 use Rattle.fc_outcomes.specs.NewImage.{IsMapAsked, NewImageEdit, is_now, was}
 
-lost_not_owned : (objects : List Object) (id : ℕ) → is_lost objects id ≡ true → is_owned objects id ≡ false
+pub lost_not_owned : (objects : List Object) (id : ℕ) → is_lost objects id ≡ true → is_owned objects id ≡ false
 lost_not_owned objects id lost = by (is_owned objects id) lost
   where
     by : (b : Bool) → (not b && not (id == 1) && not (id == 2)) ≡ true → b ≡ false

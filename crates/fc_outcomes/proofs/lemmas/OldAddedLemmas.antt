@@ -19,9 +19,8 @@ use Rattle.fc_image.specs.effects.Short.{Growth, growth_in, holes_without, new_d
 use Rattle.fc_image.specs.effects.Placed.{GrowthPlacedIn, HasAddress, OldObjectPlaced}
 use Rattle.fc_image.specs.effects.Steady.{NewDirectory}
 use Rattle.fc_image.proofs.CommandLemmas.{command_law}
-use Rattle.fc_tree.proofs.MemberLemmas.{contains_here, contains_later}
+use Rattle.fc_tree.proofs.MemberLemmas.{contains_here}
 use Rattle.fc_laws.specs.nodes.Laws.{IsHeld}
-use Rattle.fc_laws.proofs.lemmas.agree.DirectoryAddedLemmas.{size_of_new}
 use Rattle.fc_oldchanges.specs.Changed.{IsFileAt, IsFirstFitted}
 use Rattle.fc_oldchanges.proofs.GrowthLemmas.{no_growth}
 use Rattle.fc_edits.specs.Addition.{ComesAlone, OldAddition, edit, holes_with_it, leaves, over_it}
@@ -37,6 +36,8 @@ use Rattle.fc_outcomes.proofs.lemmas.JoinedLemmas as joined
 use Rattle.fc_outcomes.proofs.lemmas.JoinedLemmas.{Makes, makes_directory, makes_file}
 use Rattle.fc_outcomes.proofs.lemmas.OldImageLemmas as old_image
 use Rattle.fc_outcomes.proofs.lemmas.PutLemmas.{directory_bytes}
+use Rattle.fc_changes.proofs.CdirLemmas.{size_of_new}
+use Rattle.fc_image.proofs.EntriesLemmas.{later as contains_later}
 
 module _ (x : OldAddition) (c : Command) (path : Path) (bytes stored image image' : List ℕ) (w : OldAdditionWritten x c path bytes stored image image') where
   abbrev o : Object

@@ -18,17 +18,16 @@ use Rattle.fc_image.specs.OldMaps.{IsOldDisc as IsOld}
 use Rattle.fc_image.specs.TreeEdits.{IsMove, IsObjectEdit}
 use Rattle.fc_image.specs.effects.Steady.{OutsideSteady, SameSectors, lost_sectors}
 use Rattle.fc_image.proofs.FreeLemmas.{range_bounds}
-use Rattle.fc_image.proofs.MoveLemmas.{all_filter, not_true}
+use Rattle.fc_image.proofs.MoveLemmas.{all_filter}
 use Rattle.fc_image.proofs.OldMapLemmas.{old_map_law}
-use Rattle.fc_image.proofs.OneZoneLemmas.{and_first, and_second}
 use Rattle.fc_image.proofs.TreeLemmas.{tree_edit_law}
-use Rattle.fc_changes.proofs.BasicLemmas.{clash, unless}
+use Rattle.fc_changes.proofs.BasicLemmas.{clash}
 use Rattle.fc_changes.proofs.OutsideLemmas.{same_behind}
 use Rattle.fc_oldchanges.specs.Owed.{holding}
 use Rattle.fc_oldchanges.proofs.BeforeLemmas.{object_lies, parts}
 use Rattle.fc_oldchanges.proofs.HoleLemmas.{below_end, units_in}
 use Rattle.fc_oldchanges.proofs.MapLemmas.{IsOldDisc, fits_now, found_now, old_disc}
-use Rattle.fc_oldchanges.proofs.PlaceLemmas.{among_flat, in_disc}
+use Rattle.fc_oldchanges.proofs.PlaceLemmas.{in_disc}
 use Rattle.fc_oldlaws.specs.agree.Laws.{parts_with}
 use Rattle.fc_edits.specs.Edit.{objects}
 use Rattle.fc_edits.specs.OldPlaces.{OldLiesAgain, with_holes}
@@ -44,16 +43,16 @@ use Rattle.fc_outcomes.proofs.lemmas.KeptLemmas.{whose_now}
 use Rattle.fc_outcomes.proofs.lemmas.OldDoneLemmas.{done_old, done_old_moved}
 use Rattle.fc_outcomes.proofs.lemmas.PutLemmas.{edit_written, written_for}
 use Rattle.fc_outcomes.proofs.lemmas.SteadyLemmas.{directories_steady}
+use Rattle.std.proofs.lemmas.Bool.{false_from_ne_true as unless, not-true as not_true}
+use Rattle.fc_record.proofs.KindLemmas.{and_first, and_second}
+use Rattle.fc_changes.proofs.PlacedLemmas.{is_in_flat as among_flat}
+use Rattle.fc_oldlaws.proofs.lemmas.takeover.ApartLemmas.{in_sectors}
 
 -- ---- numbers
 
 some_bytes : (u : ℕ) → (u ≡ 1) ⊎ (u ≡ 4) → 0 < 256 * u
 some_bytes u (inl one) = omega (arith, one)
 some_bytes u (inr four) = omega (arith, four)
-
-in_sectors : (n u s : ℕ) → (u ≡ 1) ⊎ (u ≡ 4) → n ≡ n / u * u → u * s < n → s < n / u
-in_sectors n u s (inl one) whole low = subst (λ (v : ℕ). n ≡ n / v * v → v * s < n → s < n / v) (sym one) (λ w l. omega (arith, l)) whole low
-in_sectors n u s (inr four) whole low = subst (λ (v : ℕ). n ≡ n / v * v → v * s < n → s < n / v) (sym four) (λ w l. omega (arith, w, l)) whole low
 
 module _ (back : ReadsBack) (x : OldImageEdit) where
   abbrev kind : Kind

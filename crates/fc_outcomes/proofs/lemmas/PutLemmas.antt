@@ -17,14 +17,16 @@ use Rattle.fc_objects.specs.Bytes.{first_bytes}
 use Rattle.fc_objects.specs.Written.{HasParts, part_at}
 use Rattle.fc_objects.proofs.WriteLemmas.{reads_back}
 use Rattle.fc_tree.specs.Agree.{HasForm}
-use Rattle.fc_tree.proofs.MemberLemmas.{contains_cases, contains_here, contains_later, no_element}
-use Rattle.fc_changes.proofs.BasicLemmas.{clash, unless}
+use Rattle.fc_tree.proofs.MemberLemmas.{contains_here, no_element}
+use Rattle.fc_changes.proofs.BasicLemmas.{clash}
 use Rattle.fc_changes.proofs.ReadsLemmas.{told}
 use Rattle.fc_laws.specs.agree.Agreed.{CanSay}
 use Rattle.fc_edits.specs.PartsEdit.{PartsEdit}
 use Rattle.fc_outcomes.specs.Written.{IsEditWritten, WritesForEdit}
 use Rattle.fc_outcomes.specs.Puts.{AreContents, ArePutOut, ArePutsOf, IsDirectoryPut, Put, PutsLaw, put_sectors}
 use Rattle.fc_outcomes.proofs.lemmas.KeptLemmas.{stays_same}
+use Rattle.std.proofs.lemmas.Bool.{false_from_ne_true as unless}
+use Rattle.fc_image.proofs.EntriesLemmas.{later as contains_later, cases as contains_cases}
 
 -- ---- what bytes say
 

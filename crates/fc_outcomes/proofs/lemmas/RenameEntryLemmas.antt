@@ -10,9 +10,8 @@ use Rattle.fc_image.specs.Walk.{Listing}
 use Rattle.fc_image.specs.Opening.{Opened}
 use Rattle.fc_image.specs.effects.Steady.{edited, with_made, without_name}
 use Rattle.fc_image.proofs.PathsLemmas.{is_at, itself}
-use Rattle.fc_tree.proofs.MemberLemmas.{contains_cases, contains_here, many_permuted}
+use Rattle.fc_tree.proofs.MemberLemmas.{contains_here, many_permuted}
 use Rattle.fc_tree.proofs.WalkedLemmas.{child_path}
-use Rattle.fc_changes.proofs.BasicLemmas.{unless}
 use Rattle.fc_changes.proofs.ReadsLemmas.{lies_in}
 use Rattle.fc_laws.specs.nodes.Edits.{Nodes}
 use Rattle.fc_laws.specs.nodes.Laws.{IsHeld}
@@ -25,6 +24,8 @@ use Rattle.fc_edits.proofs.lemmas.NumberLemmas.{few_listings}
 use Rattle.fc_edits.proofs.lemmas.ShapeLemmas.{of_one}
 use Rattle.fc_outcomes.specs.Moving.{HasEntries}
 use Rattle.fc_outcomes.proofs.lemmas.RenamePathLemmas.{edited_by, other_of, turned_other}
+use Rattle.std.proofs.lemmas.Bool.{false_from_ne_true as unless}
+use Rattle.fc_image.proofs.EntriesLemmas.{cases as contains_cases}
 
 -- ---- to another directory
 

@@ -16,8 +16,9 @@ use Rattle.fc_image.proofs.CommandLemmas.{same_by_folds}
 use Rattle.fc_image.proofs.PathsLemmas.{itself}
 use Rattle.fc_image.proofs.RelistLemmas.{folded_long}
 use Rattle.fc_image.proofs.TreeLemmas.{folds_alike}
-use Rattle.fc_changes.proofs.BasicLemmas.{clash, unless}
-use Rattle.fc_changes.proofs.RenamedLemmas.{folds_append}
+use Rattle.fc_changes.proofs.BasicLemmas.{clash}
+use Rattle.fc_changes.proofs.RenamedLemmas.{folds_append, same_turned as turned_same}
+use Rattle.std.proofs.lemmas.Bool.{false_from_ne_true as unless}
 
 pub after_same : (from to from' to' p : Path) → is_same_path from from' ≡ true → is_same_path to to' ≡ true → is_same_path (path_after (Command.Rename from to) p) (moved_path from' to' p) ≡ true
 after_same from to from' to' p same same' =
@@ -37,9 +38,6 @@ other_of a b p same other = unless (is_same_path a p) (λ also. clash (is_same_p
 
 pub turned_other : (a b : Path) → is_same_path a b ≡ false → is_same_path b a ≡ false
 turned_other a b other = unless (is_same_path b a) (λ same. clash (is_same_path a b) (same_by_folds a b (sym (folds_alike b a same))) other)
-
-pub turned_same : (a b : Path) → is_same_path a b ≡ true → is_same_path b a ≡ true
-turned_same a b same = same_by_folds b a (sym (folds_alike a b same))
 
 -- what the command leaves a directory, by whether this holds the one path, and the other
 pub edited_by : (from to dir : Path) (made : Option Entry) (entries : List Entry) (a b : Bool) → is_same_path (holder from) dir ≡ a → is_same_path (holder to) dir ≡ b

@@ -210,7 +210,7 @@ module _ (nodes nodes' : Nodes) (layout layout' : Layout) (listings : List Listi
           }))
 
 -- the last byte of an entry isn't a word
-last_same : (command : Command) (path there : Path) (turn : Object → Object) (o : Object) → Words command path there turn → (turn o).entry.last ≡ o.entry.last
+pub last_same : (command : Command) (path there : Path) (turn : Object → Object) (o : Object) → Words command path there turn → (turn o).entry.last ≡ o.entry.last
 last_same command path there turn o (inl s) = ap (λ (f : Object → Object). (f o).entry.last) s.4 ∙ by (is_same_path there o.path)
   where
     by : (b : Bool) → (cond b (record o { entry = record o.entry { load = s.0; exec = s.1; attrs = o.entry.attrs / 8 * 8 + s.2 } }) o).entry.last ≡ o.entry.last

@@ -22,7 +22,7 @@ use Rattle.fc_tree.proofs.MemberLemmas.{from_map, in_map, no_element}
 use Rattle.fc_tree.proofs.SoundLemmas.{root_or_child}
 use Rattle.fc_tree.proofs.WalkedLemmas.{child_path, listed_directory, root, root_path, same_some}
 use Rattle.fc_tree.specs.Nodes.{number_of}
-use Rattle.fc_changes.proofs.BasicLemmas.{clash, holder_pushed, or_left, unless}
+use Rattle.fc_changes.proofs.BasicLemmas.{clash, holder_pushed}
 use Rattle.fc_changes.proofs.ReadsLemmas.{other_dir}
 use Rattle.fc_changes.proofs.BeforeLemmas.{address_by}
 use Rattle.fc_changes.proofs.DirectoriesLemmas.{IsPlain, entries_now, no_new_holder}
@@ -38,6 +38,7 @@ use Rattle.fc_outcomes.specs.Done.{view_before}
 use Rattle.fc_outcomes.specs.Written.{IsEditWritten}
 use Rattle.fc_outcomes.specs.Steady.{AreAsked, AsksNothing, SteadyLaw}
 use Rattle.fc_outcomes.proofs.lemmas.DoneLemmas.{same_bytes}
+use Rattle.std.proofs.lemmas.Bool.{false_from_ne_true as unless, or_left}
 
 -- where the listings are afterwards
 pub now_in : (e : Edit) (found : List Listing) → IsPermutation (listings_after e) found → (a : Amended) → Contains e.amended a → Contains found (now e a)

@@ -5,9 +5,11 @@ use Rattle.fc_newmap.proofs.PlaceLemmas.{in_back}
 use Rattle.fc_device.specs.Sectors.{sector_at}
 use Rattle.fc_image.specs.Layout.{bytes_in, is_among}
 use Rattle.fc_image.proofs.HolesLemmas.{apart_at}
-use Rattle.fc_tree.proofs.MemberLemmas.{contains_cases, contains_here, contains_later, no_element}
-use Rattle.fc_changes.proofs.BasicLemmas.{clash, unless}
+use Rattle.fc_tree.proofs.MemberLemmas.{contains_here, no_element}
+use Rattle.fc_changes.proofs.BasicLemmas.{clash}
 use Rattle.fc_outcomes.specs.Puts.{ApartPuts, ArePut, Put, StepsLaw}
+use Rattle.std.proofs.lemmas.Bool.{false_from_ne_true as unless}
+use Rattle.fc_image.proofs.EntriesLemmas.{later as contains_later, cases as contains_cases}
 
 flat_same : (f g : ℕ → List ℕ) (ss : List ℕ) → ((s : ℕ) → is_among ss s ≡ true → f s ≡ g s) → flat_map f ss ≡ flat_map g ss
 flat_same f g [] same = refl

@@ -11,12 +11,13 @@ use Rattle.fc_image.specs.Edits.{Apart}
 use Rattle.fc_image.specs.Stays.{HasSectorsOf}
 use Rattle.fc_image.proofs.FreeLemmas.{object_same}
 use Rattle.fc_image.proofs.HolesLemmas.{apart_at}
-use Rattle.fc_changes.proofs.BasicLemmas.{clash, unless}
+use Rattle.fc_changes.proofs.BasicLemmas.{clash}
 use Rattle.fc_laws.proofs.lemmas.agree.WalkedLemmas as on_any
 use Rattle.fc_edits.specs.PartsEdit.{PartsEdit}
 use Rattle.fc_edits.proofs.lemmas.LeavingLemmas.{one_of_sector}
 use Rattle.fc_outcomes.specs.Puts.{ArePutOut, Put}
 use Rattle.fc_outcomes.proofs.lemmas.KeptLemmas.{map_reserved}
+use Rattle.std.proofs.lemmas.Bool.{false_from_ne_true as unless}
 
 -- two objects with one sector
 pub one_of_both : (pe : PartsEdit) (q o : Object) (s : ℕ) → Contains (objects_of pe.listings) q → Contains (objects_of pe.listings) o → is_among q.sectors s ≡ true → is_among o.sectors s ≡ true → q ≡ o

@@ -8,10 +8,10 @@ use Rattle.fc_image.specs.Layout.{Layout}
 use Rattle.fc_image.specs.Walk.{Object}
 use Rattle.fc_image.specs.Objects.{objects_of}
 use Rattle.fc_tree.specs.Nodes.{number_of}
-use Rattle.fc_tree.proofs.MemberLemmas.{contains_cases, from_map, in_map}
+use Rattle.fc_tree.proofs.MemberLemmas.{from_map, in_map}
 use Rattle.fc_tree.proofs.WalkedLemmas.{root_path}
 use Rattle.fc_laws.proofs.lemmas.nodes.FitsLemmas.{one_number}
-use Rattle.fc_laws.proofs.lemmas.nodes.ListLemmas.{in_first, in_other, map_append}
+use Rattle.fc_laws.proofs.lemmas.nodes.ListLemmas.{in_first, in_other}
 use Rattle.fc_edits.specs.Edit.{Edit, TopStays, TopTurns, joined_in, joining, leaving, left_in, numbers, objects}
 use Rattle.fc_edits.specs.NodesEdit.{NodesEdit}
 use Rattle.fc_edits.specs.Places.{Stays}
@@ -22,6 +22,8 @@ use Rattle.fc_safeedits.specs.Relocation.{Relocation, is_moved, laid_at, laid_in
 use Rattle.fc_safeedits.proofs.lemmas.LaidLemmas.{ne, number_is}
 use Rattle.fc_safeedits.proofs.lemmas.RelocatedLemmas.{e', extra, is_edit', joined', left', moved_leaves}
 use Rattle.fc_safeedits.proofs.lemmas.RelocatedNodesLemmas.{carried_stays, nodes_now, top_still}
+use Rattle.fc_image.proofs.TreeLemmas.{map_both as map_append}
+use Rattle.fc_image.proofs.EntriesLemmas.{cases as contains_cases}
 
 -- ---- who stays, by any edit
 

@@ -13,17 +13,21 @@ use Rattle.fc_image.specs.Objects.{objects_of}
 use Rattle.fc_image.specs.Moves.{object_in}
 use Rattle.fc_image.specs.Order.{held}
 use Rattle.fc_tree.specs.Nodes.{number_of}
-use Rattle.fc_tree.proofs.MemberLemmas.{contains_cases, contains_here, contains_later, from_map, in_filter, in_map, no_element}
+use Rattle.fc_tree.proofs.MemberLemmas.{contains_here, from_map, in_filter, in_map, no_element}
 use Rattle.fc_tree.proofs.SoundLemmas.{children_stored}
 use Rattle.fc_tree.proofs.WalkedLemmas.{child_is_object, listed_directory}
 use Rattle.fc_laws.specs.nodes.Laws.{IsHeld}
-use Rattle.fc_laws.proofs.lemmas.nodes.ListLemmas.{in_first, map_append}
+use Rattle.fc_laws.proofs.lemmas.nodes.ListLemmas.{in_first}
 use Rattle.fc_edits.specs.Edit.{Amended, Edit, IsAmended, KeepsEntry, joined_in, left_in, objects}
 use Rattle.fc_edits.specs.NodesEdit.{NodesEdit}
-use Rattle.fc_edits.proofs.lemmas.ListLemmas.{flat_append, flat_mapped, in_flat, map_map}
+use Rattle.fc_edits.proofs.lemmas.ListLemmas.{flat_mapped, in_flat, map_map}
 use Rattle.fc_edits.proofs.lemmas.NumberLemmas as n_
 use Rattle.fc_edits.proofs.lemmas.ShapeLemmas.{none_flat}
 use Rattle.fc_safeedits.specs.Relocation.{Relocation, all_amended, carried, is_moved, laid, number_at, told_again, unmoved}
+use Rattle.fc_image.proofs.ShuffleLemmas.{flat_map-append as flat_append}
+use Rattle.fc_image.proofs.TreeLemmas.{map_both as map_append}
+use Rattle.fc_edits.proofs.lemmas.AroundLemmas.{mapped_same as map_same}
+use Rattle.fc_image.proofs.EntriesLemmas.{later as contains_later, cases as contains_cases}
 
 -- ---- one object
 
@@ -51,10 +55,6 @@ pub moved_entry : (moves : ℕ → Bool) (o p : Object) → o.entry ≡ p.entry 
 moved_entry moves o p same = ap (λ (e : Entry). moves (e.address / 256)) same
 
 -- ---- lists
-
-pub map_same : {X Y : Type 0} (f g : X → Y) (xs : List X) → ((x : X) → Contains xs x → f x ≡ g x) → map f xs ≡ map g xs
-map_same f g [] each = refl
-map_same {Y = Y} f g (x ∷ xs) each = ap₂ (λ (y : Y) (ys : List Y). y ∷ ys) (each x (contains_here x xs)) (map_same f g xs (λ z at. each z (contains_later x z xs at)))
 
 -- what passes a test
 pub passes : {X : Type 0} (t : X → Bool) (xs : List X) (x : X) → Contains (filter t xs) x → Contains xs x × (t x ≡ true)

@@ -9,19 +9,22 @@ use Rattle.fc_dirs.specs.declared.Entry.{Entry}
 use Rattle.fc_image.specs.Layout.{Layout}
 use Rattle.fc_image.specs.Walk.{Listing, Object}
 use Rattle.fc_image.specs.Objects.{objects_of}
-use Rattle.fc_image.proofs.MoveLemmas.{unless}
 use Rattle.fc_tree.specs.Nodes.{number_of}
-use Rattle.fc_tree.proofs.MemberLemmas.{contains_cases, contains_here, contains_later, from_flat, from_map, in_map, no_element}
+use Rattle.fc_tree.proofs.MemberLemmas.{contains_here, from_flat, from_map, in_map, no_element}
 use Rattle.fc_tree.proofs.WalkedLemmas.{same_some, root_path}
 use Rattle.fc_laws.specs.nodes.Laws.{IsHeld}
-use Rattle.fc_laws.proofs.lemmas.nodes.ListLemmas.{in_first, in_other, map_append}
+use Rattle.fc_laws.proofs.lemmas.nodes.ListLemmas.{in_first, in_other}
 use Rattle.fc_laws.proofs.lemmas.nodes.OtherLemmas.{top_object}
 use Rattle.fc_edits.specs.Edit.{Amended, Edit, IsAmended, IsEdit, KeepsEntry, TopStays, TopTurns, joined_in, leaving, left_in, numbers, objects, turned}
 use Rattle.fc_edits.proofs.lemmas.ListLemmas.{flat_mapped, in_flat, map_flat, map_map, parted}
 use Rattle.fc_edits.proofs.lemmas.NumberLemmas as n_
 use Rattle.fc_edits.proofs.lemmas.ShapeLemmas.{only}
 use Rattle.fc_safeedits.specs.Relocation.{Relocation, all_amended, amended_in, carried, is_moved, laid_at, laid_in, number_at, relocated, turned_at, turned_in}
-use Rattle.fc_safeedits.proofs.lemmas.LaidLemmas.{all_amend, all_child, all_kid, all_listed, all_object, carried_objects, from_carried, in_carried, joined_all, kid_keeps, kids_all, kids_parted, laid_entry, laid_path, laid_still, left_all, map_same, moved_entry, ne, number_is, was_all}
+use Rattle.fc_safeedits.proofs.lemmas.LaidLemmas.{all_amend, all_child, all_kid, all_listed, all_object, carried_objects, from_carried, in_carried, joined_all, kid_keeps, kids_all, kids_parted, laid_entry, laid_path, laid_still, left_all, moved_entry, ne, number_is, was_all}
+use Rattle.std.proofs.lemmas.Bool.{false_from_ne_true as unless}
+use Rattle.fc_image.proofs.TreeLemmas.{map_both as map_append}
+use Rattle.fc_edits.proofs.lemmas.AroundLemmas.{mapped_same as map_same}
+use Rattle.fc_image.proofs.EntriesLemmas.{later as contains_later, cases as contains_cases}
 
 module _ (x : Relocation) where
   abbrev e : Edit

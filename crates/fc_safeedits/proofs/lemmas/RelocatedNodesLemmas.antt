@@ -17,7 +17,7 @@ use Rattle.fc_tree.proofs.MemberLemmas.{contains_here, from_flat, from_map, in_m
 use Rattle.fc_tree.proofs.WalkedLemmas.{listed_directory, same_some}
 use Rattle.fc_laws.specs.nodes.Laws.{IsHeld}
 use Rattle.fc_laws.proofs.lemmas.nodes.FitsLemmas.{fits_at, kid_at}
-use Rattle.fc_laws.proofs.lemmas.nodes.ListLemmas.{in_first, in_other, map_append}
+use Rattle.fc_laws.proofs.lemmas.nodes.ListLemmas.{in_first, in_other}
 use Rattle.fc_laws.proofs.lemmas.nodes.OtherLemmas.{no_file}
 use Rattle.fc_edits.specs.Edit.{Amended, AreEdited, Edit, IsEdit, TopStays, TopTurns, joined_in, joining, leaving, left_in, numbers}
 use Rattle.fc_edits.specs.Lookups.{held_as, held_by, said, says_at}
@@ -27,6 +27,7 @@ use Rattle.fc_edits.proofs.lemmas.ShapeLemmas.{only}
 use Rattle.fc_safeedits.specs.Relocation.{IsCarried, JoinsBefore, Relocation, RelocationLaw, all_amended, amended_in, carried, is_moved, laid_at, number_at, relocated, told_again, turned_at, turned_in}
 use Rattle.fc_safeedits.proofs.lemmas.LaidLemmas.{all_amend, all_child, all_kid, all_listed, all_object, amended_or_told, from_carried, laid_entry, ne, number_is, same_listed}
 use Rattle.fc_safeedits.proofs.lemmas.RelocatedLemmas.{e', extra, is_edit', joined', leaving_more, left', left_more, still_there, turned_entry}
+use Rattle.fc_image.proofs.TreeLemmas.{map_both as map_append}
 
 module _ (x : Relocation) where
   abbrev e : Edit

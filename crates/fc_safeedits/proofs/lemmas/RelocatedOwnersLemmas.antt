@@ -11,18 +11,18 @@ use Rattle.fc_alloc.specs.declared.owner.Owner.{Owner}
 use Rattle.fc_image.specs.Layout.{Layout, id_of, low_of}
 use Rattle.fc_image.specs.Walk.{Listing, Object}
 use Rattle.fc_image.specs.Objects.{objects_of}
-use Rattle.fc_image.proofs.ShuffleLemmas.{IsPermutation-unappend}
+use Rattle.fc_image.proofs.ShuffleLemmas.{IsPermutation-unappend, flat_map-append as flat_append}
 use Rattle.fc_tree.specs.Nodes.{number_of}
 use Rattle.fc_tree.specs.Parts.{AreOwners, first_in, owner_of}
-use Rattle.fc_tree.proofs.MemberLemmas.{contains_here, contains_later, in_map, no_element}
+use Rattle.fc_tree.proofs.MemberLemmas.{contains_here, in_map, no_element}
 use Rattle.fc_tree.proofs.WalkedLemmas.{child_path, holder-push, root_path}
 use Rattle.fc_laws.specs.nodes.Edits.{Nodes, OwnersEdited, owner_with, owners_with}
-use Rattle.fc_laws.proofs.lemmas.nodes.ListLemmas.{in_first, map_append}
+use Rattle.fc_laws.proofs.lemmas.nodes.ListLemmas.{in_first}
 use Rattle.fc_laws.proofs.lemmas.nodes.OwnerLemmas.{among-append, among_one, among_permuted, owner_known, owners_among}
 use Rattle.fc_edits.specs.Edit.{Amended, Edit, IsEdit, TopStays, TopTurns, joined_in, joining, leaving, left_in, objects, owners_in, owners_joined, owners_left}
 use Rattle.fc_edits.specs.NodesEdit.{NodesEdit}
 use Rattle.fc_edits.specs.Places.{Stays}
-use Rattle.fc_edits.proofs.lemmas.ListLemmas.{flat_append, flat_mapped, in_flat, parted}
+use Rattle.fc_edits.proofs.lemmas.ListLemmas.{flat_mapped, in_flat, parted}
 use Rattle.fc_edits.proofs.lemmas.NumberLemmas as n_
 use Rattle.fc_edits.proofs.lemmas.ShapeLemmas.{none_flat, only}
 use Rattle.fc_safeedits.specs.Relocation.{Relocation, all_amended, amended_in, carried, is_moved, laid_at, laid_in, relocated, told_again, turned_at, turned_in}
@@ -30,15 +30,11 @@ use Rattle.fc_safeedits.proofs.lemmas.AlongLemmas.{beside, ne'}
 use Rattle.fc_safeedits.proofs.lemmas.LaidLemmas.{all_kid, all_object, amended_or_told, from_carried, kid_keeps, laid_entry}
 use Rattle.fc_safeedits.proofs.lemmas.RelocatedLemmas.{e', turned_entry}
 use Rattle.fc_safeedits.proofs.lemmas.RelocatedNodesLemmas.{carried_stays, top_still}
+use Rattle.fc_image.proofs.TreeLemmas.{map_both as map_append}
+use Rattle.fc_edits.proofs.lemmas.OwnerLemmas.{among_list}
+use Rattle.fc_image.proofs.EntriesLemmas.{later as contains_later}
 
 -- ---- owners among objects that are numbered
-
-among_list : (nodes : Nodes) (layout : Layout) (dir : ℕ) (ps : List (ℕ × Object)) → ((p : ℕ × Object) → Contains ps p → owner_of nodes layout p.1 ≡ owner_with layout dir p.0 p.1)
-    → owners_among nodes layout (objects ps) ≡ owners_in layout dir ps
-among_list nodes layout dir [] each = refl
-among_list nodes layout dir (p ∷ ps) each =
-    among-append nodes layout (p.1 ∷ []) (objects ps)
-    ∙ ap₂ (λ (a b : List Owner). a ++ b) (among_one nodes layout layout p.1 dir p.0 (each p (contains_here p ps))) (among_list nodes layout dir ps (λ q at. each q (contains_later p q ps at)))
 
 among_all : (nodes : Nodes) (layout : Layout) (f : Amended → List (ℕ × Object)) (bs : List Amended)
     → ((a : Amended) (p : ℕ × Object) → Contains bs a → Contains (f a) p → owner_of nodes layout p.1 ≡ owner_with layout a.number p.0 p.1)

@@ -27,7 +27,6 @@ use Rattle.fc_changes.proofs.ChangeLemmas.{a_sector}
 use Rattle.fc_laws.specs.nodes.Edits.{OwnersEdited}
 use Rattle.fc_laws.specs.nodes.Laws.{IsHeld}
 use Rattle.fc_laws.proofs.lemmas.agree.BeforeLemmas.{new_shape, object_lies}
-use Rattle.fc_laws.proofs.lemmas.agree.NewPlaceLemmas.{some_there}
 use Rattle.fc_edits.specs.Edit.{Amended, TopStays, owners_joined, owners_left}
 use Rattle.fc_edits.specs.NewPlaces.{LiesAgain, is_taken}
 use Rattle.fc_edits.specs.Rewording.{Rewording, amended, edit}
@@ -46,6 +45,7 @@ use Rattle.fc_safeedits.proofs.lemmas.RelocatedLemmas.{turned_entry}
 use Rattle.fc_safeedits.proofs.lemmas.RelocatedOwnersLemmas.{owner_same}
 use Rattle.fc_safeedits.proofs.lemmas.SafeChangeLemmas.{held, says_there, sectors_as}
 use Rattle.fc_safeedits.proofs.lemmas.SafePlacesLemmas.{reaches_by}
+use Rattle.fc_changes.proofs.NewPlaceLemmas.{some_there}
 
 module _ (d : SafeRewording) where
   abbrev x : SafeChange

@@ -48,15 +48,9 @@ use Rattle.fc_safeedits.proofs.lemmas.LaidLemmas.{laid_there}
 use Rattle.fc_safeedits.proofs.lemmas.RelocatedLemmas.{turned_entry, turned_path}
 use Rattle.fc_safeedits.proofs.lemmas.SafeChangeLemmas.{IsQuiet, held, says_there, zones_same}
 use Rattle.fc_safeedits.proofs.lemmas.SafeOutcomeLemmas.{safe_outcome_law}
+use Rattle.fc_outcomes.proofs.lemmas.DeletedLemmas.{goes_at}
 
--- what goes stood at the path
-goes_at : (path : Path) (out : List Listing) (o : Object) → GoesAlone out o → is_same_path path o.path ≡ true → (k : Listing) → Contains out k → is_same_path path k.object.path ≡ true
-goes_at path [] o alone same k at = absurd (no_element k at)
-goes_at path (d ∷ []) o alone same k at =
-    ap (λ (x : Listing). is_same_path path x.object.path) (sym (only d k at)) ∙ ap (λ (x : Object). is_same_path path x.path) alone.0 ∙ same
-goes_at path (d ∷ e ∷ out) o alone same k at = absurd alone
-
-none_and : (a b : Bool) → (a && false && b) ≡ false
+pub none_and : (a b : Bool) → (a && false && b) ≡ false
 none_and true b = refl
 none_and false b = refl
 

@@ -25,7 +25,7 @@ use Rattle.fc_tree.proofs.MemberLemmas.{contains_here, from_map, no_element}
 use Rattle.fc_laws.specs.agree.Agreed.{CanSay}
 use Rattle.fc_laws.proofs.lemmas.agree.BeforeLemmas.{had}
 use Rattle.fc_laws.proofs.lemmas.agree.WalkedLemmas as on_any
-use Rattle.fc_laws.proofs.lemmas.nodes.ListLemmas.{in_first, map_append}
+use Rattle.fc_laws.proofs.lemmas.nodes.ListLemmas.{in_first}
 use Rattle.fc_edits.specs.Edit.{Amended, Edit, TopStays, TopTurns, objects}
 use Rattle.fc_edits.specs.NewPlaces.{NewPlaces}
 use Rattle.fc_edits.specs.PartsEdit.{NewPartsEdit}
@@ -42,6 +42,7 @@ use Rattle.fc_safeedits.proofs.lemmas.RelocatedLemmas.{extra, is_edit', the_top,
 use Rattle.fc_safeedits.proofs.lemmas.RelocatedNodesLemmas.{carried_stays, nodes_now, relocation_law}
 use Rattle.fc_safeedits.proofs.lemmas.SafeBytesLemmas as b_
 use Rattle.fc_safeedits.proofs.lemmas.SafePlacesLemmas.{places', safe_places_law}
+use Rattle.fc_image.proofs.TreeLemmas.{map_both as map_append}
 
 module _ (y : SafeImage) where
   abbrev x : Relocation

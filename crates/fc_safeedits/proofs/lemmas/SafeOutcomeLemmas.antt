@@ -2,7 +2,7 @@
 use Rattle.std.proofs.Common.{◌≡◌, ◌<◌, ◌≤◌, ◌⊎◌, inl, inr, ⊎_elim, ℕ, Bool, true, false, not, cond, ◌&&◌, ◌||◌, List, [], ◌∷◌, ◌++◌, drop, map, refl, sym, ap, ap₂, subst, ◌∙◌, arith, Option}
 use Rattle.std.specs.Prelude.{Contains, IsPermutation, IsSomeAnd, nat_le, ◌==◌}
 use Rattle.std.specs.List.{fold, list_any}
-use Rattle.std.proofs.lemmas.Bool.{leb-true}
+use Rattle.std.proofs.lemmas.Bool.{leb-true, false_from_ne_true as unless}
 use Rattle.std.proofs.lemmas.List.{append-nil}
 use Rattle.std.proofs.lemmas.List.Elements.{Contains-append_cases, Contains-append_left}
 use Rattle.fc_names.specs.Names.{is_same_path}
@@ -22,8 +22,6 @@ use Rattle.fc_image.specs.effects.Placed.{holes_left}
 use Rattle.fc_image.specs.effects.Steady.{DirectorySteady, IsRewritten, MapOutside, expected_zone, holes_with, idle_sectors, is_gone, keeps_runs, may_be_rewritten, path_after, runs_that, zone_holes}
 use Rattle.fc_image.specs.safe.SafeSteady.{ChangedRewritten, SafeMapSteady, SafeSpaceSteady, need_ids}
 use Rattle.fc_image.proofs.LookupLemmas.{lookup_law}
-use Rattle.fc_image.proofs.MoveLemmas.{unless}
-use Rattle.fc_image.proofs.OneZoneLemmas.{and_second}
 use Rattle.fc_image.proofs.TreeLemmas.{tree_edit_law}
 use Rattle.fc_plan.specs.Giving.{is_one_of}
 use Rattle.fc_changes.proofs.AfterLemmas.{behind_stays}
@@ -52,14 +50,8 @@ use Rattle.fc_safeedits.proofs.lemmas.LaidLemmas.{amended_or_told, was_all}
 use Rattle.fc_safeedits.proofs.lemmas.RelocatedLemmas.{turned_path}
 use Rattle.fc_safeedits.proofs.lemmas.SafeBytesLemmas.{free, told_body}
 use Rattle.fc_safeedits.proofs.lemmas.SafeImageLemmas.{kept', moved', parts, places, written}
-
--- an identifier that is lost is owned by nobody
-lost_not_owned : (objects : List Object) (id : ℕ) → is_lost objects id ≡ true → is_owned objects id ≡ false
-lost_not_owned objects id lost = by (is_owned objects id) lost
-  where
-    by : (b : Bool) → (not b && not (id == 1) && not (id == 2)) ≡ true → b ≡ false
-    by true h = absurd (cc)
-    by false h = refl
+use Rattle.fc_record.proofs.KindLemmas.{and_second}
+use Rattle.fc_outcomes.proofs.lemmas.NewSpaceLemmas.{lost_not_owned}
 
 -- a directory that goes isn't a changed one
 stays_of : (a b c : Bool) → (a && b && not c) ≡ true → c ≡ true → ⊥

@@ -18,13 +18,12 @@ use Rattle.fc_image.specs.Opening.{reserved_in}
 use Rattle.fc_image.specs.Edits.{Apart, IsAt}
 use Rattle.fc_image.specs.Moves.{object_in}
 use Rattle.fc_image.proofs.HolesLemmas.{apart_at, apart_from}
-use Rattle.fc_image.proofs.MoveLemmas.{unless}
 use Rattle.fc_image.proofs.OrderLemmas.{apart_shuffled}
 use Rattle.fc_image.proofs.RelistLemmas.{apart_behind}
 use Rattle.fc_image.proofs.ShuffleLemmas.{IsPermutation-unappend}
 use Rattle.fc_changes.proofs.BasicLemmas.{any_in, in_any}
 use Rattle.fc_tree.specs.declared.node.Node.{Node}
-use Rattle.fc_tree.proofs.MemberLemmas.{contains_cases, contains_here, contains_later, from_map, in_map, no_element}
+use Rattle.fc_tree.proofs.MemberLemmas.{contains_here, from_map, in_map, no_element}
 use Rattle.fc_laws.specs.agree.Agreed.{AgreeOn}
 use Rattle.fc_laws.proofs.lemmas.agree.BeforeLemmas.{had, object_lies}
 use Rattle.fc_laws.proofs.lemmas.nodes.ListLemmas.{in_first, in_other}
@@ -32,7 +31,6 @@ use Rattle.fc_edits.specs.Edit.{Edit, KeepsEntry, TopStays, TopTurns, joining, l
 use Rattle.fc_edits.specs.NewPlaces.{ApartInOne, GivesBack, LiesAgain, NewPlaces, Taking, is_taken}
 use Rattle.fc_edits.specs.Places.{Stays}
 use Rattle.fc_edits.proofs.lemmas.GrownMemberLemmas.{apart_permuted}
-use Rattle.fc_edits.proofs.lemmas.IdentifierLemmas.{owner_id}
 use Rattle.fc_edits.proofs.lemmas.LeavingLemmas.{left_apart, left_other}
 use Rattle.fc_safelaws.specs.Relaid.{IsRelaid, Reaches}
 use Rattle.fc_safelaws.proofs.RelaidLemmas.{relaid_law}
@@ -43,11 +41,10 @@ use Rattle.fc_safeedits.proofs.lemmas.RelocatedOwnersLemmas.{KeepsLengths, owner
 use Rattle.fc_safeedits.proofs.lemmas.LaidLemmas.{laid_entry, laid_still, laid_there, moved_entry, ne}
 use Rattle.fc_safeedits.proofs.lemmas.RelocatedLemmas.{e', extra, left', turned_entry}
 use Rattle.fc_safeedits.proofs.lemmas.RelocatedNodesLemmas.{joining_more, joins', relocation_law}
-
-same_bool : (a b : Bool) → (a ≡ true → b ≡ true) → (b ≡ true → a ≡ true) → a ≡ b
-same_bool true b there back = sym (there refl)
-same_bool false true there back = back refl
-same_bool false false there back = refl
+use Rattle.fc_changes.proofs.NewPlaceLemmas.{owner_id}
+use Rattle.std.proofs.lemmas.Bool.{false_from_ne_true as unless}
+use Rattle.fc_image.proofs.CommandLemmas.{both_ways as same_bool}
+use Rattle.fc_image.proofs.EntriesLemmas.{later as contains_later, cases as contains_cases}
 
 -- ---- objects of one entry
 

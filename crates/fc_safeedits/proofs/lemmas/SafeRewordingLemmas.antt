@@ -48,23 +48,8 @@ use Rattle.fc_safeedits.proofs.lemmas.RelocatedNodesLemmas.{joining_more}
 use Rattle.fc_safeedits.proofs.lemmas.SafeChangeLemmas.{IsQuiet, zones_same}
 use Rattle.fc_safeedits.proofs.lemmas.SafeImageLemmas.{parts, safe_image_law}
 use Rattle.fc_safeedits.proofs.lemmas.SafeOutcomeLemmas.{safe_outcome_law}
-
--- the last byte of an entry isn't a word
-last_same : (command : Command) (path there : Path) (turn : Object → Object) (o : Object) → Words command path there turn → (turn o).entry.last ≡ o.entry.last
-last_same command path there turn o (inl s) = ap (λ (f : Object → Object). (f o).entry.last) s.4 ∙ by (is_same_path there o.path)
-  where
-    by : (b : Bool) → (cond b (record o { entry = record o.entry { load = s.0; exec = s.1; attrs = o.entry.attrs / 8 * 8 + s.2 } }) o).entry.last ≡ o.entry.last
-    by true = refl
-    by false = refl
-last_same command path there turn o (inr s) = ap (λ (f : Object → Object). (f o).entry.last) s.2 ∙ by (is_same_path there o.path)
-  where
-    by : (b : Bool) → (cond b (record o { entry = record o.entry { attrs = s.0 / 16 * 16 + 8 * (o.entry.attrs / 8 % 2) + s.0 % 8 } }) o).entry.last ≡ o.entry.last
-    by true = refl
-    by false = refl
-
-none_and : (a b : Bool) → (a && false && b) ≡ false
-none_and true b = refl
-none_and false b = refl
+use Rattle.fc_outcomes.proofs.lemmas.RewordedLemmas.{last_same}
+use Rattle.fc_safeedits.proofs.lemmas.SafeDeletionLemmas.{none_and}
 
 module _ (d : SafeRewording) where
   abbrev x : SafeChange

@@ -13,7 +13,7 @@ use Rattle.fc_newmap.specs.NewMap.{IsNewMap}
 use Rattle.fc_newmap.specs.Edits.{KeepsRuns}
 use Rattle.fc_newmap.specs.RunsLaw.{placed}
 use Rattle.fc_newmap.proofs.HeldLemmas.{geometry_facts}
-use Rattle.fc_newmap.proofs.PlaceLemmas.{id_run_in, in_zone, is_in, range_in, zone_in}
+use Rattle.fc_newmap.proofs.PlaceLemmas.{id_run_in, in_zone, range_in, zone_in}
 use Rattle.fc_image.specs.effects.Placed.{holes_left, stands_at}
 use Rattle.fc_image.specs.effects.Steady.{has_id_that, holes_with, runs_that, zone_holes}
 use Rattle.fc_plan.specs.declared.plan.Part.{Part}
@@ -28,12 +28,15 @@ use Rattle.fc_plan.proofs.Taken.{find_is}
 use Rattle.fc_placing.specs.Space.{HasTaken}
 use Rattle.fc_placing.proofs.SpaceLemmas.{ids_same}
 use Rattle.fc_changes.proofs.SpaceLemmas.{no_runs}
-use Rattle.fc_tree.proofs.MemberLemmas.{contains_cases, contains_here, contains_later, from_map, in_map, no_element}
+use Rattle.fc_tree.proofs.MemberLemmas.{contains_here, from_map, in_map, no_element}
 use Rattle.fc_writing.specs.Steps.{AreTaken, CanTakeAll, HasMoved}
 use Rattle.fc_edits.specs.NewNodes.{AreDistinct}
 use Rattle.fc_edits.specs.NewPlaces.{IsSpaceChange, Taking, is_taken, untaken}
 use Rattle.fc_edits.proofs.lemmas.ListLemmas.{in_flat}
 use Rattle.fc_safeedits.specs.SafeSpace.{SafeSpaceLaw, TakesAndGives, taking_of, takings_of}
+use Rattle.fc_device.specs.Numbers.{is_listed as is_in}
+use Rattle.fc_changes.proofs.CommittedLemmas.{all_same as runs_same}
+use Rattle.fc_image.proofs.EntriesLemmas.{later as contains_later, cases as contains_cases}
 
 -- ---- lists
 
@@ -64,10 +67,6 @@ filter_two {X} t (x ∷ xs) ys = by (t x) (filter_two t xs ys)
     by false e = e
 
 -- ---- maps with the same runs
-
-runs_same : (m m' : Map) → KeepsRuns m m' → (zones : List ℕ) → runs_in m' zones ≡ runs_in m zones
-runs_same m m' kept [] = refl
-runs_same m m' kept (z ∷ zones) = ap₂ (λ (runs : List Run) (others : List ZoneRun). placed z runs ++ others) (kept.runs z) (runs_same m m' kept zones)
 
 all_same : (m m' : Map) → KeepsRuns m m' → all_runs m' ≡ all_runs m
 all_same m m' kept = ap (λ (g : Geometry). runs_in m' (zone_numbers g)) kept.geometry ∙ runs_same m m' kept (zone_numbers m.geometry)

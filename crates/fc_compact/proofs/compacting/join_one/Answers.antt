@@ -1,13 +1,13 @@
 use Rattle.std.proofs.Common.{◌≡◌, true, false, refl, sym, subst, ◌∙◌, arith}
 use Rattle.std.specs.Prelude.{nat_le, nat_lt, length}
-use Rattle.std.proofs.lemmas.Bool.{ltb-true, leb-true}
+use Rattle.std.proofs.lemmas.Bool.{ltb-true, leb-true, and_parts as both_true}
 use Rattle.fc_device.proofs.DiskLaws.{laws}
 use Rattle.fc_device.proofs.StopLemmas.{keeps_start}
 use Rattle.fc_newmap.specs.Map.{bits_in, id_runs}
 use Rattle.fc_compact.specs.Ready.{is_movable_by}
 use Rattle.fc_compact.specs.Passing.{IsLongest}
 use Rattle.fc_image.specs.effects.Settled.{zones_with}
-use Rattle.fc_compact.proofs.PassLemmas.{longest_of, both_true, no_hole, no_room, one_run, too_many, tries_joined, tries_none}
+use Rattle.fc_compact.proofs.PassLemmas.{longest_of, no_hole, no_room, one_run, too_many, tries_joined, tries_none}
 use Rattle.fc_compact.proofs.PreservesLemmas.{preserves_same}
 use Rattle.fc_compact.proofs.compacting.join_one.Goals as goal
 

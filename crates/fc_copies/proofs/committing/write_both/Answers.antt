@@ -9,8 +9,8 @@ use Rattle.fc_copies.specs.Passes.{HasPassed, HasPassedBoth, IsPartWritten}
 use Rattle.fc_copies.proofs.CommitLemmas.{no_zones, none_passed}
 use Rattle.fc_copies.proofs.PassLemmas.{each_as, keeps_on, keeps_told, part_as}
 use Rattle.fc_copies.proofs.ReadingLemmas.{sectors_fit}
-use Rattle.fc_copies.proofs.RepairLemmas.{some_is}
 use Rattle.fc_copies.proofs.committing.write_both.Goals as goal
+use Rattle.fc_device.proofs.StopLemmas.{one_told as some_is}
 
 pub returns-in_err-write_zones-clause-keeps : goal.returns-in_err-write_zones-clause-keeps
 returns-in_err-write_zones-clause-keeps g c =

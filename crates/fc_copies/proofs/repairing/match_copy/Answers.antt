@@ -5,14 +5,11 @@ use Rattle.fc_device.proofs.DiskLaws.{laws, form_same, form_then}
 use Rattle.fc_copies.specs.Passes.{zone_from}
 use Rattle.fc_copies.proofs.PassLemmas.{found_one, pass_same, pass_source, pass_start, pass_write, written_none, written_one, written_same}
 use Rattle.fc_copies.proofs.repairing.match_copy.Goals as goal
+use Rattle.std.proofs.lemmas.Bool.{or_parts as none_of}
 
 either : {A : Type 0} (b : Bool) → (b ≡ true → A) → (b ≡ false → A) → A
 either true left right = left refl
 either false left right = right refl
-
-none_of : (a b : Bool) → (a || b) ≡ false → (a ≡ false) × (b ≡ false)
-none_of false b e = (refl, e)
-none_of true b e = absurd (cc)
 
 pub loop-z-init : goal.loop-z-init
 loop-z-init g c =

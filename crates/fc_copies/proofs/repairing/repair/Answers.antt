@@ -10,8 +10,9 @@ use Rattle.fc_copies.specs.Copies.{chosen, copy_of, copy_start, HoldsCopies, Rep
 use Rattle.fc_copies.specs.Passes.{IsPartWritten, zone_from}
 use Rattle.fc_copies.proofs.PassLemmas.{keeps_told, part_as, written_as}
 use Rattle.fc_copies.proofs.ReadingLemmas.{sectors_fit}
-use Rattle.fc_copies.proofs.RepairLemmas.{some_is, first_mends, first_spoils, last_ends, last_mends, mends_leaves, one_holds, one_leaves, rest_mends, rest_rests, rest_spoils}
+use Rattle.fc_copies.proofs.RepairLemmas.{first_mends, first_spoils, last_ends, last_mends, mends_leaves, one_holds, one_leaves, rest_mends, rest_rests, rest_spoils}
 use Rattle.fc_copies.proofs.repairing.repair.Goals as goal
+use Rattle.fc_device.proofs.StopLemmas.{one_told as some_is}
 
 pub start_of-one-requires : goal.start_of-one-requires
 start_of-one-requires g c = sectors_fit (laws g.met.D.Disk) c.args.disk.now _ c.requires.on_disk

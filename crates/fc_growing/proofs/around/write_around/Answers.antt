@@ -7,10 +7,11 @@ use Rattle.fc_device.proofs.DiskLaws.{form_then, laws}
 use Rattle.fc_device.proofs.StopLemmas.{keeps_then, keeps_weaker}
 use Rattle.fc_objects.specs.Extents.{sectors_in}
 use Rattle.fc_volume.specs.declared.changes.rewrite.Rewrite.{Rewrite}
-use Rattle.fc_volume.proofs.WritingLemmas.{part_written, written_then}
+use Rattle.fc_volume.proofs.WritingLemmas.{part_written}
 use Rattle.fc_growing.specs.Around.{AreAllFilled, sectors_around}
 use Rattle.fc_growing.proofs.AroundWrittenLemmas.{filled_by, filled_more, one_written}
 use Rattle.fc_growing.proofs.around.write_around.Goals as goal
+use Rattle.fc_volume.proofs.RelocatingLemmas.{both_written as written_then}
 
 pub returns-in_err-write_bytes-clause-keeps : goal.returns-in_err-write_bytes-clause-keeps
 returns-in_err-write_bytes-clause-keeps g c =

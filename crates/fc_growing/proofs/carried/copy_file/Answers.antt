@@ -6,10 +6,10 @@ use Rattle.fc_image.specs.Stays.{HasEqualCopies}
 use Rattle.fc_objects.specs.Extents.{sectors_in}
 use Rattle.fc_space.specs.Space.{layout_of}
 use Rattle.fc_volume.specs.Volume.{parts_of}
-use Rattle.fc_growing.proofs.CarriedLemmas.{copies_kept}
 use Rattle.fc_volume.proofs.StandsLemmas.{new_layout}
 use Rattle.fc_growing.specs.Carried.{sectors_to}
 use Rattle.fc_growing.proofs.carried.copy_file.Goals as goal
+use Rattle.fc_volume.proofs.CopyingLemmas.{copies_kept}
 
 pub returns-in-Ok-clause-known : goal.returns-in-Ok-clause-known
 returns-in-Ok-clause-known g c = λ image told.

@@ -4,11 +4,11 @@ use Rattle.fc_device.proofs.DiskLaws.{laws}
 use Rattle.fc_device.proofs.StopLemmas.{keeps_then, keeps_weaker, led}
 use Rattle.fc_changes.specs.Owed.{IsWritten}
 use Rattle.fc_volume.specs.declared.changes.rewrite.Rewrite.{Rewrite}
-use Rattle.fc_volume.proofs.WritingLemmas.{written_then}
 use Rattle.fc_growing.specs.Around.{AreAllFilled, sectors_around}
 use Rattle.fc_growing.specs.Growing.{sectors_written}
 use Rattle.fc_growing.proofs.AfterLemmas.{around_wider, others_wider, own_wider}
 use Rattle.fc_growing.proofs.growing.write_on.Goals as goal
+use Rattle.fc_volume.proofs.RelocatingLemmas.{both_written as written_then}
 
 pub returns-in_err-write_growth-clause-keeps : goal.returns-in_err-write_growth-clause-keeps
 returns-in_err-write_growth-clause-keeps g c =

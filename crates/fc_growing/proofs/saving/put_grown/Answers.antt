@@ -25,11 +25,12 @@ use Rattle.fc_volume.proofs.FilledLemmas.{length-filled}
 use Rattle.fc_volume.proofs.JudgedLemmas.{done_by}
 use Rattle.fc_volume.proofs.StandsLemmas.{new_layout}
 use Rattle.fc_growing.specs.declared.filing.GrownFile.{GrownFile}
-use Rattle.fc_growing.proofs.AskedLemmas.{kept_as_it_was, no_fault, no_memory, space_answer, unless_any}
+use Rattle.fc_growing.proofs.AskedLemmas.{kept_as_it_was, no_fault, space_answer}
 use Rattle.fc_growing.proofs.SavingReadyLemmas as asked_of
 use Rattle.fc_growing.proofs.SavingVolumeLemmas as volume_of
 use Rattle.fc_growing.proofs.SavingVolumeLemmas.{done_filled, ready_in}
 use Rattle.fc_growing.proofs.saving.put_grown.Goals as goal
+use Rattle.fc_volume.proofs.CdirAskedLemmas.{no_memory, unless_any}
 
 pub draft_grown_file-drafted-requires-clause-can : goal.draft_grown_file-drafted-requires-clause-can
 draft_grown_file-drafted-requires-clause-can g c = λ m at.

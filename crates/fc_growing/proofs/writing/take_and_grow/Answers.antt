@@ -7,9 +7,10 @@ use Rattle.fc_objects.specs.Extents.{sectors_in}
 use Rattle.fc_record.specs.declared.Geometry.{Geometry}
 use Rattle.fc_volume.proofs.FilingLemmas.{written_by}
 use Rattle.fc_volume.proofs.StoringLemmas.{kept_as}
-use Rattle.fc_volume.proofs.WritingLemmas.{copies_written, written_then}
+use Rattle.fc_volume.proofs.WritingLemmas.{copies_written}
 use Rattle.fc_growing.proofs.WritingLemmas.{if_as, turned}
 use Rattle.fc_growing.proofs.writing.take_and_grow.Goals as goal
+use Rattle.fc_volume.proofs.RelocatingLemmas.{both_written as written_then}
 
 pub returns-in_err-take_growth-clause-keeps : goal.returns-in_err-take_growth-clause-keeps
 returns-in_err-take_growth-clause-keeps g c = keeps_weaker (laws g.met.D.Disk) c.take_growth.ensures.keeps (copies_written c.args.map.now (sectors_in c.args.g.now.place.place.items))

@@ -4,9 +4,9 @@ use Rattle.fc_device.proofs.DiskLaws.{laws}
 use Rattle.fc_device.proofs.StopLemmas.{keeps_then, keeps_weaker, led}
 use Rattle.fc_objects.specs.Extents.{sectors_in}
 use Rattle.fc_volume.proofs.StoringLemmas.{wider_first}
-use Rattle.fc_volume.proofs.WritingLemmas.{written_then}
 use Rattle.fc_growing.proofs.WritingLemmas.{laid_copies}
 use Rattle.fc_growing.proofs.writing.write_growth.Goals as goal
+use Rattle.fc_volume.proofs.RelocatingLemmas.{both_written as written_then}
 
 pub take_and_grow-requires-clause-copies : goal.take_and_grow-requires-clause-copies
 take_and_grow-requires-clause-copies g c = λ image told.

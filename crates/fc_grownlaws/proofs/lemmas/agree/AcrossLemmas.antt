@@ -33,9 +33,9 @@ use Rattle.fc_image.specs.effects.Steady.{regrown_entry}
 use Rattle.fc_tree.specs.declared.node.Node.{Node}
 use Rattle.fc_tree.specs.Agree.{HasForm, IsDirectory}
 use Rattle.fc_tree.specs.Nodes.{body_in}
-use Rattle.fc_tree.proofs.MemberLemmas.{contains_cases, contains_here}
+use Rattle.fc_tree.proofs.MemberLemmas.{contains_here}
 use Rattle.fc_tree.proofs.WalkedLemmas.{contained}
-use Rattle.fc_changes.proofs.BasicLemmas.{clash, unless}
+use Rattle.fc_changes.proofs.BasicLemmas.{clash}
 use Rattle.fc_laws.specs.nodes.Edits.{IsTransferred, Nodes, as_moved, relisted, with_body, with_entry, with_holder, with_own_body}
 use Rattle.fc_laws.proofs.lemmas.nodes.ListLemmas.{map_remove}
 use Rattle.fc_laws.proofs.lemmas.nodes.TransferredLemmas.{transferred_law}
@@ -52,6 +52,8 @@ use Rattle.fc_grownlaws.proofs.lemmas.nodes.RegrownLemmas.{leads, rest_in}
 use Rattle.fc_grownlaws.specs.agree.Commands.{GrownTransferredLaw, GrowsIn}
 use Rattle.fc_grownlaws.proofs.lemmas.agree.CommandLemmas.{between_agree, can_now, dir_is, first_entries, found, held_between, is_held, l1, middle, sized}
 use Rattle.fc_grownlaws.proofs.lemmas.agree.WithinLemmas.{not_itself}
+use Rattle.std.proofs.lemmas.Bool.{false_from_ne_true as unless}
+use Rattle.fc_image.proofs.EntriesLemmas.{cases as contains_cases}
 
 -- ---- entries that keep their names
 

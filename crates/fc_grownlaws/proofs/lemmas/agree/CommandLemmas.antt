@@ -28,7 +28,6 @@ use Rattle.fc_laws.specs.nodes.Laws.{IsHeld}
 use Rattle.fc_laws.proofs.lemmas.nodes.AddedLemmas.{added_law, directory_added_law}
 use Rattle.fc_laws.specs.agree.Agreed.{CanSay, PartsFollow}
 use Rattle.fc_laws.proofs.lemmas.agree.BeforeLemmas.{sound}
-use Rattle.fc_laws.proofs.lemmas.agree.RoomLemmas.{some_bytes}
 use Rattle.fc_growths.specs.Grown.{NewPlace, at_place, grown_says}
 use Rattle.fc_grownlaws.specs.nodes.Commands.{IsGrownAdded}
 use Rattle.fc_grownlaws.specs.nodes.Regrown.{IsAround, IsRegrown, with_regrown}
@@ -41,6 +40,7 @@ use Rattle.fc_grownlaws.specs.agree.Regrown.{AgreeNow}
 use Rattle.fc_grownlaws.proofs.lemmas.agree.FreeLemmas.{free_added, free_directory_added}
 use Rattle.fc_grownlaws.proofs.lemmas.agree.PlaceLemmas.{free_law, free_shuffled}
 use Rattle.fc_grownlaws.proofs.lemmas.agree.RegrownLemmas.{regrown_at}
+use Rattle.fc_tree.proofs.EndLemmas.{some_bytes}
 
 -- ---- the directory of another size
 

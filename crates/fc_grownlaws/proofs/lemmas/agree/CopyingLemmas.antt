@@ -4,7 +4,7 @@ use Rattle.std.specs.Prelude.{Contains, IsPermutation, not, ◌==◌, ◌&&◌, 
 use Rattle.std.specs.List.{list_any}
 use Rattle.std.specs.Option.{option_map}
 use Rattle.std.specs.FinMap.{remove as take}
-use Rattle.std.proofs.lemmas.Bool.{cases_eq}
+use Rattle.std.proofs.lemmas.Bool.{cases_eq, or_right as or_second}
 use Rattle.std.proofs.lemmas.List.Elements.{Contains-append_left}
 use Rattle.std.proofs.lemmas.List.Sorted.{Contains-permutation, IsPermutation-append_right, IsPermutation-cons, IsPermutation-middle, IsPermutation-refl, IsPermutation-sym, IsPermutation-trans}
 use Rattle.fc_names.specs.Names.{Path, is_directory, is_same_path}
@@ -36,7 +36,7 @@ use Rattle.fc_tree.proofs.SoundLemmas.{root_object, same_object}
 use Rattle.fc_tree.proofs.WalkedLemmas.{child_is_object, contained, listed_directory, root, root_path, same_some}
 use Rattle.fc_changes.specs.Changed.{IsInNewSpace}
 use Rattle.fc_changes.specs.Owed.{GivesBack}
-use Rattle.fc_changes.proofs.BasicLemmas.{cases_cons, clash, first_in, next_in, nothing_in, or_second}
+use Rattle.fc_changes.proofs.BasicLemmas.{cases_cons, clash, first_in, next_in, nothing_in}
 use Rattle.fc_changes.proofs.BesideLemmas.{shared_stays}
 use Rattle.fc_changes.proofs.MadeLemmas.{file_low_small}
 use Rattle.fc_changes.proofs.RewordedLemmas.{no_space_edit}

@@ -15,7 +15,7 @@ use Rattle.fc_image.specs.Opening.{misplaced_sector, reserved_in}
 use Rattle.fc_image.specs.Edits.{Apart, AreChildren, IsListing, StayListed}
 use Rattle.fc_image.specs.Order.{directories, held, listed}
 use Rattle.fc_image.specs.InPlace.{says_now}
-use Rattle.fc_image.proofs.EditLemmas.{apart_law}
+use Rattle.fc_image.proofs.EditLemmas.{apart_law, apart_turned as turned}
 use Rattle.fc_image.proofs.EntriesLemmas.{entries_law}
 use Rattle.fc_image.proofs.OrderLemmas.{apart_shuffled, stay_append}
 use Rattle.fc_image.proofs.RelistLemmas.{edited_apart_law, listed_itself, map_itself, relisting_law}
@@ -23,13 +23,12 @@ use Rattle.fc_image.proofs.ShuffleLemmas.{IsPermutation-flat_map}
 use Rattle.fc_tree.specs.declared.node.Node.{Node}
 use Rattle.fc_tree.specs.Agree.{Agree, reader_of_nodes}
 use Rattle.fc_changes.proofs.BasicLemmas.{cases_cons, first_in, next_in, nothing_in}
-use Rattle.fc_changes.proofs.MadeLemmas.{turned}
 use Rattle.fc_laws.specs.nodes.Edits.{IsAdded, IsDirectoryAdded, Nodes}
 use Rattle.fc_laws.specs.agree.Agreed.{AgreeOn, CanSay, PartsFollow, parts_with}
-use Rattle.fc_laws.proofs.lemmas.agree.AddedLemmas.{no_directory}
 use Rattle.fc_laws.proofs.lemmas.agree.BeforeLemmas.{Had, had, says}
 use Rattle.fc_laws.proofs.lemmas.agree.EditLemmas.{agreed_anyhow, misplaced_shuffled, root_size}
 use Rattle.fc_grownlaws.specs.agree.Free.{FreeObjectLaw, IsFreeOn}
+use Rattle.fc_image.proofs.InPlaceLemmas.{no_directory}
 
 module _ (kind : Kind) (m : Map) (nodes nodes' : Nodes) (owners owners' : List Owner) (root : Node) (listings rest : List Listing) (l : Listing) (a : AgreeOn kind m nodes owners root listings)
     (found : IsPermutation listings (l ∷ rest)) (o : Object) (free : IsFreeOn kind m (objects_of listings) o) where

@@ -36,7 +36,7 @@ use Rattle.fc_laws.specs.nodes.Laws.{IsHeld}
 use Rattle.fc_laws.specs.agree.Agreed.{AgreeOn, CanSay, PartsFollow}
 use Rattle.fc_laws.proofs.lemmas.agree.BeforeLemmas.{Had, had, object_lies, says, sound, tight}
 use Rattle.fc_laws.proofs.lemmas.agree.EditLemmas.{IsAnyEdit, agreed_on, clear_of, misplaced_shuffled, root_size, root_stays}
-use Rattle.fc_laws.proofs.lemmas.agree.RoomLemmas.{dir_sector, some_bytes}
+use Rattle.fc_laws.proofs.lemmas.agree.RoomLemmas.{dir_sector}
 use Rattle.fc_image.proofs.HolesLemmas.{apart_from}
 use Rattle.fc_growths.specs.Grown.{NewPlace, at_place, grown_says}
 use Rattle.fc_growths.proofs.ObjectLemmas.{entries_grown}
@@ -47,6 +47,7 @@ use Rattle.fc_grownlaws.proofs.lemmas.nodes.FreeLemmas.{grown_free}
 use Rattle.fc_grownlaws.proofs.lemmas.nodes.RegrownLemmas.{dir_stays, g_itself, keep_stays, kid_stays, l_in, other_path, other_stays, rest_in}
 use Rattle.fc_grownlaws.proofs.lemmas.nodes.SpaceLemmas.{Growth, fixed, grown_apart, stay_at, stay_places}
 use Rattle.fc_grownlaws.specs.agree.Regrown.{AgreeNow, RegrownLaw}
+use Rattle.fc_tree.proofs.EndLemmas.{some_bytes}
 
 -- what the map of a volume is before
 pub growth_of : (kind : Kind) (m m' : Map) (nodes : Nodes) (owners : List Owner) (root : Node) (listings : List Listing) (l : Listing) (stay : List Object) (id : ℕ) (parts : List ZoneRun) (place : NewPlace)

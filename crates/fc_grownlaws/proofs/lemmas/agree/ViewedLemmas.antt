@@ -30,7 +30,7 @@ use Rattle.fc_tree.specs.Nodes.{HasNode, body_in, body_of}
 use Rattle.fc_tree.specs.Parts.{AreOwners, ArePartsOf}
 use Rattle.fc_tree.proofs.FindLemmas.{object_of_number}
 use Rattle.fc_tree.proofs.HeldLemmas.{nodes_law}
-use Rattle.fc_tree.proofs.MemberLemmas.{contains_here, contains_later, from_map, in_filter}
+use Rattle.fc_tree.proofs.MemberLemmas.{contains_here, from_map, in_filter}
 use Rattle.fc_tree.proofs.WalkedLemmas.{directories_listed, listed_directory, listing_found, same_some, sound_law}
 use Rattle.fc_changes.proofs.BasicLemmas.{first_in}
 use Rattle.fc_laws.specs.nodes.Edits.{Nodes}
@@ -39,6 +39,7 @@ use Rattle.fc_laws.proofs.lemmas.agree.BeforeLemmas.{sound}
 use Rattle.fc_laws.proofs.lemmas.agree.WalkedLemmas.{root_node}
 use Rattle.fc_laws.proofs.lemmas.takeover.KindLemmas.{new_kind}
 use Rattle.fc_grownlaws.specs.agree.Viewed.{ViewedLaw}
+use Rattle.fc_image.proofs.EntriesLemmas.{later as contains_later}
 
 -- ---- one directory of each
 

@@ -12,7 +12,7 @@ use Rattle.fc_image.specs.Layout.{Layout}
 use Rattle.fc_image.specs.Walk.{Listing, Object}
 use Rattle.fc_image.specs.Sound.{AreSound}
 use Rattle.fc_image.proofs.PathsLemmas.{itself}
-use Rattle.fc_tree.proofs.MemberLemmas.{contains_cases, contains_here}
+use Rattle.fc_tree.proofs.MemberLemmas.{contains_here}
 use Rattle.fc_tree.proofs.WalkedLemmas.{child_path, contained}
 use Rattle.fc_laws.specs.nodes.Edits.{IsRenamed, Nodes, with_entry, with_own_body}
 use Rattle.fc_laws.proofs.lemmas.nodes.RenamedLemmas.{renamed_law}
@@ -23,6 +23,7 @@ use Rattle.fc_grownlaws.proofs.lemmas.nodes.AroundLemmas.{by_now}
 use Rattle.fc_grownlaws.proofs.lemmas.nodes.RegrownLemmas.{leads, rest_in}
 use Rattle.fc_grownlaws.specs.agree.Commands.{GrownRenamedLaw}
 use Rattle.fc_grownlaws.proofs.lemmas.agree.CommandLemmas.{between_agree, can_now, dir_is, first_entries, found, held_between, is_held, l1, l_at, middle, sized, told_last}
+use Rattle.fc_image.proofs.EntriesLemmas.{cases as contains_cases}
 
 -- a directory isn't what it holds
 pub not_itself : {m : Map} {listings : List Listing} (k : Listing) (p : Object) → AreSound (Layout.New m) listings → Contains listings k → Contains k.children p → k.object.path ≡ p.path → ⊥

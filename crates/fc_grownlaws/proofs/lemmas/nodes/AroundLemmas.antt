@@ -9,13 +9,14 @@ use Rattle.fc_image.specs.Walk.{Listing, Object}
 use Rattle.fc_image.specs.Order.{held}
 use Rattle.fc_image.specs.Sound.{AreSound}
 use Rattle.fc_tree.specs.Nodes.{HoldObjects}
-use Rattle.fc_tree.proofs.MemberLemmas.{contains_cases, contains_here, contains_later, no_element}
+use Rattle.fc_tree.proofs.MemberLemmas.{contains_here, no_element}
 use Rattle.fc_laws.specs.nodes.Edits.{Nodes}
-use Rattle.fc_laws.proofs.lemmas.nodes.ListLemmas.{map_append}
 use Rattle.fc_laws.proofs.lemmas.nodes.OtherLemmas.{other_directory}
 use Rattle.fc_growths.specs.Grown.{NewPlace}
 use Rattle.fc_grownlaws.specs.nodes.Regrown.{AreAgain, IsAgain, regrown_object}
 use Rattle.fc_grownlaws.proofs.lemmas.nodes.BodiesLemmas.{AreOnce}
+use Rattle.fc_image.proofs.TreeLemmas.{map_both as map_append}
+use Rattle.fc_image.proofs.EntriesLemmas.{later as contains_later, cases as contains_cases}
 
 -- a directory that says something else, before and after
 pub record IsOneAgain (nodes : Nodes) (o : Object) (place : NewPlace) (again again' : List Listing) (said : List (ℕ × Directory)) : Type 0 where

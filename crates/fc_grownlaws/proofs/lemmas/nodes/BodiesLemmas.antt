@@ -8,12 +8,13 @@ use Rattle.fc_dirs.specs.Directory.{Directory}
 use Rattle.fc_tree.specs.declared.node.Body.{Body}
 use Rattle.fc_tree.specs.declared.node.Node.{Node}
 use Rattle.fc_tree.specs.Nodes.{body_in}
-use Rattle.fc_tree.proofs.MemberLemmas.{contains_cases, contains_here, contains_later, no_element}
+use Rattle.fc_tree.proofs.MemberLemmas.{contains_here, no_element}
 use Rattle.fc_image.specs.Walk.{Object}
 use Rattle.fc_laws.specs.nodes.Edits.{Nodes, with_body, with_edited}
 use Rattle.fc_laws.proofs.lemmas.nodes.ShapeLemmas.{held_as, says_at, body_held, body_said, body_other, edited_here, edited_length, edited_other}
 use Rattle.fc_growths.specs.Grown.{NewPlace, at_place}
 use Rattle.fc_grownlaws.specs.nodes.Regrown.{with_bodies, with_regrown}
+use Rattle.fc_image.proofs.EntriesLemmas.{later as contains_later, cases as contains_cases}
 
 pub bodies_held : (said : List (ℕ × Directory)) (nodes : Nodes) (m : ℕ) → held_as (with_bodies said nodes) m ≡ held_as nodes m
 bodies_held [] nodes m = refl

@@ -17,7 +17,6 @@ use Rattle.fc_image.proofs.EntriesLemmas.{same_some}
 use Rattle.fc_image.proofs.HolesLemmas.{apart_at, apart_from, in_id, loose_sectors, none_loose}
 use Rattle.fc_image.proofs.MapEditLemmas.{places_law}
 use Rattle.fc_image.proofs.MoveLemmas.{id_loose}
-use Rattle.fc_image.proofs.OneZoneLemmas.{and_first}
 use Rattle.fc_image.specs.effects.Placed.{file_low}
 use Rattle.fc_changes.specs.Changed.{IsFileAt, IsInNewSpace, IsInSlack, IsNowhere}
 use Rattle.fc_changes.proofs.BasicLemmas.{cases_cons, clash, first_in, next_in, nothing_in}
@@ -26,11 +25,11 @@ use Rattle.fc_changes.proofs.MadeLemmas.{file_low_small}
 use Rattle.fc_changes.proofs.PlacedLemmas.{IsShared, is_shared}
 use Rattle.fc_growths.specs.Grown.{NewPlace, at_place}
 use Rattle.fc_growths.proofs.NewSpaceLemmas.{id_is, new_id_high, new_id_unused, slack_files, some_parts}
-use Rattle.fc_growths.proofs.ObjectLemmas.{by_map}
-use Rattle.fc_growths.proofs.SpaceLemmas.{owned_by, owner_id, owns, some_sector}
+use Rattle.fc_growths.proofs.SpaceLemmas.{owned_by, owns, some_sector}
 use Rattle.fc_laws.proofs.lemmas.agree.EditLemmas.{loose_before}
 use Rattle.fc_grownlaws.proofs.lemmas.nodes.SpaceLemmas.{AreNew, Growth, after, fixed, form_stays, its_elsewhere, its_high, l_in, l_owns, l_used, new_unused, one_of_both, owner_used, shape, some_zones, stay_at, stay_in, stay_runs, zones_now}
-use Rattle.fc_laws.proofs.lemmas.agree.NewPlaceLemmas.{none_at}
+use Rattle.fc_changes.proofs.NewPlaceLemmas.{by_new as by_map, owner_id, none_at}
+use Rattle.fc_record.proofs.KindLemmas.{and_first}
 
 -- a new object beside the directory: what it owns was free, or owned and may be shared; and its sectors are nobody's
 pub record IsBeside (kind : Kind) (m m' : Map) (objects stay : List Object) (id : ℕ) (parts : List ZoneRun) (l : Object) (place : NewPlace) (gone : List ℕ)

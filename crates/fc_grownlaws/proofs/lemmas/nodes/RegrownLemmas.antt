@@ -21,7 +21,7 @@ use Rattle.fc_image.proofs.PathsLemmas.{itself}
 use Rattle.fc_image.proofs.RelistLemmas.{folded_long}
 use Rattle.fc_tree.specs.declared.node.Body.TheVariants as bodies
 use Rattle.fc_tree.specs.Nodes.{HasNode, body_in, number_of}
-use Rattle.fc_tree.proofs.MemberLemmas.{contains_cases, contains_here, contains_later, from_map}
+use Rattle.fc_tree.proofs.MemberLemmas.{contains_here, from_map}
 use Rattle.fc_tree.proofs.PlaceLemmas.{one_path}
 use Rattle.fc_tree.proofs.WalkedLemmas.{child_is_object, child_path, holder-push, listed_directory, root, same_some}
 use Rattle.fc_laws.specs.nodes.Edits.{Nodes, NodesFollow, OwnersEdited, OwnersFollow, owners_with, with_body}
@@ -29,7 +29,7 @@ use Rattle.fc_laws.specs.nodes.Laws.{IsHeld, IsOwned}
 use Rattle.fc_laws.proofs.lemmas.nodes.FitsLemmas.{ChildFits, DirectoryFits, apart, fits, one_number}
 use Rattle.fc_laws.proofs.lemmas.nodes.FollowLemmas.{AllFit, follow}
 use Rattle.fc_laws.proofs.lemmas.nodes.KeptLemmas.{StillHeld, child_kept, way_kept}
-use Rattle.fc_laws.proofs.lemmas.nodes.ListLemmas.{in_first, map_append, map_fixed}
+use Rattle.fc_laws.proofs.lemmas.nodes.ListLemmas.{in_first, map_fixed}
 use Rattle.fc_laws.proofs.lemmas.nodes.OtherLemmas.{all_objects, fits_here, not_file, other_number, other_object, others_in, objects_count, top_object, unlike}
 use Rattle.fc_laws.proofs.lemmas.nodes.OwnerLemmas.{KeepsOwner, among_one, found_objects, keeps_way, owner_known, owners_among, owners_edited}
 use Rattle.fc_laws.proofs.lemmas.nodes.ShapeLemmas.{body_held, body_said, body_other, edited_length, entry_held, entry_other, entry_said, held_as, held_by, says_at}
@@ -40,6 +40,8 @@ use Rattle.fc_grownlaws.specs.nodes.Laws.{RegrownLaw}
 use Rattle.fc_grownlaws.specs.nodes.Regrown.{IsAgain, IsAround, regrown_object, with_bodies, with_regrown}
 use Rattle.fc_grownlaws.proofs.lemmas.nodes.AroundLemmas.{by_now, by_told, held_again, told_once}
 use Rattle.fc_grownlaws.proofs.lemmas.nodes.BodiesLemmas.{AreOnce, bodies_held, bodies_length, bodies_other, bodies_said}
+use Rattle.fc_image.proofs.TreeLemmas.{map_both as map_append}
+use Rattle.fc_image.proofs.EntriesLemmas.{later as contains_later, cases as contains_cases}
 
 module _ (nodes : Nodes) (layout : Layout) (listings again again' keep : List Listing) (l : Listing) (content : Directory) (place : NewPlace) (said : List (ℕ × Directory)) (dir : ℕ)
     (h : IsHeld nodes layout listings) (e : IsAround nodes listings again again' keep l place said dir) where

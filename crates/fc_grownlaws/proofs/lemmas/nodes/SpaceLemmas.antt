@@ -3,7 +3,7 @@ use Rattle.std.proofs.Common.{◌≡◌, ◌<◌, ◌≤◌, inl, inr, ℕ, ◌+
 use Rattle.std.specs.Prelude.{Contains, filter, not, ◌==◌, ◌&&◌, ◌||◌, nat_le}
 use Rattle.std.specs.List.{list_any, range_with_len}
 use Rattle.std.specs.Option.{option_map_or}
-use Rattle.std.proofs.lemmas.Bool.{cases_lt, eqb-true, le-leb, leb-true}
+use Rattle.std.proofs.lemmas.Bool.{cases_lt, eqb-true, le-leb, leb-true, false_from_ne_true as unless, not-true as not_true}
 use Rattle.std.proofs.lemmas.List.Elements.{Contains-append_cases, Contains-append_right}
 use Rattle.std.proofs.lemmas.List.Sorted.{Contains-permutation, IsPermutation-sym}
 use Rattle.fc_names.specs.declared.name.NameForm.{NameForm}
@@ -28,24 +28,25 @@ use Rattle.fc_image.specs.MapEdits.{KeepsPlace}
 use Rattle.fc_image.proofs.EntriesLemmas.{in_filter}
 use Rattle.fc_image.proofs.HolesLemmas.{Lies, apart_at, in_id, loose_sectors}
 use Rattle.fc_image.proofs.MapEditLemmas.{places_law}
-use Rattle.fc_image.proofs.MoveLemmas.{not_true, one_id}
-use Rattle.fc_image.proofs.OneZoneLemmas.{and_first, and_second}
+use Rattle.fc_image.proofs.MoveLemmas.{one_id}
 use Rattle.fc_plan.proofs.Shorts.{are_new_ids}
 use Rattle.fc_plan.proofs.Units.{units_some}
 use Rattle.fc_plan.specs.Giving.{is_one_of}
 use Rattle.fc_image.specs.effects.Short.{has_room, is_alone, sectors_of_others}
 use Rattle.fc_image.specs.effects.Steady.{is_given_back}
-use Rattle.fc_changes.proofs.BasicLemmas.{any_in, cases_cons, clash, first_in, in_any, next_in, not_zero, nothing_in, unless}
+use Rattle.fc_changes.proofs.BasicLemmas.{any_in, cases_cons, clash, first_in, in_any, next_in, not_zero, nothing_in}
 use Rattle.fc_changes.proofs.BeforeLemmas.{id_high}
 use Rattle.fc_changes.proofs.ChangeLemmas.{a_sector}
 use Rattle.fc_changes.proofs.OutsideLemmas.{low_owned}
-use Rattle.fc_changes.proofs.PlacedLemmas.{filter_test}
+use Rattle.fc_changes.proofs.PlacedLemmas.{filter_test, is_in_flat as among_flat}
 use Rattle.fc_changes.proofs.SpaceLemmas.{not_given, still_owned}
 use Rattle.fc_growths.specs.Grown.{GrowsElsewhere, GrowsThere, NewPlace, TakesSpace, at_place}
-use Rattle.fc_growths.proofs.BasicLemmas.{alone_passes, among_flat}
-use Rattle.fc_growths.proofs.ObjectLemmas.{by_map, same_turned}
-use Rattle.fc_growths.proofs.SpaceLemmas.{owned_by, owner_id, owns, some_sector}
+use Rattle.fc_growths.proofs.BasicLemmas.{alone_passes}
+use Rattle.fc_growths.proofs.ObjectLemmas.{same_turned}
+use Rattle.fc_growths.proofs.SpaceLemmas.{owned_by, owns, some_sector}
 use Rattle.fc_grownlaws.specs.nodes.Space.{IsGrowthMap, is_left}
+use Rattle.fc_changes.proofs.NewPlaceLemmas.{by_new as by_map, owner_id}
+use Rattle.fc_record.proofs.KindLemmas.{and_first, and_second}
 
 -- Objects that lie apart on a map, of which no sector that is reserved is a hole's or may move.
 pub record AreOn (kind : Kind) (m : Map) (objects : List Object) : Type 0 where

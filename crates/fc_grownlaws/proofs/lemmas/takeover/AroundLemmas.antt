@@ -13,16 +13,17 @@ use Rattle.fc_image.specs.Walk.{Listing, Object}
 use Rattle.fc_image.specs.Opening.{Opened}
 use Rattle.fc_changes.specs.Owed.{IsWritten}
 use Rattle.fc_changes.proofs.BasicLemmas.{first_in, next_in}
-use Rattle.fc_changes.proofs.MadeLemmas.{turned}
 use Rattle.fc_changes.proofs.OutsideLemmas.{no_sectors}
 use Rattle.fc_changes.proofs.StepsLemmas.{writes_law}
 use Rattle.fc_laws.specs.nodes.Edits.{Nodes}
 use Rattle.fc_laws.specs.takeover.Places.{OpensBy}
-use Rattle.fc_laws.proofs.lemmas.takeover.ApartLemmas.{apart_both, objects_law}
+use Rattle.fc_laws.proofs.lemmas.takeover.ApartLemmas.{objects_law}
 use Rattle.fc_laws.proofs.lemmas.takeover.StepLemmas.{dir_kept, map_apart}
 use Rattle.fc_growths.specs.Grown.{AreWrittenFor, NewPlace}
 use Rattle.fc_grownlaws.specs.nodes.Regrown.{AreAgain}
 use Rattle.fc_grownlaws.specs.takeover.Steps.{AreAgainSteps}
+use Rattle.fc_image.proofs.EditLemmas.{apart_turned as turned}
+use Rattle.fc_changes.proofs.MovedLemmas.{both_apart as apart_both}
 
 abbrev pub sectors_of_all : List Listing → List ℕ
 sectors_of_all ks = flat_map (λ k. k.object.sectors) ks

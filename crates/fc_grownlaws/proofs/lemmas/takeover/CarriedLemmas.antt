@@ -30,7 +30,7 @@ use Rattle.fc_plan.specs.Taking.{as_runs}
 use Rattle.fc_image.specs.effects.Placed.{HasRunLength, IsFront}
 use Rattle.fc_image.specs.effects.Steady.{is_given_back}
 use Rattle.fc_changes.specs.Changed.{IsInNewSpace}
-use Rattle.fc_changes.proofs.BasicLemmas.{first_in, or_second}
+use Rattle.fc_changes.proofs.BasicLemmas.{first_in}
 use Rattle.fc_changes.proofs.BeforeLemmas.{opened_as, parts, sound}
 use Rattle.fc_changes.proofs.BesideLemmas.{shared_stays}
 use Rattle.fc_changes.proofs.ChangeLemmas.{a_sector}
@@ -40,12 +40,14 @@ use Rattle.fc_laws.proofs.lemmas.takeover.ApartLemmas.{places_law}
 use Rattle.fc_laws.proofs.lemmas.takeover.KindLemmas.{new_kind}
 use Rattle.fc_growths.specs.Grown.{GrowsThere, NewPlace, TakesSpace, at_place}
 use Rattle.fc_growths.proofs.NewSpaceLemmas.{id_is}
-use Rattle.fc_growths.proofs.SpaceLemmas.{owned_by, owner_id, owns}
+use Rattle.fc_growths.proofs.SpaceLemmas.{owned_by, owns}
 use Rattle.fc_grownlaws.specs.nodes.Space.{is_left}
 use Rattle.fc_grownlaws.proofs.lemmas.nodes.FreeLemmas.{file_beside, new_beside}
 use Rattle.fc_grownlaws.specs.takeover.Places.{CarriesOn, GrownPlacesLaw}
 use Rattle.fc_grownlaws.proofs.lemmas.takeover.HolesLemmas.{parts_in_holes}
 use Rattle.fc_grownlaws.proofs.lemmas.takeover.PlaceLemmas.{beside_place, grown_place, growth}
+use Rattle.std.proofs.lemmas.Bool.{or_right as or_second}
+use Rattle.fc_changes.proofs.NewPlaceLemmas.{owner_id}
 
 -- the geometry of a map of which an image opens
 open_geometry : (kind : Kind) (image : List ℕ) (view : Opened) (m : Map) → OpensBy kind image view m → IsGeometry m.geometry

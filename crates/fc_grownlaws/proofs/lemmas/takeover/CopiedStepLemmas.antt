@@ -17,12 +17,11 @@ use Rattle.fc_image.specs.Walk.{Listing, Object, is_directory_object, object_siz
 use Rattle.fc_image.specs.Objects.{is_owner_of, objects_of}
 use Rattle.fc_image.specs.Opening.{boot_place}
 use Rattle.fc_image.proofs.HolesLemmas.{apart_from}
-use Rattle.fc_image.proofs.MoveLemmas.{not_true}
 use Rattle.fc_image.proofs.ShuffleLemmas.{flipped}
 use Rattle.fc_image.specs.effects.Placed.{file_low}
 use Rattle.fc_image.specs.effects.Short.{is_sharing}
 use Rattle.fc_changes.specs.Owed.{IsBefore, IsWritten}
-use Rattle.fc_changes.proofs.BasicLemmas.{cases_cons, clash, first_in, next_in, nothing_in, unless}
+use Rattle.fc_changes.proofs.BasicLemmas.{cases_cons, clash, first_in, next_in, nothing_in}
 use Rattle.fc_changes.proofs.BesideLemmas.{three}
 use Rattle.fc_changes.proofs.ChangeLemmas.{opened}
 use Rattle.fc_changes.proofs.MadeLemmas.{file_low_small}
@@ -31,13 +30,13 @@ use Rattle.fc_changes.proofs.StepsLemmas.{writes_law}
 use Rattle.fc_laws.specs.nodes.Edits.{Nodes}
 use Rattle.fc_laws.specs.takeover.Places.{OpensBy}
 use Rattle.fc_laws.specs.takeover.Writes.{IsUnwritten}
-use Rattle.fc_laws.proofs.lemmas.takeover.ApartLemmas.{apart_both, objects_law}
+use Rattle.fc_laws.proofs.lemmas.takeover.ApartLemmas.{objects_law}
 use Rattle.fc_laws.proofs.lemmas.takeover.SaidLemmas.{apart_front}
 use Rattle.fc_laws.proofs.lemmas.takeover.StepLemmas.{dir_kept, joined, map_apart}
 use Rattle.fc_laws.proofs.lemmas.takeover.WriteLemmas.{written_bytes_law}
 use Rattle.fc_growths.specs.Grown.{NewPlace, at_place}
 use Rattle.fc_growths.specs.Renames.{IsGrownCopyChange}
-use Rattle.fc_growths.proofs.SpaceLemmas.{Growing, Grows, owner_id}
+use Rattle.fc_growths.proofs.SpaceLemmas.{Growing, Grows}
 use Rattle.fc_growths.proofs.OpeningLemmas.{Comes, IsApartNew, both_apart, come_free, one_comes}
 use Rattle.fc_growths.proofs.NewSpaceLemmas.{id_is, new_apart, new_id_unused}
 use Rattle.fc_grownlaws.specs.nodes.Regrown.{AreAgain}
@@ -45,6 +44,9 @@ use Rattle.fc_grownlaws.specs.takeover.Steps.{IsGrownCarriedInSteps}
 use Rattle.fc_grownlaws.proofs.lemmas.takeover.AroundLemmas.{apart_all, sectors_of_all}
 use Rattle.fc_grownlaws.proofs.lemmas.takeover.GrowthStepLemmas.{dir_left, fresh_same, growing, grown_from, grows}
 use Rattle.fc_grownlaws.proofs.lemmas.takeover.WroteLemmas.{Wrote, again_now, grown_bytes, wrote}
+use Rattle.std.proofs.lemmas.Bool.{false_from_ne_true as unless, not-true as not_true}
+use Rattle.fc_changes.proofs.NewPlaceLemmas.{owner_id}
+use Rattle.fc_changes.proofs.MovedLemmas.{both_apart as apart_both}
 
 module _ (kind : Kind) (r : DiscRecord) (image stored laid taken' named turned image' : List ℕ) (m m' : Map) (ls : List Listing) (was : IsBefore kind r image (opened kind m ls) m) (from to : Path)
     (k l : Listing) (k_content content : Directory) (place : NewPlace) (again again' keep : List Listing) (i : ℕ) (o copy : Object) (stay left : List Object) (id : ℕ) (parts : List ZoneRun) (gone : List ℕ)

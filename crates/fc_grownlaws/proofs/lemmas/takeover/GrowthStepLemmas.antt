@@ -17,7 +17,7 @@ use Rattle.fc_image.proofs.HolesLemmas.{apart_at, apart_from}
 use Rattle.fc_image.specs.effects.Short.{Growth, has_room, is_alone, moved_growth}
 use Rattle.fc_image.specs.effects.Steady.{is_left_by_growth}
 use Rattle.fc_changes.specs.Owed.{IsBefore}
-use Rattle.fc_changes.proofs.BasicLemmas.{clash, first_in, next_in, unless}
+use Rattle.fc_changes.proofs.BasicLemmas.{clash, first_in, next_in}
 use Rattle.fc_changes.proofs.ChangeLemmas.{opened}
 use Rattle.fc_changes.proofs.OutsideLemmas.{no_sectors}
 use Rattle.fc_laws.specs.takeover.Places.{OpensBy}
@@ -29,6 +29,7 @@ use Rattle.fc_growths.proofs.ObjectLemmas.{grown_apart, listed_object, same_obje
 use Rattle.fc_growths.proofs.OpeningLemmas.{Comes, directory_stays}
 use Rattle.fc_grownlaws.specs.nodes.Space.{is_left}
 use Rattle.fc_grownlaws.specs.takeover.Steps.{IsGrowthInSteps}
+use Rattle.std.proofs.lemmas.Bool.{false_from_ne_true as unless}
 
 -- ---- what lies apart
 

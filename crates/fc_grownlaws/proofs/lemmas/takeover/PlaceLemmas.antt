@@ -19,13 +19,11 @@ use Rattle.fc_image.specs.Opening.{Opened, boot_place, is_hole_or_movable, reser
 use Rattle.fc_image.specs.Stays.{IsNewKind, OpensAs}
 use Rattle.fc_image.specs.Edits.{IsAt}
 use Rattle.fc_image.proofs.HolesLemmas.{apart_from, loose_sectors}
-use Rattle.fc_image.proofs.OneZoneLemmas.{and_first, and_second}
 use Rattle.fc_image.proofs.RenameLemmas.{alone}
 use Rattle.fc_tree.proofs.WalkedLemmas.{listed_directory}
 use Rattle.fc_image.specs.effects.Steady.{is_idle, may_be_rewritten}
 use Rattle.fc_changes.proofs.BasicLemmas.{cases_cons, clash, next_in}
 use Rattle.fc_changes.proofs.BeforeLemmas.{object_lies, opened_as, parts, sound}
-use Rattle.fc_changes.proofs.MadeLemmas.{turned}
 use Rattle.fc_changes.proofs.OutsideLemmas.{AreBusy, owned_busy}
 use Rattle.fc_laws.specs.takeover.Places.{MayBeWritten}
 use Rattle.fc_laws.proofs.lemmas.takeover.ApartLemmas.{apart_back, busy_on_disc, idle_apart, objects_law}
@@ -36,6 +34,8 @@ use Rattle.fc_growths.proofs.SpaceLemmas.{some_sector}
 use Rattle.fc_grownlaws.proofs.lemmas.nodes.FreeLemmas.{IsBeside, grown_free, grown_loose, o_apart, o_free, o_loose}
 use Rattle.fc_grownlaws.proofs.lemmas.nodes.SpaceLemmas.{Growth, grown_apart}
 use Rattle.fc_grownlaws.specs.takeover.Places.{GrowsOn}
+use Rattle.fc_image.proofs.EditLemmas.{apart_turned as turned}
+use Rattle.fc_record.proofs.KindLemmas.{and_first, and_second}
 
 -- sectors of holes and of what may move are not idle
 busy_of : (m : Map) (objects : List Object) (sectors : List ℕ) → ((s : ℕ) → is_among sectors s ≡ true → is_among (loose_sectors m objects) s ≡ true) → AreBusy m objects sectors

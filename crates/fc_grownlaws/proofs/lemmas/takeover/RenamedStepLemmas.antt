@@ -21,7 +21,7 @@ use Rattle.fc_changes.proofs.OutsideLemmas.{no_sectors}
 use Rattle.fc_changes.proofs.StepsLemmas.{writes_law}
 use Rattle.fc_laws.specs.nodes.Edits.{Nodes}
 use Rattle.fc_laws.specs.takeover.Places.{OpensBy}
-use Rattle.fc_laws.proofs.lemmas.takeover.ApartLemmas.{apart_both, objects_law}
+use Rattle.fc_laws.proofs.lemmas.takeover.ApartLemmas.{objects_law}
 use Rattle.fc_laws.proofs.lemmas.takeover.StepLemmas.{dir_kept, joined, map_apart}
 use Rattle.fc_growths.specs.Grown.{NewPlace}
 use Rattle.fc_growths.specs.Renames.{IsGrownMoveChange, IsGrownRenameChange, IsOwnWritten}
@@ -32,6 +32,7 @@ use Rattle.fc_grownlaws.specs.nodes.Regrown.{AreAgain}
 use Rattle.fc_grownlaws.specs.takeover.Steps.{IsGrownMovedInSteps, IsGrownRenamedInSteps}
 use Rattle.fc_grownlaws.proofs.lemmas.takeover.GrowthStepLemmas.{clash_apart, dir_left, growing, grown_from, grows, own_apart}
 use Rattle.fc_grownlaws.proofs.lemmas.takeover.WroteLemmas.{Wrote, again_now, grown_bytes, wrote}
+use Rattle.fc_changes.proofs.MovedLemmas.{both_apart as apart_both}
 
 -- ---- within a directory
 

@@ -2,7 +2,7 @@
 use Rattle.std.proofs.Common.{◌≡◌, ◌<◌, ℕ, Bool, true, false, cond, List, [], ◌∷◌, ◌++◌, length, refl, sym, ap, ap₂, subst, ◌∙◌, arith}
 use Rattle.std.specs.Prelude.{Ok, Err, Contains, IsPermutation, ◌==◌, ◌||◌}
 use Rattle.std.specs.List.{list_any}
-use Rattle.std.proofs.lemmas.Bool.{lt-ltb}
+use Rattle.std.proofs.lemmas.Bool.{lt-ltb, or_right as or_second}
 use Rattle.std.proofs.lemmas.List.Elements.{Contains-append_left}
 use Rattle.std.proofs.lemmas.List.Sorted.{Contains-permutation, IsPermutation-middle, IsPermutation-sym, IsPermutation-trans}
 use Rattle.fc_names.specs.declared.name.NameForm.{NameForm}
@@ -26,14 +26,14 @@ use Rattle.fc_tree.proofs.WalkedLemmas.{listed_directory}
 use Rattle.fc_image.specs.effects.Short.{gain_in, new_dir_size}
 use Rattle.fc_image.specs.effects.Steady.{AreWritten}
 use Rattle.fc_changes.specs.Owed.{IsBefore, IsWritten}
-use Rattle.fc_changes.proofs.BasicLemmas.{first_in, next_in, nothing_in, or_second}
+use Rattle.fc_changes.proofs.BasicLemmas.{first_in, next_in, nothing_in}
 use Rattle.fc_changes.proofs.BeforeLemmas.{object_lies, parts, sound}
 use Rattle.fc_changes.proofs.ChangeLemmas.{opened}
 use Rattle.fc_changes.proofs.OutsideLemmas.{no_sectors}
 use Rattle.fc_changes.proofs.StepsLemmas.{writes_law}
 use Rattle.fc_laws.specs.nodes.Edits.{Nodes}
 use Rattle.fc_laws.specs.takeover.Places.{OpensBy}
-use Rattle.fc_laws.proofs.lemmas.takeover.ApartLemmas.{apart_both, objects_law}
+use Rattle.fc_laws.proofs.lemmas.takeover.ApartLemmas.{objects_law}
 use Rattle.fc_laws.proofs.lemmas.takeover.SaidLemmas.{apart_front}
 use Rattle.fc_laws.proofs.lemmas.takeover.StepLemmas.{joined}
 use Rattle.fc_laws.proofs.lemmas.takeover.WriteLemmas.{written_bytes_law}
@@ -49,6 +49,7 @@ use Rattle.fc_grownlaws.specs.takeover.Steps.{IsGrowingInSteps, IsGrownFiledInSt
 use Rattle.fc_grownlaws.proofs.lemmas.takeover.AroundLemmas.{apart_all, sectors_of_all}
 use Rattle.fc_grownlaws.proofs.lemmas.takeover.GrowthStepLemmas.{dir_left, growing, grows}
 use Rattle.fc_grownlaws.proofs.lemmas.takeover.WroteLemmas.{Wrote, again_now, grown_bytes, wrote}
+use Rattle.fc_changes.proofs.MovedLemmas.{both_apart as apart_both}
 
 module _ (kind : Kind) (r : DiscRecord) (image stored laid taken' named image' : List ℕ) (m m' : Map) (ls : List Listing) (was : IsBefore kind r image (opened kind m ls) m) (c : Command)
     (l : Listing) (content : Directory) (place : NewPlace) (again again' keep : List Listing) (o : Object) (stay : List Object) (id : ℕ) (parts' : List ZoneRun) (gone : List ℕ)

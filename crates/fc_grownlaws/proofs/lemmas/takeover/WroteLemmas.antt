@@ -17,7 +17,7 @@ use Rattle.fc_changes.proofs.ChangeLemmas.{opened}
 use Rattle.fc_laws.specs.nodes.Edits.{Nodes}
 use Rattle.fc_laws.specs.takeover.Places.{OpensBy}
 use Rattle.fc_laws.specs.takeover.Writes.{IsUnwritten}
-use Rattle.fc_laws.proofs.lemmas.takeover.ApartLemmas.{apart_both, objects_law}
+use Rattle.fc_laws.proofs.lemmas.takeover.ApartLemmas.{objects_law}
 use Rattle.fc_laws.proofs.lemmas.takeover.SaidLemmas.{apart_front}
 use Rattle.fc_laws.proofs.lemmas.takeover.StepLemmas.{joined, never}
 use Rattle.fc_laws.proofs.lemmas.takeover.WriteLemmas.{written_bytes_law}
@@ -28,6 +28,7 @@ use Rattle.fc_growths.proofs.OpeningLemmas.{Comes, grown_free}
 use Rattle.fc_grownlaws.specs.nodes.Regrown.{AreAgain}
 use Rattle.fc_grownlaws.specs.takeover.Steps.{AreAgainSteps, grows_there}
 use Rattle.fc_grownlaws.proofs.lemmas.takeover.AroundLemmas.{again_written, apart_all, sectors_of_all}
+use Rattle.fc_changes.proofs.MovedLemmas.{both_apart as apart_both}
 
 -- what directories say stays written, if none of their sectors is written later
 again_kept : (v : Opened) (m m' : Map) (c : Command) (l : Object) (place : NewPlace) (ks ks' : List Listing) (zs mid image' : List ℕ) → m'.geometry ≡ m.geometry → IsWritten m zs mid image'

@@ -3,16 +3,12 @@ use Rattle.std.proofs.Common.{◌≡◌, ◌≤◌, inl, inr, ℕ, ◌+◌, ◌-
 use Rattle.std.specs.Prelude.{◌==◌, ◌&&◌}
 use Rattle.std.specs.List.{find}
 use Rattle.std.proofs.Math.Nat.{add-mod, mod-mod, add-zero}
-use Rattle.std.proofs.lemmas.Bool.{eqb-true, eqb-false, eq-eqb}
+use Rattle.std.proofs.lemmas.Bool.{eqb-true, eqb-false, eq-eqb, and_parts as both_true}
 use Rattle.std.proofs.lemmas.List.Elements.{All-nil, All-cons, All-append, All-contains}
 use Rattle.fc_record.specs.declared.Geometry.{Geometry}
 use Rattle.fc_newmap.specs.Map.{ZoneRun}
 use Rattle.fc_image.specs.effects.Placed.{HasRunLength, IsFront, IsTaken, holes_left, left_behind, stands_at}
 use Rattle.fc_image.specs.effects.Laws.{HaveOwnPlaces, LeftLaw}
-
-both_true : (a b : Bool) → (a && b) ≡ true → (a ≡ true) × (b ≡ true)
-both_true true b e = (refl, e)
-both_true false b e = absurd (cc)
 
 -- two holes at which one part stands stand at each other
 same_place : (p q part : ZoneRun) → stands_at p part ≡ true → stands_at q part ≡ true → stands_at p q ≡ true

@@ -2,7 +2,7 @@
 use Rattle.std.proofs.Common.{◌≡◌, ◌≢◌, ◌<◌, ◌≤◌, ◌⊎◌, inl, inr, ⊎_elim, ℕ, zero, suc, ◌+◌, ◌-◌, ◌*◌, ◌/◌, ◌%◌, Bool, true, false, not, cond, List, [], ◌∷◌, length, refl, sym, ap, ap₂, subst, ◌∙◌, arith}
 use Rattle.std.specs.Prelude.{◌==◌, ◌||◌, ◌&&◌, nat_le, nat_lt, Contains}
 use Rattle.std.specs.List.{list_any, list_all, flat_map, filter, range_with_len}
-use Rattle.std.proofs.lemmas.Bool.{cases_eq, eqb-true, eqb-false, eq-eqb, leb-true, lt-ltb}
+use Rattle.std.proofs.lemmas.Bool.{cases_eq, eqb-true, eqb-false, eq-eqb, leb-true, lt-ltb, false_from_ne_true as not_true, not-true as was_false, not-false as was_true}
 use Rattle.std.proofs.lemmas.Bool.Decides.{nat_tests}
 use Rattle.std.proofs.lemmas.List.Folds.{list_any-append}
 use Rattle.fc_oldmap.specs.declared.Hole.{Hole}
@@ -16,10 +16,12 @@ use Rattle.fc_image.specs.OldMaps.{LiesOnOldMap}
 use Rattle.fc_image.specs.effects.Settled.{are_apart, is_object_start}
 use Rattle.fc_image.specs.effects.Steady.{lost_sectors}
 use Rattle.fc_image.specs.effects.Laws.{OneHoleLaw}
+use Rattle.fc_zone.proofs.ReadingLemmas.{first_part as and_left}
+use Rattle.fc_record.proofs.KindLemmas.{and_second as and_right, or_second as or_right}
 
 -- ---- facts of every element
 
-abbrev Every : {A : Type 0} → (A → Type 0) → List A → Type 0
+abbrev pub Every : {A : Type 0} → (A → Type 0) → List A → Type 0
 Every P [] = Unit {0}
 Every P (x ∷ xs) = P x × Every P xs
 
@@ -38,35 +40,11 @@ module _ {A : Type 0} (P : A → Type 0) where
 
 -- ---- tests
 
-and_left : (a b : Bool) → (a && b) ≡ true → a ≡ true
-and_left true b e = refl
-and_left false b e = e
-
-and_right : (a b : Bool) → (a && b) ≡ true → b ≡ true
-and_right true b e = e
-and_right false b e = absurd (cc)
-
 or_left : (a b : Bool) → (a || b) ≡ false → a ≡ false
 or_left true b e = e
 or_left false b e = refl
 
-or_right : (a b : Bool) → (a || b) ≡ false → b ≡ false
-or_right true b e = absurd (cc)
-or_right false b e = e
-
-not_true : (b : Bool) → (b ≡ true → ⊥) → b ≡ false
-not_true true f = absurd (f refl)
-not_true false f = refl
-
-was_false : (a : Bool) → not a ≡ true → a ≡ false
-was_false true e = absurd (cc)
-was_false false e = refl
-
-was_true : (b : Bool) → not b ≡ false → b ≡ true
-was_true true e = refl
-was_true false e = absurd (cc)
-
-differ : true ≡ false → ⊥
+pub differ : true ≡ false → ⊥
 differ e = cc
 
 middle_off : (x y z : Bool) → (x && y && z) ≡ false → x ≡ true → z ≡ true → y ≡ false
@@ -125,7 +103,7 @@ covers_unit n h = nat_le h.start n && nat_lt n (hole_end h)
 covers : List Hole → ℕ → Bool
 covers holes n = list_any (covers_unit n) holes
 
-in_range : (a n s : ℕ) → is_among (range_with_len a n) s ≡ (nat_le a s && nat_lt s (a + n))
+pub in_range : (a n s : ℕ) → is_among (range_with_len a n) s ≡ (nat_le a s && nat_lt s (a + n))
 in_range a zero s = grind (arith, nat_tests)
 in_range a (suc n) s = by (in_range (a + 1) n s)
   where
@@ -169,7 +147,7 @@ none_cover n (h ∷ holes) (lt, all) = ap₂ (λ a b. a || b) off (none_cover n 
 
 -- ---- rising holes
 
-abbrev IsBehind : ℕ → Hole → Type 0
+abbrev pub IsBehind : ℕ → Hole → Type 0
 IsBehind at x = (at ≤ x.start) × (0 < x.len)
 
 behind-lower : (from to : ℕ) → to ≤ from → (xs : List Hole) → Every (IsBehind from) xs → Every (IsBehind to) xs

@@ -21,16 +21,13 @@ use Rattle.fc_tree.specs.declared.node.Node.{Node}
 use Rattle.fc_tree.specs.Agree.{Agree}
 use Rattle.fc_changes.specs.Changed.{IsFileAt}
 use Rattle.fc_changes.proofs.BasicLemmas.{cases_cons, nothing_in}
-use Rattle.fc_changes.proofs.MadeLemmas.{turned}
 use Rattle.fc_laws.specs.nodes.Edits.{IsAdded, Nodes}
 use Rattle.fc_laws.specs.agree.Agreed.{AgreeOn, CanSay, IsMapChange, PartsFollow, parts_with}
 use Rattle.fc_laws.specs.agree.Laws.{AddedLaw}
 use Rattle.fc_laws.proofs.lemmas.agree.DirectoryLemmas.{IsCut, IsOneEdited, kid_placed, l_in, one_agree, said}
 use Rattle.fc_laws.proofs.lemmas.agree.NewPlaceLemmas.{IsFreePlace, file_place}
-
--- a file is no directory
-pub no_directory : (o : Object) → is_directory_object o ≡ false → [] ≡ directories (o ∷ [])
-no_directory o file = ap (λ (b : Bool). cond b (o ∷ []) []) (sym file)
+use Rattle.fc_image.proofs.EditLemmas.{apart_turned as turned}
+use Rattle.fc_image.proofs.InPlaceLemmas.{no_directory}
 
 -- its size is its length
 pub file_size : (layout : Layout) (o : Object) (n : ℕ) → is_directory_object o ≡ false → o.entry.len ≡ n → object_size (dir_form layout) o.entry ≡ n

@@ -21,7 +21,7 @@ use Rattle.fc_image.specs.Order.{held, listed}
 use Rattle.fc_image.specs.EditedWalk.{IsRelisting}
 use Rattle.fc_image.specs.MapEdits.{KeepsPlace}
 use Rattle.fc_image.specs.InPlace.{says_now}
-use Rattle.fc_image.proofs.EntriesLemmas.{entries_law, here, later}
+use Rattle.fc_image.proofs.EntriesLemmas.{entries_law, later}
 use Rattle.fc_image.proofs.MapEditLemmas.{held_in, places_law}
 use Rattle.fc_image.proofs.OrderLemmas.{apart_shuffled}
 use Rattle.fc_image.proofs.RelistLemmas.{apart_behind, edited_apart_law, map_itself}
@@ -37,11 +37,14 @@ use Rattle.fc_laws.specs.nodes.Edits.{Nodes}
 use Rattle.fc_laws.specs.nodes.Copied.{IsCopied}
 use Rattle.fc_laws.specs.agree.Agreed.{AgreeOn, CanSay, IsMapChange, PartsFollow, parts_with}
 use Rattle.fc_laws.specs.agree.Copied.{CopiedLaw}
-use Rattle.fc_laws.proofs.lemmas.agree.AddedLemmas.{apart_from_all, file_size, no_directory, one_new}
+use Rattle.fc_laws.proofs.lemmas.agree.AddedLemmas.{apart_from_all, file_size, one_new}
 use Rattle.fc_laws.proofs.lemmas.agree.BeforeLemmas.{Had, had, object_lies, says}
-use Rattle.fc_laws.proofs.lemmas.agree.EditLemmas.{agreed_after, movable_shuffled}
+use Rattle.fc_laws.proofs.lemmas.agree.EditLemmas.{agreed_after}
 use Rattle.fc_laws.proofs.lemmas.agree.NewPlaceLemmas.{IsFreePlace, new_place}
 use Rattle.fc_laws.proofs.lemmas.agree.SpaceLemmas.{TakesSpace, fixed, places}
+use Rattle.fc_zone.proofs.ZoneLemmas.{Contains-head as here}
+use Rattle.fc_image.proofs.InPlaceLemmas.{no_directory}
+use Rattle.fc_image.proofs.OpenedLemmas.{movable_shuffled}
 
 module _ (kind : Kind) (m m' : Map) (nodes nodes' : Nodes) (owners owners' : List Owner) (root : Node) (listings listings' rest : List Listing) (k l : Listing)
     (k_content l_content : Directory) (i j : ℕ) (o copy : Object) (from_dir dir number : ℕ) (name : List ℕ) (id : ℕ) (parts : List ZoneRun) (stay : List Object)

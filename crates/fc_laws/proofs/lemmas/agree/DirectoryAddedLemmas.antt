@@ -27,11 +27,7 @@ use Rattle.fc_laws.specs.agree.Laws.{DirectoryAddedLaw}
 use Rattle.fc_laws.proofs.lemmas.agree.AddedLemmas.{apart_from_all, one_new}
 use Rattle.fc_laws.proofs.lemmas.agree.DirectoryLemmas.{IsCut, IsOneEdited, kid_placed, l_in, one_agree, said}
 use Rattle.fc_laws.proofs.lemmas.agree.NewPlaceLemmas.{IsFreePlace, new_place}
-
-pub size_of_new : (form : NameForm) → directory_size form (new_dir_size form) ≡ new_dir_size form
-size_of_new Seven = refl
-size_of_new Ten = refl
-size_of_new Long = refl
+use Rattle.fc_changes.proofs.CdirLemmas.{size_of_new}
 
 -- what holds of the only one
 only : (P : Listing → Type 0) (d : Listing) → P d → (k : Listing) → Contains (d ∷ []) k → P k

@@ -20,8 +20,8 @@ use Rattle.fc_image.specs.Edits.{Apart, AreChildren, IsAt, IsListing, StayListed
 use Rattle.fc_image.specs.Order.{directories, held, listed}
 use Rattle.fc_image.specs.MapEdits.{EachApartFrom, KeepsPlace}
 use Rattle.fc_image.proofs.EditLemmas.{apart_law}
-use Rattle.fc_image.proofs.EntriesLemmas.{entries_law, here, later}
-use Rattle.fc_image.proofs.MapEditLemmas.{child_at, held_in, places_law}
+use Rattle.fc_image.proofs.EntriesLemmas.{entries_law, later}
+use Rattle.fc_image.proofs.MapEditLemmas.{child_at, held_in, places_law, come_apart'}
 use Rattle.fc_image.proofs.OrderLemmas.{apart_shuffled, stay_append}
 use Rattle.fc_image.proofs.RelistLemmas.{apart_behind, listed_itself, map_itself, relisting_law}
 use Rattle.fc_image.proofs.ShuffleLemmas.{IsPermutation-flat_map, IsPermutation-unappend}
@@ -31,12 +31,10 @@ use Rattle.fc_changes.proofs.BasicLemmas.{cases_cons}
 use Rattle.fc_laws.specs.nodes.Edits.{Nodes}
 use Rattle.fc_laws.specs.agree.Agreed.{AgreeOn, CanSay, IsMapChange, PartsFollow, parts_with}
 use Rattle.fc_laws.proofs.lemmas.agree.BeforeLemmas.{Had, had, object_lies, says}
-use Rattle.fc_laws.proofs.lemmas.agree.EditLemmas.{IsPartsEdit, agreed_after, agreed_on, any_edit, movable_shuffled}
+use Rattle.fc_laws.proofs.lemmas.agree.EditLemmas.{IsPartsEdit, agreed_after, agreed_on, any_edit}
 use Rattle.fc_laws.proofs.lemmas.agree.SpaceLemmas.{TakesSpace, fixed, places}
-
-come_apart' : (taken : List ℕ) (others come : List Object) → Apart taken others → EachApartFrom taken others come → Apart taken (come ++ others)
-come_apart' taken others [] a each = a
-come_apart' taken others (o ∷ come) a each = apart_law.added taken [] (come ++ others) o (come_apart' taken others come a each.1) each.0
+use Rattle.fc_zone.proofs.ZoneLemmas.{Contains-head as here}
+use Rattle.fc_image.proofs.OpenedLemmas.{movable_shuffled}
 
 -- What is known of the disc before and of the map: objects go from the directory l, and empty directories, which `out` lists, go with
 -- them. `kids` stay in l, and `stay` are all objects that stay.

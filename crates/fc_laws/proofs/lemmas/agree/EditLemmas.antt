@@ -1,7 +1,7 @@
 -- Any edit of the objects of agreeing parts.
 use Rattle.std.proofs.Common.{◌≡◌, ◌≤◌, ℕ, ◌+◌, ◌*◌, ◌/◌, Bool, true, false, cond, List, ◌∷◌, ◌++◌, length, map, refl, sym, ap, subst, ◌∙◌, arith, None, eq-eqb}
 use Rattle.std.specs.Prelude.{Contains, IsPermutation, filter, nat_le, ◌==◌, ◌||◌, ◌&&◌}
-use Rattle.std.proofs.lemmas.Bool.{eqb-true}
+use Rattle.std.proofs.lemmas.Bool.{eqb-true, false_from_ne_true as unless}
 use Rattle.std.proofs.lemmas.List.Sorted.{list_any-IsPermutation}
 use Rattle.fc_names.specs.declared.name.NameForm.{NameForm}
 use Rattle.fc_names.specs.declared.name.NameForm.TheVariants.{Long, Ten}
@@ -26,7 +26,7 @@ use Rattle.fc_image.specs.EditedWalk.{IsRelisting}
 use Rattle.fc_image.specs.MapEdits.{KeepsPlace}
 use Rattle.fc_image.proofs.HolesLemmas.{least_none, loose_sectors, none_loose}
 use Rattle.fc_image.proofs.MapEditLemmas.{places_law}
-use Rattle.fc_image.proofs.MoveLemmas.{tight_from, unless}
+use Rattle.fc_image.proofs.MoveLemmas.{tight_from}
 use Rattle.fc_tree.specs.declared.node.Node.{Node}
 use Rattle.fc_tree.specs.Agree.{Agree, HasForm, IsDirectory, reader_of_nodes}
 use Rattle.fc_changes.proofs.BasicLemmas.{any_in, clash}
@@ -36,17 +36,9 @@ use Rattle.fc_laws.proofs.lemmas.agree.BeforeLemmas.{Had, boot_apart, had, shape
 use Rattle.fc_laws.proofs.lemmas.agree.RoomLemmas.{room}
 use Rattle.fc_laws.proofs.lemmas.agree.WalkEditLemmas.{walked_after}
 use Rattle.fc_laws.proofs.lemmas.agree.WalkedLemmas as on_any
+use Rattle.fc_image.proofs.OpenedLemmas.{not_loose, IsFixed as AreFixed, movable_shuffled}
 
 -- ---- loose sectors of two maps
-
--- a run of an identifier that isn't movable is neither a hole nor movable
-not_loose : (objects : List Object) (id : ℕ) (k : RunKind) → has_id id k ≡ true → is_movable objects id ≡ false → is_hole_or_movable objects k ≡ false
-not_loose objects id kinds.Hole h e = absurd (cc)
-not_loose objects id (kinds.Id other) h e = subst (λ (n : ℕ). is_movable objects n ≡ false) (sym (eqb-true other id h)) e
-
--- A used identifier that isn't movable keeps its runs, and doesn't become movable.
-abbrev pub AreFixed : Map → Map → List Object → List Object → Type 0
-AreFixed m m' objects objects' = (k : ℕ) → is_movable objects k ≡ false → is_used m k ≡ true → (id_runs m' k ≡ id_runs m k) × (is_movable objects' k ≡ false)
 
 -- a loose sector of the new map was loose in the old one
 pub loose_before : (m m' : Map) (objects objects' : List Object) → m'.geometry ≡ m.geometry → IsGeometry m.geometry → HasZones m → HasZones m' → 1 ≤ m.geometry.zones
@@ -79,9 +71,6 @@ loose_before m m' objects objects' e is has has' some fixed s h =
         let same = runs_apart m' is' has' p p' p_in.0 f'.0 s (subst (λ (g : Geometry). HoldsSector g p s) (sym e) c.1) (subst (λ (g : Geometry). HoldsSector g p' s) (sym e) holds') in
         clash (is_hole_or_movable objects' p'.1.kind) f'.1
         (subst (λ (q : ZoneRun). is_hole_or_movable objects' q.1.kind ≡ false) same (not_loose objects' id.0 p.1.kind id.1.0 stays.1)))
-
-pub movable_shuffled : (objects others : List Object) (k : ℕ) → IsPermutation objects others → is_movable objects k ≡ is_movable others k
-movable_shuffled objects others k s = ap (λ b. ((k == 2) || b) && nat_le 3 k) (list_any-IsPermutation (is_owner_of k) objects others s)
 
 loose_shuffled : (objects others : List Object) → IsPermutation objects others → (k : RunKind) → is_hole_or_movable objects k ≡ is_hole_or_movable others k
 loose_shuffled objects others s kinds.Hole = refl

@@ -17,9 +17,8 @@ use Rattle.fc_image.specs.Sound.{AreSound}
 use Rattle.fc_image.specs.Edits.{Apart, IsListing, StayListed}
 use Rattle.fc_image.specs.Order.{held, listed}
 use Rattle.fc_image.specs.EditedWalk.{AreListedBy, IsRelisting}
-use Rattle.fc_image.proofs.EntriesLemmas.{from_map, here, later}
+use Rattle.fc_image.proofs.EntriesLemmas.{from_map, later}
 use Rattle.fc_image.proofs.PathsLemmas.{is_at, itself, many}
-use Rattle.fc_image.proofs.MoveLemmas.{unless}
 use Rattle.fc_image.proofs.OrderLemmas.{apart_shuffled}
 use Rattle.fc_image.proofs.RelistLemmas.{all_before, apart_mapped}
 use Rattle.fc_image.proofs.RenameLemmas.{many_shuffled, passes}
@@ -31,6 +30,8 @@ use Rattle.fc_laws.specs.agree.Agreed.{AgreeOn, CanSay, PartsFollow, parts_with}
 use Rattle.fc_laws.proofs.lemmas.agree.BeforeLemmas.{had}
 use Rattle.fc_laws.proofs.lemmas.agree.EditLemmas.{agreed_after}
 use Rattle.fc_laws.proofs.lemmas.agree.WalkedLemmas as on_any
+use Rattle.fc_zone.proofs.ZoneLemmas.{Contains-head as here}
+use Rattle.std.proofs.lemmas.Bool.{false_from_ne_true as unless}
 
 -- ---- paths
 

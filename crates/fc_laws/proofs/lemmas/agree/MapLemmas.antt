@@ -13,7 +13,7 @@ use Rattle.fc_changes.specs.Owed.{GivesBack, IsSpaceEdit}
 use Rattle.fc_changes.proofs.AfterLemmas.{still_owns}
 use Rattle.fc_laws.specs.agree.Maps.{MapLaw}
 
-no_id : (k : RunKind) → has_id_that (is_one_of []) k ≡ false
+pub no_id : (k : RunKind) → has_id_that (is_one_of []) k ≡ false
 no_id kinds.Hole = refl
 no_id (kinds.Id id) = refl
 

@@ -12,7 +12,6 @@ use Rattle.fc_image.specs.Opening.{reserved_in}
 use Rattle.fc_image.specs.Edits.{IsListing}
 use Rattle.fc_image.specs.EditedWalk.{moved_object}
 use Rattle.fc_image.proofs.MapEditLemmas.{child_at}
-use Rattle.fc_image.proofs.MoveLemmas.{unless}
 use Rattle.fc_image.proofs.PathsLemmas.{itself}
 use Rattle.fc_image.proofs.RelistLemmas.{prefix_long, relisting_law}
 use Rattle.fc_image.proofs.RenameLemmas.{stays}
@@ -24,6 +23,7 @@ use Rattle.fc_laws.specs.nodes.Edits.{Nodes, as_moved}
 use Rattle.fc_laws.specs.agree.Agreed.{CanSay}
 use Rattle.fc_laws.proofs.lemmas.agree.WalkedLemmas.{says, sound}
 use Rattle.fc_laws.proofs.lemmas.agree.KeptLemmas.{relisting}
+use Rattle.std.proofs.lemmas.Bool.{false_from_ne_true as unless}
 
 -- the root doesn't move with another object
 pub root_stays : (from to : Path) (top : Object) → 0 < length from → top.path ≡ [] → moved_object from to top ≡ top

@@ -2,7 +2,7 @@
 use Rattle.std.proofs.Common.{◌≡◌, ◌<◌, ◌≤◌, inl, inr, ℕ, ◌+◌, ◌*◌, ◌/◌, Bool, true, false, cond, List, [], ◌∷◌, length, refl, sym, ap, ap₂, subst, ◌∙◌, arith, Some, eq-eqb}
 use Rattle.std.specs.Prelude.{Contains, ◌==◌, ◌&&◌, ◌||◌, nat_lt}
 use Rattle.std.specs.List.{list_any}
-use Rattle.std.proofs.lemmas.Bool.{eqb-true, le-leb, lt-ltb, ltb-true}
+use Rattle.std.proofs.lemmas.Bool.{eqb-true, le-leb, lt-ltb, ltb-true, or_right as or_second}
 use Rattle.fc_names.specs.Names.{Path}
 use Rattle.fc_names.specs.declared.name.NameForm.{NameForm}
 use Rattle.fc_names.specs.declared.name.NameForm.TheVariants.{Long, Ten}
@@ -24,12 +24,11 @@ use Rattle.fc_image.proofs.EntriesLemmas.{same_some}
 use Rattle.fc_image.proofs.HolesLemmas.{apart_at, apart_from, in_id, loose_sectors, no_hole_in, none_loose}
 use Rattle.fc_image.proofs.MapEditLemmas.{places_law}
 use Rattle.fc_image.proofs.MoveLemmas.{id_loose}
-use Rattle.fc_image.proofs.OneZoneLemmas.{and_first, and_second}
 use Rattle.fc_image.specs.effects.Placed.{file_low}
 use Rattle.fc_tree.specs.declared.node.Node.{Node}
 use Rattle.fc_changes.specs.Owed.{GivesBack, IsSpaceEdit}
 use Rattle.fc_changes.specs.Changed.{IsFileAt, IsInNewSpace, IsInSlack, IsNowhere}
-use Rattle.fc_changes.proofs.BasicLemmas.{any_in, clash, first_in, or_second}
+use Rattle.fc_changes.proofs.BasicLemmas.{any_in, clash, first_in}
 use Rattle.fc_changes.proofs.ChangeLemmas.{a_sector}
 use Rattle.fc_changes.proofs.MadeLemmas.{file_low_small}
 use Rattle.fc_changes.proofs.OutsideLemmas.{object_owns}
@@ -38,6 +37,8 @@ use Rattle.fc_changes.proofs.SpaceLemmas.{runs_stay, still_owned}
 use Rattle.fc_laws.specs.nodes.Edits.{Nodes}
 use Rattle.fc_laws.specs.agree.Agreed.{AgreeOn, IsMapChange}
 use Rattle.fc_laws.proofs.lemmas.agree.BeforeLemmas.{no_hole, object_lies, shape, some_zones, tight}
+use Rattle.fc_record.proofs.KindLemmas.{and_first, and_second}
+use Rattle.fc_changes.proofs.NewPlaceLemmas.{owner_id, some_of, some_there, by_new, none_at}
 
 -- The new object's identifier is free, or owned already, and its sectors are nobody's.
 pub record IsFreePlace (kind : Kind) (m : Map) (objects : List Object) (id : ℕ) (parts : List ZoneRun) (o : Object) : Type 0 where
@@ -45,31 +46,6 @@ pub record IsFreePlace (kind : Kind) (m : Map) (objects : List Object) (id : ℕ
   pub come_new : (k : ℕ) → is_owner_of k o ≡ true → is_used m k ≡ true → is_owned objects k ≡ true
   pub free : is_apart o.sectors (reserved_in kind (Layout.New m)) ≡ true
   pub apart : (p : Object) → Contains objects p → is_apart p.sectors o.sectors ≡ true
-
--- the identifier of an owner
-owner_id : (k : ℕ) (o : Object) → is_owner_of k o ≡ true → id_of o.entry.address ≡ k
-owner_id k o own = eqb-true (id_of o.entry.address) k (and_second (has_sectors o) (id_of o.entry.address == k) own)
-
-some_of : (sectors : List ℕ) → nat_lt 0 (length sectors) ≡ true → (s : ℕ) × (is_among sectors s ≡ true)
-some_of [] h = absurd (let low = ltb-true 0 0 h in omega arith)
-some_of (x ∷ sectors) h = (x, ap (λ b. b || is_among sectors x) (eq-eqb x x refl))
-
-pub some_there : (xs : List ℕ) (t : ℕ) → is_among xs t ≡ true → nat_lt 0 (length xs) ≡ true
-some_there [] t h = absurd (cc)
-some_there (x ∷ xs) t h = lt-ltb 0 (length (x ∷ xs)) (omega arith)
-
--- the sectors of bytes, some
-by_new : (m : Map) (address n : ℕ) (sectors : List ℕ) → 0 < n → sectors_at (Layout.New m) address n ≡ Some sectors → new_sectors m address n ≡ Some sectors
-unfolding sectors_at
-by_new m address n sectors some h = by (n == 0) refl h
-  where
-    by : (b : Bool) → (n == 0) ≡ b → cond b (Some []) (new_sectors m address n) ≡ Some sectors → new_sectors m address n ≡ Some sectors
-    by true e g = absurd (let none = eqb-true n 0 e in omega (arith, none, some))
-    by false e g = g
-
-pub none_at : (layout : Layout) (address : ℕ) (sectors : List ℕ) → sectors_at layout address 0 ≡ Some sectors → sectors ≡ []
-unfolding sectors_at
-none_at layout address sectors h = sym (same_some [] sectors h)
 
 module _ (kind : Kind) (m m' : Map) (nodes : Nodes) (owners : List Owner) (root : Node) (ls : List Listing) (agreed : AgreeOn kind m nodes owners root ls)
     (n id : ℕ) (parts' : List ZoneRun) (gone : List ℕ) (o : Object) (stay : List Object) (map : IsMapChange m m' id parts' gone (objects_of ls) (o ∷ stay))

@@ -22,11 +22,7 @@ use Rattle.fc_laws.specs.nodes.Edits.{IsRemoved, Nodes}
 use Rattle.fc_laws.specs.agree.Agreed.{AgreeOn, CanSay, IsMapChange, PartsFollow, parts_with}
 use Rattle.fc_laws.specs.agree.Laws.{RemovedLaw}
 use Rattle.fc_laws.proofs.lemmas.agree.DirectoryLemmas.{IsCut, IsOneEdited, kid_placed, l_in, one_agree, one_on, said}
-
-pub gone_held : (out : List Listing) (o : Object) → GoesAlone out o → held out ≡ []
-gone_held [] o alone = refl
-gone_held (d ∷ []) o alone = ap (λ (os : List Object). os ++ []) alone.2
-gone_held (d ∷ e ∷ out) o alone = absurd alone
+use Rattle.fc_changes.proofs.DeletedLemmas.{none_held as gone_held}
 
 pub gone_listed : (out : List Listing) (o : Object) → GoesAlone out o → listed out ≡ directories (o ∷ [])
 gone_listed [] o alone = ap (λ (b : Bool). cond b (o ∷ []) []) (sym alone)

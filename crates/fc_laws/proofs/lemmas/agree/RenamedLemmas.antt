@@ -18,7 +18,7 @@ use Rattle.fc_image.specs.Edits.{AreChildren, IsListing}
 use Rattle.fc_image.specs.Order.{held}
 use Rattle.fc_image.specs.EditedWalk.{IsRelisting, moved_object}
 use Rattle.fc_image.specs.InPlace.{says_now}
-use Rattle.fc_image.proofs.EntriesLemmas.{entries_law, here, in_mapped, later}
+use Rattle.fc_image.proofs.EntriesLemmas.{entries_law, in_mapped, later}
 use Rattle.fc_image.proofs.MapEditLemmas.{child_at, held_in}
 use Rattle.fc_image.proofs.PathsLemmas.{itself}
 use Rattle.fc_image.proofs.RelistLemmas.{relisting_law}
@@ -34,6 +34,7 @@ use Rattle.fc_laws.specs.agree.Laws.{RenamedLaw}
 use Rattle.fc_laws.proofs.lemmas.agree.WalkedLemmas.{Had, had, says, sound}
 use Rattle.fc_laws.proofs.lemmas.agree.KeptLemmas.{KeptEdit, alone, kept_agree, relisted_by, relisted_each, relisted_stay, relisting}
 use Rattle.fc_laws.proofs.lemmas.agree.MovedLemmas.{AreBeside, moved_can, moved_says, root_stays}
+use Rattle.fc_zone.proofs.ZoneLemmas.{Contains-head as here}
 
 -- an object's entry and path after its move
 pub moved_entry : (path : Path) (name : List ℕ) (o : Object) → (moved_object o.path (path ++ name ∷ []) o).entry ≡ record o.entry { name = name }

@@ -22,10 +22,11 @@ use Rattle.fc_changes.proofs.BasicLemmas.{first_in, next_in, nothing_in, without
 use Rattle.fc_laws.specs.nodes.Edits.{IsReplaced, Nodes}
 use Rattle.fc_laws.specs.agree.Agreed.{AgreeOn, CanSay, IsMapChange, PartsFollow, parts_with}
 use Rattle.fc_laws.specs.agree.Laws.{ReplacedLaw}
-use Rattle.fc_laws.proofs.lemmas.agree.AddedLemmas.{apart_from_all, file_size, no_directory, one_new}
+use Rattle.fc_laws.proofs.lemmas.agree.AddedLemmas.{apart_from_all, file_size, one_new}
 use Rattle.fc_laws.proofs.lemmas.agree.BeforeLemmas.{says}
 use Rattle.fc_laws.proofs.lemmas.agree.DirectoryLemmas.{IsCut, IsOneEdited, kid_placed, l_in, one_agree}
 use Rattle.fc_laws.proofs.lemmas.agree.NewPlaceLemmas.{IsFreePlace, file_place}
+use Rattle.fc_image.proofs.InPlaceLemmas.{no_directory}
 
 module _ (kind : Kind) (m m' : Map) (nodes nodes' : Nodes) (owners owners' : List Owner) (root : Node) (listings listings' rest : List Listing) (l : Listing) (content : Directory)
     (i : ℕ) (p o : Object) (dir number : ℕ) (path : Path) (n id : ℕ) (parts : List ZoneRun) (stay : List Object) (gone : List ℕ) (a : AgreeOn kind m nodes owners root listings)

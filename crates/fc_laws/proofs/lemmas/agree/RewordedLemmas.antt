@@ -18,11 +18,11 @@ use Rattle.fc_image.specs.Order.{held}
 use Rattle.fc_image.specs.EditedWalk.{IsRelisting}
 use Rattle.fc_image.specs.InPlace.{says_now}
 use Rattle.fc_image.specs.Rewords.{IsRewording}
-use Rattle.fc_image.proofs.EntriesLemmas.{entries_law, here, in_mapped, later}
+use Rattle.fc_image.proofs.EntriesLemmas.{entries_law, in_mapped, later}
 use Rattle.fc_image.proofs.MapEditLemmas.{child_at, held_in}
 use Rattle.fc_image.proofs.RelistLemmas.{relisting_law}
 use Rattle.fc_image.proofs.RenameLemmas.{child_path}
-use Rattle.fc_image.proofs.RewordLemmas.{other_long}
+use Rattle.fc_image.proofs.RewordLemmas.{other_long, at_same, stay_all}
 use Rattle.fc_image.proofs.ShuffleLemmas.{IsPermutation-flat_map, flipped}
 use Rattle.fc_tree.specs.declared.node.Node.{Node}
 use Rattle.fc_tree.specs.Agree.{AreWalked, HasForm, reader_of_nodes}
@@ -32,16 +32,7 @@ use Rattle.fc_laws.specs.agree.Agreed.{CanSay, PartsFollow}
 use Rattle.fc_laws.specs.agree.Laws.{RewordedLaw}
 use Rattle.fc_laws.proofs.lemmas.agree.WalkedLemmas.{Had, had, says, sound}
 use Rattle.fc_laws.proofs.lemmas.agree.KeptLemmas.{KeptEdit, alone, kept_agree, relisted_by, relisted_each, relisted_stay, relisting}
-
-at_same : (layout : Layout) (path : Path) (g : Object → Object) → IsRewording path g → (o : Object) → IsAt layout o → IsAt layout (g o)
-at_same layout path g is o at =
-    ap₂ (λ (a n : ℕ). sectors_at layout a n) (is.address o)
-    (ap₂ (λ (b : Bool) (n : ℕ). cond b (directory_size (dir_form layout) n) n) (is.kind o) (is.len o)) ∙ at ∙ ap (λ (ss : List ℕ). Some ss) (sym (is.sectors o))
-
-stay_all : (path : Path) (g : Object → Object) → IsRewording path g → (objects : List Object) → ((p : Object) → Contains objects p → is_same_path path p.path ≡ false) → map g objects ≡ objects
-stay_all path g is [] other = refl
-stay_all path g is (p ∷ objects) other =
-    ap₂ (λ (q : Object) (qs : List Object). q ∷ qs) (is.others p (other p (here p objects))) (stay_all path g is objects (λ q at. other q (later p q objects at)))
+use Rattle.fc_zone.proofs.ZoneLemmas.{Contains-head as here}
 
 module _ (kind : Kind) (layout : Layout) (nodes nodes' : Nodes) (owners' : List Owner) (root : Node) (listings listings' rest : List Listing) (l : Listing) (content : Directory)
     (i : ℕ) (o : Object) (dir number : ℕ) (g : Object → Object) (a : AreWalked nodes layout (reserved_in kind layout) root.entry.address root.entry.len listings)

@@ -2,7 +2,7 @@
 use Rattle.std.proofs.Common.{◌≡◌, ◌<◌, ◌≤◌, ℕ, Bool, true, false, cond, List, [], ◌∷◌, ◌++◌, length, take, eqb, refl, sym, ap, subst, ◌∙◌, arith, eq-eqb, length-append, Some}
 use Rattle.std.specs.Prelude.{Ok, Err, Contains, ◌==◌, ◌||◌}
 use Rattle.std.specs.List.{AllByRecursion, IsDistinct, flat_map, list_any}
-use Rattle.std.proofs.lemmas.Bool.{eqb-false, eqb-true, ne_eqb}
+use Rattle.std.proofs.lemmas.Bool.{eqb-false, eqb-true, ne_eqb, false_from_ne_true as unless}
 use Rattle.std.proofs.lemmas.List.{length-map}
 use Rattle.std.proofs.lemmas.List.Sorted.{IsPermutation-sym}
 use Rattle.std.proofs.lemmas.Map.Steps.{length-le_from_distinct_below}
@@ -27,25 +27,19 @@ use Rattle.fc_image.proofs.OrderLemmas.{apart_shuffled}
 use Rattle.fc_tree.specs.declared.node.Node.{Node}
 use Rattle.fc_tree.specs.Agree.{AreWalked, HasForm, IsDirectory}
 use Rattle.fc_tree.proofs.WalkedLemmas.{listed_directory}
-use Rattle.fc_changes.proofs.BasicLemmas.{clash, first_in, next_in, unless}
+use Rattle.fc_changes.proofs.BasicLemmas.{clash, first_in, next_in}
 use Rattle.fc_changes.proofs.ChangeLemmas.{a_sector}
 use Rattle.fc_laws.specs.nodes.Edits.{Nodes}
 use Rattle.fc_laws.specs.agree.Agreed.{AgreeOn}
 use Rattle.fc_laws.proofs.lemmas.agree.BeforeLemmas.{on_disc, shape}
 use Rattle.fc_laws.proofs.lemmas.agree.WalkedLemmas.{had, object_lies, sound}
+use Rattle.fc_image.proofs.RoomLemmas.{first_in as among_first, first_Distinct as one_first, std_Distinct as as_distinct, std_any as as_among}
+use Rattle.fc_tree.proofs.EndLemmas.{some_bytes}
 
 -- ---- the first sector of each object that has one
 
 abbrev firsts : List Object → List ℕ
 firsts objects = flat_map (λ o. take 1 o.sectors) objects
-
-among_first : (xs : List ℕ) (s : ℕ) → is_among (take 1 xs) s ≡ true → is_among xs s ≡ true
-among_first [] s e = e
-among_first (x ∷ xs) s e = in_front (x ∷ []) xs s e
-
-one_first : (xs : List ℕ) → Distinct (take 1 xs)
-one_first [] = tt
-one_first (x ∷ xs) = (refl, tt)
 
 -- it was not taken before
 firsts_free : (taken : List ℕ) (objects : List Object) → Apart taken objects → (s : ℕ) → is_among (firsts objects) s ≡ true → is_among taken s ≡ false
@@ -89,38 +83,7 @@ apart_directories taken (o ∷ objects) a =
     by true kept without = (a.0, kept)
     by false kept without = without
 
--- ---- numbers
-
-as_distinct : (xs : List ℕ) → Distinct xs → IsDistinct eqb xs
-unfolding IsDistinct
-as_distinct [] d = tt
-as_distinct (x ∷ xs) d = (differ x xs d.0, as_distinct xs d.1)
-  where
-    differ : (x : ℕ) (ys : List ℕ) → is_among ys x ≡ false → AllByRecursion (λ y. eqb x y ≡ false) ys
-    differ x [] e = tt
-    differ x (y ∷ ys) e = by (y == x) refl e (differ x ys)
-      where
-        by : (b : Bool) → (y == x) ≡ b → (b || is_among ys x) ≡ false → (is_among ys x ≡ false → AllByRecursion (λ z. eqb x z ≡ false) ys) → AllByRecursion (λ z. eqb x z ≡ false) (y ∷ ys)
-        by true t g more = absurd (cc)
-        by false t g more = (ne_eqb x y (λ same. eqb-false y x t (sym same)), more g)
-
-as_among : (q : ℕ) (xs : List ℕ) → list_any (eqb q) xs ≡ true → is_among xs q ≡ true
-as_among q [] e = e
-as_among q (x ∷ xs) e = by (eqb q x) refl e (as_among q xs)
-  where
-    by : (b : Bool) → eqb q x ≡ b → (b || list_any (eqb q) xs) ≡ true → (list_any (eqb q) xs ≡ true → is_among xs q ≡ true) → is_among (x ∷ xs) q ≡ true
-    by true t g more = ap (λ c. c || is_among xs q) (eq-eqb x q (sym (eqb-true q x t)))
-    by false t g more = in_back (x ∷ []) xs q (more g)
-
 -- ---- each directory has a sector
-
-pub some_bytes : (form : NameForm) (len : ℕ) (dir : Directory) → HasForm form len dir → IsDirectory dir → 0 < directory_size form len
-some_bytes Seven len (Directory.Small dir) h d = omega arith
-some_bytes Seven len (Directory.Big dir) h d = absurd h
-some_bytes Ten len (Directory.Small dir) h d = omega arith
-some_bytes Ten len (Directory.Big dir) h d = absurd h
-some_bytes Long len (Directory.Small dir) h d = absurd h
-some_bytes Long len (Directory.Big dir) h d = (let big = d.fits in omega (arith, h, big))
 
 module _ (kind : Kind) (layout : Layout) (nodes : Nodes) (root : Node) (listings : List Listing) (a : AreWalked nodes layout (reserved_in kind layout) root.entry.address root.entry.len listings)
     -- what lies at its address lies on the disc, and some bytes have a sector

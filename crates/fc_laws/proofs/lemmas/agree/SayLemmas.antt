@@ -15,7 +15,7 @@ use Rattle.fc_tree.specs.Agree.{HasForm, IsDirectory}
 use Rattle.fc_laws.specs.agree.Sayable.{SayLaw}
 
 -- both crates' words say the same
-as_directory : (content : Directory) → IsSayable content → IsDirectory content
+pub as_directory : (content : Directory) → IsSayable content → IsDirectory content
 as_directory (Directory.Small dir) is = is
 as_directory (Directory.Big dir) is = is
 

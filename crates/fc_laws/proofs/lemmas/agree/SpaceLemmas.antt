@@ -2,7 +2,7 @@
 use Rattle.std.proofs.Common.{◌≡◌, ◌<◌, ◌≤◌, inl, inr, ℕ, Bool, true, false, List, ◌++◌, length, refl, ap, ◌∙◌}
 use Rattle.std.specs.Prelude.{Contains, nat_le, ◌==◌, ◌||◌, ◌&&◌}
 use Rattle.std.specs.List.{list_any}
-use Rattle.std.proofs.lemmas.Bool.{eqb-true}
+use Rattle.std.proofs.lemmas.Bool.{eqb-true, or_right as or_second, false_from_ne_true as unless}
 use Rattle.std.proofs.lemmas.List.Elements.{Contains-append_cases, Contains-append_right}
 use Rattle.fc_newmap.specs.Map.{Map, ZoneRun, all_runs, has_id, id_runs, is_used}
 use Rattle.fc_newmap.specs.NewMap.{IsNewMap}
@@ -13,15 +13,14 @@ use Rattle.fc_image.specs.Objects.{is_movable, is_owned, is_owner_of}
 use Rattle.fc_image.specs.Edits.{IsAt}
 use Rattle.fc_image.specs.MapEdits.{KeepsPlace}
 use Rattle.fc_image.proofs.HolesLemmas.{in_id}
-use Rattle.fc_image.proofs.MoveLemmas.{unless}
 use Rattle.fc_image.specs.effects.Steady.{is_given_back}
 use Rattle.fc_changes.specs.Owed.{GivesBack, IsSpaceEdit}
-use Rattle.fc_changes.proofs.BasicLemmas.{and_false, any_in, clash, in_any, not_zero, or_cases, or_second}
+use Rattle.fc_changes.proofs.BasicLemmas.{and_false, any_in, clash, in_any, not_zero, or_cases}
 use Rattle.fc_changes.proofs.ChangeLemmas.{a_sector}
 use Rattle.fc_changes.proofs.OutsideLemmas.{low_owned, object_owns}
 use Rattle.fc_changes.proofs.SpaceLemmas.{not_given, runs_stay, still_owned}
 use Rattle.fc_laws.proofs.lemmas.agree.BeforeLemmas.{new_facts, new_shape}
-use Rattle.fc_laws.proofs.lemmas.agree.EditLemmas.{AreFixed}
+use Rattle.fc_image.proofs.OpenedLemmas.{IsFixed as AreFixed}
 
 -- what is known of the space that an edit takes and gives back
 pub record TakesSpace (m m' : Map) (objects come stay : List Object) (id : ℕ) (parts : List ZoneRun) (gone : List ℕ) : Type 0 where

@@ -18,7 +18,7 @@ use Rattle.fc_image.specs.Edits.{AreChildren, IsListing}
 use Rattle.fc_image.specs.Order.{held}
 use Rattle.fc_image.specs.EditedWalk.{IsRelisting, moved_object}
 use Rattle.fc_image.specs.InPlace.{says_now}
-use Rattle.fc_image.proofs.EntriesLemmas.{entries_law, here, in_mapped, later}
+use Rattle.fc_image.proofs.EntriesLemmas.{entries_law, in_mapped, later}
 use Rattle.fc_image.proofs.MapEditLemmas.{child_at, held_in}
 use Rattle.fc_image.proofs.RelistLemmas.{relisting_law}
 use Rattle.fc_image.proofs.RenameLemmas.{child_path, child_stays, holder_first, stay_all, stays}
@@ -34,6 +34,7 @@ use Rattle.fc_laws.proofs.lemmas.agree.WalkedLemmas.{Had, had, says, sound}
 use Rattle.fc_laws.proofs.lemmas.agree.KeptLemmas.{KeptEdit, alone, kept_agree, relisted_by, relisted_each, relisted_stay, relisting}
 use Rattle.fc_laws.proofs.lemmas.agree.MovedLemmas.{AreBeside, moved_can, moved_says, root_stays}
 use Rattle.fc_laws.proofs.lemmas.agree.RenamedLemmas.{moved_entry, moved_there}
+use Rattle.fc_zone.proofs.ZoneLemmas.{Contains-head as here}
 
 module _ (kind : Kind) (layout : Layout) (nodes nodes' : Nodes) (owners' : List Owner) (root : Node) (listings listings' rest : List Listing) (k l : Listing)
     (k_content l_content : Directory) (i j : ℕ) (o : Object) (from_dir dir number : ℕ) (name : List ℕ) (now : Directory) (a : AreWalked nodes layout (reserved_in kind layout) root.entry.address root.entry.len listings)

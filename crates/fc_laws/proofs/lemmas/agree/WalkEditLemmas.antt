@@ -21,11 +21,11 @@ use Rattle.fc_tree.specs.declared.node.Node.{Node}
 use Rattle.fc_tree.specs.Agree.{AreWalked, HasForm, IsDirectory, reader_of_nodes}
 use Rattle.fc_tree.specs.Nodes.{HoldObjects}
 use Rattle.fc_tree.specs.Parts.{AreOwners}
-use Rattle.fc_tree.proofs.WalkedLemmas.{apart_names}
 use Rattle.fc_changes.proofs.BasicLemmas.{first_in}
 use Rattle.fc_laws.specs.nodes.Edits.{Nodes}
 use Rattle.fc_laws.specs.agree.Agreed.{PartsFollow}
 use Rattle.fc_laws.proofs.lemmas.agree.WalkedLemmas.{Had, had, root_node}
+use Rattle.fc_tree.proofs.EndLemmas.{no_twin as apart_names}
 
 module _ (kind : Kind) (layout layout' : Layout) (nodes nodes' : Nodes) (owners' : List Owner) (root : Node) (listings listings' : List Listing)
     (a : AreWalked nodes layout (reserved_in kind layout) root.entry.address root.entry.len listings) (g : Object → Object) (gone come kept : List Object) (address size : ℕ) where

@@ -17,14 +17,13 @@ use Rattle.fc_image.proofs.OrderLemmas.{order_law}
 use Rattle.fc_tree.specs.declared.node.Node.{Node}
 use Rattle.fc_tree.specs.Agree.{AreWalked, reader_of_nodes}
 use Rattle.fc_tree.specs.Nodes.{HasNode, number_of}
-use Rattle.fc_tree.proofs.WalkedLemmas.{apart_names, follows_each, given, place_of, root as root_of}
+use Rattle.fc_tree.proofs.WalkedLemmas.{follows_each, given, place_of, root as root_of}
 use Rattle.fc_changes.proofs.BasicLemmas.{first_in}
 use Rattle.fc_laws.specs.nodes.Edits.{Nodes}
+use Rattle.fc_tree.proofs.PathLemmas.{some_same as same_node}
+use Rattle.fc_tree.proofs.EndLemmas.{no_twin as apart_names}
 
 -- ---- the node of a root's object
-
-same_node : (n k : Node) → (let q : Option Node = Some n in q) ≡ Some k → n ≡ k
-same_node n k e = cc
 
 same_number : (n k : ℕ) → (let q : Option ℕ = Some n in q) ≡ Some k → n ≡ k
 same_number n k e = cc

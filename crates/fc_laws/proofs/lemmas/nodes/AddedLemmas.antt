@@ -19,7 +19,7 @@ use Rattle.fc_tree.specs.declared.node.Body.{Body}
 use Rattle.fc_tree.specs.declared.node.Body.TheVariants as bodies
 use Rattle.fc_tree.specs.declared.node.Node.{Node}
 use Rattle.fc_tree.specs.Nodes.{number_of, body_in}
-use Rattle.fc_tree.proofs.MemberLemmas.{contains_cases, no_element}
+use Rattle.fc_tree.proofs.MemberLemmas.{no_element}
 use Rattle.fc_tree.proofs.WalkedLemmas.{same_some, root, listed_directory, holder-push}
 use Rattle.fc_tree.proofs.SoundLemmas.{root_object}
 use Rattle.fc_laws.specs.nodes.Edits.{Nodes, IsAdded, IsDirectoryAdded, with_body, NodesFollow, OwnersFollow, OwnersEdited, owners_with}
@@ -32,6 +32,7 @@ use Rattle.fc_laws.proofs.lemmas.nodes.FollowLemmas.{AllFit, follow}
 use Rattle.fc_laws.proofs.lemmas.nodes.OtherLemmas.{here_in, others_in, other_number, fits_here, not_file, fresh, objects_count, all_objects, top_object, root_at}
 use Rattle.fc_laws.proofs.lemmas.nodes.KeptLemmas.{apart_after, way_kept, child_kept}
 use Rattle.fc_laws.proofs.lemmas.nodes.OwnerLemmas.{owners_among, among_one, owners_edited, found_objects, owner_known, keeps_way}
+use Rattle.fc_image.proofs.EntriesLemmas.{cases as contains_cases}
 
 -- An object gets a free number and a place in directory l, under a name that no entry there has.
 pub record IsNew (nodes : Nodes) (l : Listing) (o : Object) (dir number : ℕ) (body : Body) : Type 0 where

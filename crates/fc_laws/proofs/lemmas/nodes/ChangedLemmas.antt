@@ -14,7 +14,7 @@ use Rattle.fc_image.specs.Order.{held}
 use Rattle.fc_image.specs.InPlace.{says_now}
 use Rattle.fc_tree.specs.declared.node.Body.TheVariants as bodies
 use Rattle.fc_tree.specs.Nodes.{number_of, body_in}
-use Rattle.fc_tree.proofs.MemberLemmas.{from_map, contains_cases, contains_later}
+use Rattle.fc_tree.proofs.MemberLemmas.{from_map}
 use Rattle.fc_tree.proofs.WalkedLemmas.{same_some, root, listed_directory, holder-push}
 use Rattle.fc_alloc.specs.declared.owner.Owner.{Owner}
 use Rattle.fc_model.specs.Tree.{holder}
@@ -29,6 +29,7 @@ use Rattle.fc_laws.proofs.lemmas.nodes.OwnerLemmas.{owners_among, among-append, 
 use Rattle.fc_laws.proofs.lemmas.nodes.FollowLemmas.{AllFit, follow}
 use Rattle.fc_laws.proofs.lemmas.nodes.OtherLemmas.{unlike, here_in, others_in, other_number, fits_here, not_file, left_in, left_other, rest_other, number_lower, kid_fits, objects_count, top_object, left_objects, objects_cut}
 use Rattle.fc_laws.proofs.lemmas.nodes.KeptLemmas.{apart_after, StillHeld, way_kept, child_kept}
+use Rattle.fc_image.proofs.EntriesLemmas.{later as contains_later, cases as contains_cases}
 
 -- what replaces object o, and what becomes of all others
 pub record IsChange (o x : Object) (g : Object → Object) : Type 0 where

@@ -18,7 +18,7 @@ use Rattle.fc_image.specs.InPlace.{says_now}
 use Rattle.fc_tree.specs.declared.node.Body.TheVariants as bodies
 use Rattle.fc_tree.specs.Parts.{first_in}
 use Rattle.fc_tree.specs.Nodes.{number_of, body_in}
-use Rattle.fc_tree.proofs.MemberLemmas.{contains_cases, contains_here, contains_later}
+use Rattle.fc_tree.proofs.MemberLemmas.{contains_here}
 use Rattle.fc_tree.proofs.WalkedLemmas.{same_some, root, root_path, listed_directory, holder-push}
 use Rattle.fc_tree.proofs.SoundLemmas.{root_object}
 use Rattle.fc_laws.specs.nodes.Edits.{Nodes, with_body, with_entry, with_holder, NodesFollow, OwnersFollow, OwnersEdited, owners_with}
@@ -32,6 +32,7 @@ use Rattle.fc_laws.proofs.lemmas.nodes.FollowLemmas.{AllFit, follow}
 use Rattle.fc_laws.proofs.lemmas.nodes.OtherLemmas.{here_in, others_in, other_number, fits_here, not_file, left_in, left_other, rest_other, number_lower, dir_lower, kid_fits, objects_count, top_object, root_at, left_objects, objects_cut, other_object, fresh}
 use Rattle.fc_laws.proofs.lemmas.nodes.KeptLemmas.{apart_after, way_kept, child_kept}
 use Rattle.fc_laws.proofs.lemmas.nodes.OwnerLemmas.{among_one, owners_among, owners_edited, found_objects, owner_known, owner_law, keeps_owner, KeepsOwner}
+use Rattle.fc_image.proofs.EntriesLemmas.{later as contains_later, cases as contains_cases}
 
 module _ (nodes nodes' : Nodes) (layout : Layout) (listings listings' rest : List Listing) (k l : Listing) (k_content l_content : Directory) (i j : ℕ) (o copy : Object) (from_dir dir number : ℕ) (name : List ℕ)
     (h : IsHeld nodes layout listings) (e : IsCopied nodes nodes' listings listings' rest k l k_content l_content i j o copy from_dir dir number name) where

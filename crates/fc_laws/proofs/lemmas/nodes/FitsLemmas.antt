@@ -14,12 +14,13 @@ use Rattle.fc_image.proofs.PathsLemmas.{itself}
 use Rattle.fc_tree.specs.declared.node.Body.TheVariants as bodies
 use Rattle.fc_tree.specs.Nodes.{number_of, body_in, body_of, HoldObjects}
 use Rattle.fc_tree.proofs.WalkedLemmas.{same_some, root_path, child_path, child_is_object, listed_directory, listing_found, no_listing, holder-push}
-use Rattle.fc_tree.proofs.SoundLemmas.{same_by_folds, fold_pushed, root_or_child, same_object, same_listing}
+use Rattle.fc_tree.proofs.SoundLemmas.{fold_pushed, root_or_child, same_object, same_listing}
 use Rattle.fc_tree.proofs.PlaceLemmas.{one_path, same_number}
 use Rattle.fc_tree.proofs.FindLemmas.{object_of_number}
 use Rattle.fc_laws.specs.nodes.Edits.{Nodes}
 use Rattle.fc_laws.proofs.lemmas.nodes.ShapeLemmas.{held_by, held_as, said, says_at, some_mapped}
 use Rattle.fc_laws.proofs.lemmas.nodes.WaysLemmas.{AreApart}
+use Rattle.fc_image.proofs.CommandLemmas.{same_by_folds}
 
 -- an object of the directory of number `dir`, which has this path, has the node `number`
 pub record ChildFits (nodes : Nodes) (dir : ℕ) (path : Path) (number : ℕ) (o : Object) : Type 0 where

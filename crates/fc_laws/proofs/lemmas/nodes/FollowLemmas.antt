@@ -23,14 +23,11 @@ use Rattle.fc_tree.proofs.SoundLemmas.{root_or_child, root_object}
 use Rattle.fc_laws.specs.nodes.Edits.{Nodes, NodesFollow}
 use Rattle.fc_laws.proofs.lemmas.nodes.ShapeLemmas.{says_at, node_there, said}
 use Rattle.fc_laws.proofs.lemmas.nodes.FitsLemmas.{DirectoryFits}
+use Rattle.fc_tree.proofs.FoundLemmas.{body_content as body_says}
 
 -- Each listed directory fits.
 abbrev pub AllFit : Nodes → List Listing → Type 0
 AllFit nodes listings = (l : Listing) → Contains listings l → (n : ℕ) × DirectoryFits nodes n l
-
-body_says : (dir : Directory) → content_in (body_in dir) ≡ Ok dir
-body_says (Directory.Small dir) = refl
-body_says (Directory.Big dir) = refl
 
 said_again : (o : Option Node) (dir : Directory) → option_map said o ≡ Some (body_in dir) → said_by o ≡ Ok dir
 said_again None dir e = absurd (cc)

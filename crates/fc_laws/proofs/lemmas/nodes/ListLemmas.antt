@@ -9,7 +9,9 @@ use Rattle.fc_dirs.specs.Directory.{Directory}
 use Rattle.fc_image.specs.Walk.{Object, Listing}
 use Rattle.fc_image.specs.Order.{held}
 use Rattle.fc_laws.specs.nodes.Edits.{relisted, as_before}
-use Rattle.fc_tree.proofs.MemberLemmas.{contains_cases, contains_here, contains_later}
+use Rattle.fc_tree.proofs.MemberLemmas.{contains_here}
+use Rattle.fc_image.proofs.TreeLemmas.{map_both as map_append}
+use Rattle.fc_image.proofs.EntriesLemmas.{later as contains_later, cases as contains_cases}
 
 module _ {X : Type 0} where
   -- an element, and the others
@@ -85,10 +87,6 @@ relisted_itself (k ∷ rest) =
     let kids = map_fixed (λ (o : Object). o) k.children (λ p at. refl) in
     let more = relisted_itself rest in
     λ i. record { object = k.object; content = k.content; children = kids i } ∷ more i
-
-pub map_append : {X Y : Type 0} (f : X → Y) (xs ys : List X) → map f (xs ++ ys) ≡ map f xs ++ map f ys
-map_append f [] ys = refl
-map_append {Y = Y} f (x ∷ xs) ys = ap (λ (zs : List Y). f x ∷ zs) (map_append f xs ys)
 
 -- the objects in directories, each changed
 pub held_mapped : (g : Object → Object) (f : Listing → Directory) (rest : List Listing) → held (relisted g f rest) ≡ map g (held rest)

@@ -1,7 +1,7 @@
 -- An object gets another path, with all that is below it: no node gets another number.
 use Rattle.std.proofs.Common.{◌≡◌, ◌<◌, ◌≤◌, ◌⊎◌, inl, inr, ⊎_elim, ℕ, zero, suc, Bool, true, false, cond, List, [], ◌∷◌, ◌++◌, length, map, drop, take_all, refl, sym, ap, subst, ◌∙◌, arith, append-nil, append_assoc, Some}
 use Rattle.std.specs.Prelude.{Contains}
-use Rattle.std.proofs.lemmas.Bool.{cases_eq}
+use Rattle.std.proofs.lemmas.Bool.{cases_eq, false_from_ne_true as unless}
 use Rattle.fc_names.specs.Names.{Path, folded, folded_path, is_same_path}
 use Rattle.fc_model.specs.Tree.{holder, is_prefix, last_name}
 use Rattle.fc_dirs.specs.declared.Entry.{Entry}
@@ -11,16 +11,16 @@ use Rattle.fc_image.specs.Walk.{Object, Listing, is_directory_object}
 use Rattle.fc_image.specs.Objects.{objects_of}
 use Rattle.fc_image.specs.Commanded.{moved_path}
 use Rattle.fc_image.specs.EditedWalk.{moved_object}
-use Rattle.fc_image.proofs.CommandLemmas.{is_prefix_of, other_path}
-use Rattle.fc_image.proofs.RelistLemmas.{folded_long, prefix_long, prefix_step, root_path_stays}
+use Rattle.fc_image.proofs.CommandLemmas.{is_prefix_of, other_path, same_by_folds}
+use Rattle.fc_image.proofs.RelistLemmas.{folded_long, prefix_long, prefix_step, root_path_stays, drop_front}
 use Rattle.fc_image.proofs.RenameLemmas.{stays, moved_itself, last_pushed}
-use Rattle.fc_image.proofs.PathsLemmas.{itself, unless}
+use Rattle.fc_image.proofs.PathsLemmas.{itself}
 use Rattle.fc_tree.specs.declared.node.Body.TheVariants as bodies
 use Rattle.fc_tree.specs.Nodes.{number_of, body_in}
 use Rattle.fc_tree.specs.Parts.{first_in}
 use Rattle.fc_tree.proofs.MemberLemmas.{from_map}
 use Rattle.fc_tree.proofs.WalkedLemmas.{same_some, root, root_path, listed_directory, child_path, holder-push}
-use Rattle.fc_tree.proofs.SoundLemmas.{folds_alike, same_by_folds, root_or_child, root_object}
+use Rattle.fc_tree.proofs.SoundLemmas.{folds_alike, root_or_child, root_object}
 use Rattle.fc_tree.proofs.PlaceLemmas.{one_path}
 use Rattle.fc_laws.specs.nodes.Edits.{Nodes, as_moved}
 use Rattle.fc_laws.specs.nodes.Laws.{IsHeld}
@@ -32,11 +32,6 @@ use Rattle.fc_laws.proofs.lemmas.nodes.KeptLemmas.{apart_after, way_kept, child_
 use Rattle.fc_laws.proofs.lemmas.nodes.OwnerLemmas.{KeepsOwner, keeps_owner}
 
 -- ---- moved paths
-
-drop_front : (n : ℕ) (xs ys : Path) → n ≤ length xs → drop n (xs ++ ys) ≡ drop n xs ++ ys
-drop_front zero xs ys low = refl
-drop_front (suc n) [] ys low = absurd (omega arith)
-drop_front (suc n) (x ∷ xs) ys low = drop_front n xs ys (omega arith)
 
 pub moved_step : (from to path : Path) (name : List ℕ) → is_same_path from (path ++ name ∷ []) ≡ false → moved_path from to (path ++ name ∷ []) ≡ moved_path from to path ++ name ∷ []
 moved_step from to path name other =
@@ -68,7 +63,7 @@ moved_same from to path same =
     all_dropped zero (x ∷ xs) e = absurd (omega arith)
     all_dropped (suc n) (x ∷ xs) e = all_dropped n xs (omega arith)
 
-some_long : (path : Path) → (path ≡ [] → ⊥) → 0 < length path
+pub some_long : (path : Path) → (path ≡ [] → ⊥) → 0 < length path
 some_long [] never = absurd (never refl)
 some_long (x ∷ path) never = omega arith
 

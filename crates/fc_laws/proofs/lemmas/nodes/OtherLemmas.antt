@@ -13,21 +13,24 @@ use Rattle.fc_image.specs.Walk.{Object, Listing}
 use Rattle.fc_image.specs.Objects.{objects_of}
 use Rattle.fc_image.specs.Order.{held}
 use Rattle.fc_image.specs.Sound.{AreSound}
-use Rattle.fc_image.proofs.PathsLemmas.{many, is_at, itself, unless, listed_few}
+use Rattle.fc_image.proofs.PathsLemmas.{many, is_at, itself, listed_few}
 use Rattle.fc_image.proofs.ShuffleLemmas.{IsPermutation-flat_map}
 use Rattle.fc_image.proofs.RelistLemmas.{folded_long}
 use Rattle.std.proofs.lemmas.List.{length_push}
 use Rattle.fc_tree.specs.declared.node.Body.TheVariants as bodies
 use Rattle.fc_tree.specs.Nodes.{number_of, body_in, HoldObjects}
-use Rattle.fc_tree.proofs.MemberLemmas.{no_element, contains_cases, contains_here, contains_later, in_map, some_many, many_permuted}
+use Rattle.fc_tree.proofs.MemberLemmas.{no_element, contains_here, in_map, some_many, many_permuted}
 use Rattle.fc_tree.proofs.WalkedLemmas.{same_some, root, root_path, root_and_held, given, few_objects, child_path}
-use Rattle.fc_tree.proofs.SoundLemmas.{root_object, folds_alike, same_by_folds, children_stored}
+use Rattle.fc_tree.proofs.SoundLemmas.{root_object, folds_alike, children_stored}
 use Rattle.fc_tree.proofs.PlaceLemmas.{one_path, same_number}
 use Rattle.fc_laws.specs.nodes.Edits.{Nodes}
 use Rattle.fc_laws.proofs.lemmas.nodes.ShapeLemmas.{held_as, says_at}
 use Rattle.fc_laws.proofs.lemmas.nodes.WaysLemmas.{not_missed, folds_same}
 use Rattle.fc_laws.proofs.lemmas.nodes.ListLemmas.{cut_at, to_front, in_first, either, map_remove}
 use Rattle.fc_laws.proofs.lemmas.nodes.FitsLemmas.{ChildFits, DirectoryFits, one_number, one_directory, fits_at, kid_at, kid_lower, holds}
+use Rattle.std.proofs.lemmas.Bool.{false_from_ne_true as unless}
+use Rattle.fc_image.proofs.EntriesLemmas.{later as contains_later, cases as contains_cases}
+use Rattle.fc_image.proofs.CommandLemmas.{same_by_folds}
 
 -- paths of other numbers fold to others
 pub unlike : (nodes : Nodes) (p q : Path) (m n : ℕ) → number_of nodes p ≡ Some m → number_of nodes q ≡ Some n → (m ≡ n → ⊥) → is_same_path p q ≡ false

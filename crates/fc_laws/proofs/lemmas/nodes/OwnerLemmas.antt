@@ -13,12 +13,13 @@ use Rattle.fc_image.specs.Sound.{AreSound}
 use Rattle.fc_image.proofs.ShuffleLemmas.{IsPermutation-filter, IsPermutation-flat_map, filter-append, IsPermutation-unappend}
 use Rattle.fc_tree.specs.Nodes.{number_of, HoldObjects}
 use Rattle.fc_tree.specs.Parts.{AreOwners, first_in, owner_of}
-use Rattle.fc_tree.proofs.MemberLemmas.{contains_here, contains_later, from_map, in_filter}
+use Rattle.fc_tree.proofs.MemberLemmas.{contains_here, from_map, in_filter}
 use Rattle.fc_tree.proofs.WalkedLemmas.{root, root_path, root_and_held, root_is_directory, contained, child_path, holder-push, directories_listed}
 use Rattle.fc_tree.proofs.SoundLemmas.{root_object}
-use Rattle.fc_laws.proofs.lemmas.nodes.ListLemmas.{map_append}
 use Rattle.fc_laws.specs.nodes.Edits.{Nodes, OwnersEdited, owner_with, owners_with}
 use Rattle.fc_laws.specs.nodes.Laws.{OwnerLaw}
+use Rattle.fc_image.proofs.TreeLemmas.{map_both as map_append}
+use Rattle.fc_image.proofs.EntriesLemmas.{later as contains_later}
 
 -- the owners among objects
 abbrev pub owners_among : Nodes → Layout → List Object → List Owner

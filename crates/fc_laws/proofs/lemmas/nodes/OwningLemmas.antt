@@ -2,7 +2,7 @@
 use Rattle.std.proofs.Common.{◌≡◌, ◌⊎◌, inl, inr, ℕ, Bool, true, false, cond, List, [], ◌∷◌, map, filter, refl, sym, ap, subst, ◌∙◌, Option, Some, unwrap_or, eq-eqb}
 use Rattle.std.specs.Prelude.{Contains, IsPermutation, ◌==◌, nat_eq}
 use Rattle.std.specs.List.{IsDistinct, AllByRecursion}
-use Rattle.std.proofs.lemmas.Bool.{eqb-true}
+use Rattle.std.proofs.lemmas.Bool.{eqb-true, false_from_ne_true as unless}
 use Rattle.std.proofs.lemmas.List.Sorted.{Contains-permutation, IsPermutation-cons, IsPermutation-refl, IsPermutation-sym, IsPermutation-trans, IsPermutation-middle}
 use Rattle.fc_alloc.specs.declared.owner.Owner.{Owner}
 use Rattle.fc_alloc.specs.Owners.{HaveOwnNodes, has_node, is_node, with_changed}
@@ -12,7 +12,7 @@ use Rattle.fc_image.specs.Objects.{has_sectors, objects_of}
 use Rattle.fc_tree.specs.Parts.{AreOwners, owner_of}
 use Rattle.fc_tree.proofs.MemberLemmas.{from_map, in_filter, in_map}
 use Rattle.fc_tree.proofs.WalkedLemmas.{child_is_object, contained}
-use Rattle.fc_changes.proofs.BasicLemmas.{cases_cons, clash, in_any, nothing_in, unless}
+use Rattle.fc_changes.proofs.BasicLemmas.{cases_cons, clash, in_any, nothing_in}
 use Rattle.fc_changes.proofs.PlacedLemmas.{filter_test}
 use Rattle.fc_image.proofs.EntriesLemmas.{from_filter}
 use Rattle.fc_laws.specs.nodes.Edits.{IsChild, Nodes, OwnersEdited, owner_with}

@@ -19,7 +19,7 @@ use Rattle.fc_image.specs.InPlace.{says_now}
 use Rattle.fc_tree.specs.declared.node.Body.TheVariants as bodies
 use Rattle.fc_tree.specs.Parts.{first_in}
 use Rattle.fc_tree.specs.Nodes.{number_of, body_in}
-use Rattle.fc_tree.proofs.MemberLemmas.{contains_cases, contains_here, contains_later, no_element}
+use Rattle.fc_tree.proofs.MemberLemmas.{contains_here, no_element}
 use Rattle.fc_tree.proofs.WalkedLemmas.{same_some, root, root_path, listed_directory}
 use Rattle.fc_tree.proofs.SoundLemmas.{root_object}
 use Rattle.fc_changes.specs.Owed.{GoesAlone}
@@ -33,6 +33,7 @@ use Rattle.fc_laws.proofs.lemmas.nodes.FollowLemmas.{AllFit, follow}
 use Rattle.fc_laws.proofs.lemmas.nodes.OtherLemmas.{here_in, others_in, other_directory, other_number, fits_here, not_file, left_in, left_other, rest_other, number_lower, dir_lower, kid_fits, objects_count, top_object, root_at, left_objects, objects_cut, other_object}
 use Rattle.fc_laws.proofs.lemmas.nodes.KeptLemmas.{apart_after, way_kept, child_kept}
 use Rattle.fc_laws.proofs.lemmas.nodes.OwnerLemmas.{among_one, owners_edited, found_objects, owner_law, keeps_owner, KeepsOwner}
+use Rattle.fc_image.proofs.EntriesLemmas.{later as contains_later, cases as contains_cases}
 
 -- ---- what goes alone
 

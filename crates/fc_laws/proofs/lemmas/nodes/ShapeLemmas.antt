@@ -13,6 +13,7 @@ use Rattle.fc_tree.specs.declared.node.Body.{Body}
 use Rattle.fc_tree.specs.declared.node.Node.{Node}
 use Rattle.fc_tree.specs.Nodes.{body_in}
 use Rattle.fc_laws.specs.nodes.Edits.{Nodes, with_edited, with_body, with_entry, with_holder, with_own_body}
+use Rattle.fc_tree.proofs.SlotLemmas.{other as untied}
 
 -- which directory holds a node, and by what entry
 abbrev pub held_by : Node → ℕ × Entry
@@ -32,9 +33,6 @@ says_at nodes n = option_map said (get nodes n)
 
 tied : (n : ℕ) → eq_by_cmp nat_cmp n n ≡ true
 tied n = unsigned_tied n n ∙ eq-eqb n n refl
-
-untied : (m n : ℕ) → (m ≡ n → ⊥) → eq_by_cmp nat_cmp m n ≡ false
-untied m n other = unsigned_tied m n ∙ ne_eqb m n other
 
 -- ---- one node put in or taken out
 

@@ -17,22 +17,23 @@ use Rattle.fc_image.specs.Order.{held}
 use Rattle.fc_image.specs.EditedWalk.{moved_object}
 use Rattle.fc_image.specs.InPlace.{says_now}
 use Rattle.fc_image.proofs.RenameLemmas.{holder_first}
-use Rattle.fc_image.proofs.CommandLemmas.{other_path}
-use Rattle.fc_tree.proofs.SoundLemmas.{same_by_folds}
+use Rattle.fc_image.proofs.CommandLemmas.{other_path, same_by_folds}
 use Rattle.fc_tree.proofs.PlaceLemmas.{one_path}
 use Rattle.fc_tree.specs.declared.node.Node.{Node}
 use Rattle.fc_tree.specs.Nodes.{number_of, body_in}
-use Rattle.fc_tree.proofs.MemberLemmas.{from_map, contains_cases, contains_here, contains_later}
+use Rattle.fc_tree.proofs.MemberLemmas.{from_map, contains_here}
 use Rattle.fc_tree.proofs.WalkedLemmas.{root, listed_directory}
 use Rattle.fc_laws.specs.nodes.Edits.{Nodes, IsChild, with_body, with_entry, with_holder, with_own_body, relisted, as_moved, NodesFollow, OwnersFollow, OwnersEdited, owners_with}
 use Rattle.fc_laws.specs.nodes.Laws.{IsHeld, IsOwned, TransferredLaw}
 use Rattle.fc_laws.proofs.lemmas.nodes.ShapeLemmas.{held_by, held_as, said, says_at, some_mapped, body_held, body_said, body_other, entry_said, entry_held, entry_other, holder_said, holder_held, holder_other, own_held, own_other, own_said, own_file, own_length, edited_length}
 use Rattle.fc_laws.proofs.lemmas.nodes.FitsLemmas.{ChildFits, DirectoryFits, fits}
-use Rattle.fc_laws.proofs.lemmas.nodes.ListLemmas.{cut_at, put_at, either, in_first, map_fixed, map_append, held_mapped, held_relisted}
+use Rattle.fc_laws.proofs.lemmas.nodes.ListLemmas.{cut_at, put_at, either, in_first, map_fixed, held_mapped, held_relisted}
 use Rattle.fc_laws.proofs.lemmas.nodes.FollowLemmas.{AllFit, follow}
 use Rattle.fc_laws.proofs.lemmas.nodes.OtherLemmas.{here_in, others_in, other_number, fits_here, left_in, left_other, rest_other, number_lower, dir_lower, kid_fits, objects_count, top_object, left_objects, objects_cut, other_object, fresh}
 use Rattle.fc_laws.proofs.lemmas.nodes.MovingLemmas.{IsMoving, child_stays, itself_fits, directory_moved, directory_stays, root_moved, top_fixed, fixed, keeps, above_own}
 use Rattle.fc_laws.proofs.lemmas.nodes.OwnerLemmas.{owners_among, among_one, owners_edited, found_objects, owner_known, owner_law, same_owner}
+use Rattle.fc_image.proofs.TreeLemmas.{map_both as map_append}
+use Rattle.fc_image.proofs.EntriesLemmas.{later as contains_later, cases as contains_cases}
 
 module _ (nodes : Nodes) (layout : Layout) (listings rest : List Listing) (k l : Listing) (k_content l_content : Directory) (i j : ℕ) (o : Object) (from_dir dir number : ℕ) (name : List ℕ)
     (now : Directory) (h : IsHeld nodes layout listings) (found : IsPermutation listings (k ∷ l ∷ rest)) (child : IsChild nodes listings k i o from_dir number)

@@ -9,12 +9,13 @@ use Rattle.fc_dirs.specs.declared.Entry.{Entry}
 use Rattle.fc_image.proofs.PathsLemmas.{cut}
 use Rattle.fc_tree.specs.declared.node.Node.{Node}
 use Rattle.fc_tree.specs.Nodes.{child, number_of}
-use Rattle.fc_tree.proofs.NumberLemmas.{number_from-push, own_name}
-use Rattle.fc_tree.proofs.MemberLemmas.{contains_cases, no_element}
+use Rattle.fc_tree.proofs.NumberLemmas.{number_from-push, own_name, three_hold}
+use Rattle.fc_tree.proofs.MemberLemmas.{no_element}
 use Rattle.fc_tree.proofs.TreeLemmas.{value_is}
 use Rattle.fc_tree.proofs.PlaceLemmas.{Stands, child_stands, last_step}
 use Rattle.fc_laws.specs.nodes.Edits.{Nodes}
 use Rattle.fc_laws.proofs.lemmas.nodes.ShapeLemmas.{held_by, held_as}
+use Rattle.fc_image.proofs.EntriesLemmas.{cases as contains_cases}
 
 -- In no directory two nodes have names that fold to one.
 abbrev pub AreApart : Nodes → Type 0
@@ -37,12 +38,6 @@ module _ {X : Type 0} (t : X → Bool) where
       by true e f more = cc
       by false e f more =
           ⊎_elim (λ same. let two : true ≡ false = sym h ∙ sym (ap t same) ∙ e in cc) (λ later. more later h f) (contains_cases y x xs at)
-
-three_hold : (a b c : Bool) → a ≡ true → b ≡ true → c ≡ true → (a && b && c) ≡ true
-three_hold true true true e f g = refl
-three_hold false b c e f g = absurd (cc)
-three_hold true false c e f g = absurd (cc)
-three_hold true true false e f g = absurd (cc)
 
 -- a node is found in its directory
 pub child_known : (nodes : Nodes) (dir : ℕ) (name : List ℕ) (n : ℕ) (e : Entry) → AreApart nodes → held_as nodes n ≡ Some (dir, e) → (n ≡ 0 → ⊥)

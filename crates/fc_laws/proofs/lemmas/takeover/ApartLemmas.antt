@@ -29,7 +29,6 @@ use Rattle.fc_image.specs.effects.Steady.{idle_sectors, is_idle, may_be_rewritte
 use Rattle.fc_changes.specs.Changed.{IsFileAt, IsInNewSpace}
 use Rattle.fc_changes.proofs.BasicLemmas.{cases_cons, clash}
 use Rattle.fc_changes.proofs.BeforeLemmas.{child_in, had, listed_in, object_from, object_lies, opened_as, parts}
-use Rattle.fc_changes.proofs.MadeLemmas.{turned}
 use Rattle.fc_changes.proofs.NewPlaceLemmas.{NewPlace, file_place, new_place}
 use Rattle.fc_changes.proofs.OutsideLemmas.{AreBusy, holes_busy, no_sectors, object_busy}
 use Rattle.fc_changes.proofs.PlacedLemmas.{filter_test}
@@ -39,15 +38,11 @@ use Rattle.fc_laws.specs.takeover.Places.{IsNewObject, MayBeWritten, ObjectsLaw,
 use Rattle.fc_laws.proofs.lemmas.takeover.KindLemmas.{new_kind}
 use Rattle.fc_laws.proofs.lemmas.takeover.PlainLemmas.{says_before}
 use Rattle.fc_laws.proofs.lemmas.takeover.SaidLemmas.{apart_front, others_apart, own_apart}
+use Rattle.fc_image.proofs.EditLemmas.{apart_turned as turned}
+use Rattle.fc_changes.proofs.MovedLemmas.{both_apart as apart_both}
 
 pub apart_back : (xs ys zs : List ℕ) → is_apart xs (ys ++ zs) ≡ true → is_apart xs zs ≡ true
 apart_back xs ys zs e = apart_from xs zs (λ s i j. clash (is_among (ys ++ zs) s) (in_back ys zs s j) (apart_at xs (ys ++ zs) s e i))
-
-pub apart_both : (xs ys zs : List ℕ) → is_apart xs ys ≡ true → is_apart xs zs ≡ true → is_apart xs (ys ++ zs) ≡ true
-apart_both xs ys zs a b = apart_from xs (ys ++ zs) (λ s i j. elim (in_either ys zs s j) [
-  | Ok first ↦ clash (is_among ys s) first (apart_at xs ys s a i)
-  | Err second ↦ clash (is_among zs s) second (apart_at xs zs s b i)
-])
 
 apart_within : (xs ys zs : List ℕ) → ((s : ℕ) → is_among ys s ≡ true → is_among zs s ≡ true) → is_apart xs zs ≡ true → is_apart xs ys ≡ true
 apart_within xs ys zs within a = apart_from xs ys (λ s i j. clash (is_among zs s) (within s j) (apart_at xs zs s a i))

@@ -17,7 +17,6 @@ use Rattle.fc_image.specs.Walk.{Listing, Object, is_directory_object, object_siz
 use Rattle.fc_image.specs.Objects.{objects_of}
 use Rattle.fc_image.specs.Opening.{Opened, boot_place}
 use Rattle.fc_image.specs.InPlace.{says_now}
-use Rattle.fc_image.proofs.MoveLemmas.{not_true}
 use Rattle.fc_image.specs.effects.Placed.{file_low}
 use Rattle.fc_image.specs.effects.Short.{is_sharing}
 use Rattle.fc_changes.specs.Owed.{IsBefore, IsWritten}
@@ -25,20 +24,23 @@ use Rattle.fc_changes.specs.Copied.{IsCopyChange}
 use Rattle.fc_changes.proofs.BasicLemmas.{first_in, next_in}
 use Rattle.fc_changes.proofs.BesideLemmas.{three}
 use Rattle.fc_changes.proofs.CopiedLemmas.{copied_law}
-use Rattle.fc_changes.proofs.MadeLemmas.{file_low_small, turned}
+use Rattle.fc_changes.proofs.MadeLemmas.{file_low_small}
 use Rattle.fc_changes.proofs.NewPlaceLemmas.{NewPlace}
 use Rattle.fc_changes.proofs.OutsideLemmas.{no_sectors}
 use Rattle.fc_changes.proofs.StepsLemmas.{writes_law}
 use Rattle.fc_laws.specs.takeover.Copied.{CopiedStepsLaw, CopiedTakesOver, IsCopiedInSteps}
 use Rattle.fc_laws.specs.takeover.Places.{OpensBy}
 use Rattle.fc_laws.specs.takeover.Writes.{IsUnwritten}
-use Rattle.fc_laws.proofs.lemmas.takeover.ApartLemmas.{apart_both, directory_lies, objects_law}
+use Rattle.fc_laws.proofs.lemmas.takeover.ApartLemmas.{directory_lies, objects_law}
 use Rattle.fc_laws.proofs.lemmas.takeover.PlainLemmas.{says_before}
 use Rattle.fc_laws.proofs.lemmas.takeover.RepairLemmas.{repaired_takes_over}
 use Rattle.fc_laws.proofs.lemmas.takeover.SaidLemmas.{apart_front}
 use Rattle.fc_laws.proofs.lemmas.takeover.StepLemmas.{before, dir_kept, joined, listed_first, map_apart, never, none_given, opens_by}
 use Rattle.fc_laws.proofs.lemmas.takeover.TakenLemmas.{children_long, inserted_same, taken}
 use Rattle.fc_laws.proofs.lemmas.takeover.WriteLemmas.{written_bytes_law}
+use Rattle.fc_image.proofs.EditLemmas.{apart_turned as turned}
+use Rattle.std.proofs.lemmas.Bool.{not-true as not_true}
+use Rattle.fc_changes.proofs.MovedLemmas.{both_apart as apart_both}
 
 -- the second of two directories is listed
 listed_second : (v : Opened) (k l : Listing) (rest : List Listing) → IsPermutation v.listings (k ∷ l ∷ rest) → Contains v.listings l

@@ -24,7 +24,7 @@ use Rattle.fc_image.proofs.MapEditLemmas.{held_in}
 use Rattle.fc_image.proofs.ShuffleLemmas.{flipped}
 use Rattle.fc_laws.specs.nodes.Edits.{IsRenamed, IsTransferred, Nodes, as_moved}
 use Rattle.fc_changes.specs.Changed.{IsMoveChange, IsRenameChange}
-use Rattle.fc_changes.proofs.BasicLemmas.{clash, first_in, next_in, unless, without_it}
+use Rattle.fc_changes.proofs.BasicLemmas.{clash, first_in, next_in, without_it}
 use Rattle.fc_changes.proofs.BeforeLemmas.{child_in, opened_as}
 use Rattle.fc_changes.proofs.MovedLemmas.{both_apart, moved_law}
 use Rattle.fc_changes.proofs.ReadsLemmas.{reads_back}
@@ -33,6 +33,7 @@ use Rattle.fc_laws.specs.takeover.Laws.{MovedTakesOver, PartsFollow, RenamedTake
 use Rattle.fc_laws.proofs.lemmas.takeover.PlainLemmas.{says_before}
 use Rattle.fc_laws.proofs.lemmas.takeover.TakenLemmas.{children_long, inserted_same, listed_same, taken}
 use Rattle.fc_laws.proofs.lemmas.takeover.SaidLemmas.{dir_stays, found_says, others_apart, own_apart, says, the_one}
+use Rattle.std.proofs.lemmas.Bool.{false_from_ne_true as unless}
 
 -- a child by its number is one of the children
 pub child_of : (objects : List Object) (i : ℕ) (o : Object) → slice_get objects i ≡ Some o → Contains objects o

@@ -32,7 +32,6 @@ use Rattle.fc_changes.specs.Owed.{IsWritten}
 use Rattle.fc_changes.specs.Changed.{IsChanged, IsRewordChange}
 use Rattle.fc_changes.proofs.BasicLemmas.{cases_cons, clash, next_in}
 use Rattle.fc_changes.proofs.BeforeLemmas.{had, listed_in, object_lies, opened_as, sound}
-use Rattle.fc_changes.proofs.MadeLemmas.{turned}
 use Rattle.fc_changes.proofs.OutsideLemmas.{no_sectors}
 use Rattle.fc_changes.proofs.RenamedLemmas.{each_apart}
 use Rattle.fc_changes.proofs.RewordedLemmas.{reworded_law}
@@ -40,6 +39,7 @@ use Rattle.fc_laws.specs.takeover.Laws.{PartsFollow, RewordedTakesOver, TakesOve
 use Rattle.fc_laws.proofs.lemmas.takeover.PlainLemmas.{says_before}
 use Rattle.fc_laws.proofs.lemmas.takeover.TakenLemmas.{listed_same, taken}
 use Rattle.fc_laws.proofs.lemmas.takeover.WriteLemmas.{written_bytes_law}
+use Rattle.fc_image.proofs.EditLemmas.{apart_turned as turned}
 
 pub apart_front : (xs ys zs : List ℕ) → is_apart xs (ys ++ zs) ≡ true → is_apart xs ys ≡ true
 apart_front xs ys zs e = apart_from xs ys (λ s i j. clash (is_among (ys ++ zs) s) (in_front ys zs s j) (apart_at xs (ys ++ zs) s e i))

@@ -29,21 +29,23 @@ use Rattle.fc_image.specs.effects.Steady.{AreWritten}
 use Rattle.fc_changes.specs.Owed.{GivesBack, IsBefore, IsWritten}
 use Rattle.fc_changes.specs.Changed.{IsDeleteChange, IsDirectoryChange, IsEntryMade, IsFileChange, IsMoveChange, IsRenameChange, IsRewordChange}
 use Rattle.fc_changes.proofs.AfterLemmas.{still_owns}
-use Rattle.fc_changes.proofs.BasicLemmas.{clash, first_in, long_pushed, next_in, unless}
-use Rattle.fc_changes.proofs.MadeLemmas.{turned}
+use Rattle.fc_changes.proofs.BasicLemmas.{clash, first_in, long_pushed, next_in}
 use Rattle.fc_changes.proofs.NewPlaceLemmas.{NewPlace}
 use Rattle.fc_changes.proofs.OutsideLemmas.{no_sectors}
 use Rattle.fc_changes.proofs.StepsLemmas.{writes_law}
 use Rattle.fc_laws.specs.takeover.Places.{OpensBy}
 use Rattle.fc_laws.specs.takeover.Steps.{IsDeletedInSteps, IsFiledInSteps, IsMadeInSteps, IsMovedInSteps, Begins, IsRenamedInSteps, IsRewordedInSteps, StepsLaw}
 use Rattle.fc_laws.specs.takeover.Writes.{IsUnwritten}
-use Rattle.fc_laws.proofs.lemmas.takeover.ApartLemmas.{apart_both, directory_lies, file_lies, objects_law, own_apart'}
+use Rattle.fc_laws.proofs.lemmas.takeover.ApartLemmas.{directory_lies, file_lies, objects_law, own_apart'}
 use Rattle.fc_laws.proofs.lemmas.takeover.KindLemmas.{new_kind}
 use Rattle.fc_laws.proofs.lemmas.takeover.MovingLemmas.{child_of, moved_takes_over, renamed_takes_over}
 use Rattle.fc_laws.proofs.lemmas.takeover.PlainLemmas.{deleted_takes_over, directory_made_takes_over, filed_takes_over}
 use Rattle.fc_laws.proofs.lemmas.takeover.RepairLemmas.{repair_law, repaired_takes_over}
 use Rattle.fc_laws.proofs.lemmas.takeover.SaidLemmas.{apart_front, reworded_takes_over}
 use Rattle.fc_laws.proofs.lemmas.takeover.WriteLemmas.{written_bytes_law}
+use Rattle.std.proofs.lemmas.Bool.{false_from_ne_true as unless}
+use Rattle.fc_image.proofs.EditLemmas.{apart_turned as turned}
+use Rattle.fc_changes.proofs.MovedLemmas.{both_apart as apart_both}
 
 -- ---- the image before the steps
 
@@ -83,7 +85,7 @@ dir_kept m m' l content ys mid image' same map apart w are =
 
 -- ---- paths
 
-same_long : (p q : Path) → is_same_path p q ≡ true → length p ≡ length q
+pub same_long : (p q : Path) → is_same_path p q ≡ true → length p ≡ length q
 same_long p q same = sym (folded_long p) ∙ ap (λ (x : Path). length x) (folds_alike p q same) ∙ folded_long q
 
 module _ (kind : Kind) (image : List ℕ) (v : Opened) (m : Map) (by : OpensBy kind image v m) where

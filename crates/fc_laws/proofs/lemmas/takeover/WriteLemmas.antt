@@ -3,7 +3,7 @@ use Rattle.std.proofs.Common.{◌≡◌, ◌<◌, ◌≤◌, ◌⊎◌, inl, inr
 use Rattle.std.specs.Prelude.{Option, Some, None, ◌||◌, ◌==◌, nat_le}
 use Rattle.std.specs.Int.{div_ceil}
 use Rattle.std.specs.List.{flat_map}
-use Rattle.std.proofs.lemmas.Bool.{eqb-true, leb-true}
+use Rattle.std.proofs.lemmas.Bool.{eqb-true, leb-true, false_from_ne_true as unless}
 use Rattle.std.proofs.lemmas.List.{length-take-le}
 use Rattle.std.proofs.lemmas.Grind.{div_ceil_times}
 use Rattle.fc_device.specs.Sectors.{sector_at}
@@ -28,9 +28,10 @@ use Rattle.fc_image.specs.effects.Steady.{AreWritten}
 use Rattle.fc_objects.specs.Bytes.{first_bytes}
 use Rattle.fc_objects.specs.Written.{AreApart, IsPartWritten}
 use Rattle.fc_changes.specs.Owed.{IsWritten}
-use Rattle.fc_changes.proofs.BasicLemmas.{clash, unless}
+use Rattle.fc_changes.proofs.BasicLemmas.{clash}
 use Rattle.fc_laws.specs.takeover.Writes.{IsObjectWritten, IsUnwritten, WrittenBytesLaw}
 use Rattle.fc_laws.proofs.lemmas.takeover.KindLemmas.{among_first, copies_written}
+use Rattle.fc_laws.proofs.lemmas.agree.BeforeLemmas.{new_shape as shape_of}
 
 -- ---- lists
 
@@ -52,7 +53,7 @@ Distinct-drop zero xs d = d
 Distinct-drop (suc n) [] d = tt
 Distinct-drop (suc n) (x ∷ xs) d = Distinct-drop n xs d.1
 
-in_taken : (n : ℕ) (xs : List ℕ) (s : ℕ) → is_among (take n xs) s ≡ true → is_among xs s ≡ true
+pub in_taken : (n : ℕ) (xs : List ℕ) (s : ℕ) → is_among (take n xs) s ≡ true → is_among xs s ≡ true
 in_taken zero xs s h = absurd (cc)
 in_taken (suc n) [] s h = h
 in_taken (suc n) (x ∷ xs) s h = by (x == s) h (in_taken n xs s)
@@ -116,9 +117,6 @@ cut_of m address bytes sectors e = by (bytes == 0) (is_object_id m (id_of addres
           enough = inr refl;
         }
     by false false h g = absurd (cc)
-
-shape_of : (m : Map) → IsNewMap m → IsGeometry m.geometry
-shape_of m is = subst IsGeometry is.of_record.1.1 (geometry_of_valid is.of_record.0 is.of_record.1.0)
 
 object_apart : (m : Map) (o : Object) → IsNewMap m → IsAt (Layout.New m) o → AreApart o.sectors
 object_apart m o is at =

@@ -9,11 +9,12 @@ use Rattle.fc_image.specs.Walk.{Object, Listing}
 use Rattle.fc_tree.specs.declared.node.Body.TheVariants as bodies
 use Rattle.fc_tree.specs.declared.node.Node.{Node}
 use Rattle.fc_tree.specs.Nodes.{body_in}
-use Rattle.fc_tree.proofs.MemberLemmas.{contains_cases, contains_here, no_element}
+use Rattle.fc_tree.proofs.MemberLemmas.{contains_here, no_element}
 use Rattle.fc_tree.proofs.WalkedLemmas.{same_some}
 use Rattle.fc_laws.specs.nodes.Edits.{Nodes, with_edited, with_body, with_entry}
 use Rattle.fc_laws.specs.nodes.Rows.{content, root_object, d_object, f_object, root_listing, d_listing, nodes, e_entry, renamed}
 use Rattle.fc_laws.proofs.nodes.rows.Goals as goal
+use Rattle.fc_image.proofs.EntriesLemmas.{cases as contains_cases}
 
 abbrev root_node : Node
 root_node = record { holder = 0; entry = root_object.entry; body = body_in root_listing.content }

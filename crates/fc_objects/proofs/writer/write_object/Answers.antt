@@ -1,4 +1,4 @@
-use Rattle.std.proofs.Common.{List, ◌++◌, refl, ◌≡◌, ◌<◌, ◌+◌, ◌*◌, ◌∙◌, ℕ, All, drop, take, length, append_assoc, length-append, ap, subst, sym, arith}
+use Rattle.std.proofs.Common.{List, ◌++◌, refl, ◌≡◌, ◌<◌, ◌+◌, ◌*◌, ◌∙◌, ℕ, All, drop, length, append_assoc, length-append, ap, subst, sym, arith}
 use Rattle.fc_device.proofs.DiskLaws.{form_then, laws}
 use Rattle.fc_objects.specs.Ahead.{ahead}
 use Rattle.std.proofs.lemmas.List.FromFn.{length-range_with_len}
@@ -7,7 +7,7 @@ use Rattle.std.proofs.lemmas.List.{append-nil}
 use Rattle.fc_objects.specs.Written.{HasParts, padded}
 use Rattle.fc_objects.proofs.AheadLemmas.{all_back}
 use Rattle.fc_objects.proofs.PassLemmas.{done_more, exit_more, keeps_of, next_row, next_row_on_disk, sectors_fit, tear_more, told_more}
-use Rattle.fc_objects.proofs.WriteLemmas.{last_row, left_more, length-padded, next_row_of, reads_back, size_most}
+use Rattle.fc_objects.proofs.WriteLemmas.{end_row, left_more, length-padded, next_row_of, reads_back}
 use Rattle.fc_objects.proofs.writer.write_object.Goals as goal
 
 pub next_row-requires-clause-fit : goal.next_row-requires-clause-fit
@@ -27,11 +27,11 @@ pub row_of-requires : goal.row_of-requires
 row_of-requires g c =
     let row = c.in-Some.row in
     let left = c.loop-row.left.now in
-    let one : length left < row.sectors * c.args.size → row.sectors * c.args.size ≡ c.args.size = λ few.
-    last_row row.sectors c.args.size (length left) c.sectors_at_once.result c.in-Some.ensures.some c.in-Some.ensures.most c.sectors_at_once.ensures.one c.sectors_at_once.ensures.enough few in
+    let ends = λ (few : length left < row.sectors * c.args.size).
+    end_row row.sectors c.args.size (length left) c.sectors_at_once.result c.in-Some.ensures.some c.in-Some.ensures.most c.sectors_at_once.ensures.zeros c.sectors_at_once.ensures.enough few in
     record {
-      few = λ few. omega (arith, one few, c.requires.size, size_most (g.D.Disk.sector_size c.args.disk.now) ((laws g.met.D.Disk).sector_sizes c.args.disk.now));
-      last = λ few. subst (λ (k : ℕ). take k c.sector_of-last.result ≡ padded k left) (sym (one few)) c.sector_of-last.ensures;
+      few = λ few. (ends few).2;
+      end = λ few. c.ending-end.ensures (ends few).0 (row.sectors * c.args.size) (ends few).1 (ends few).2;
     }
 
 pub write_row-requires-clause-on_disk : goal.write_row-requires-clause-on_disk

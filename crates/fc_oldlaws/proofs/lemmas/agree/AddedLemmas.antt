@@ -32,10 +32,8 @@ use Rattle.fc_oldchanges.proofs.PlaceLemmas.{row_or_none}
 use Rattle.fc_oldchanges.proofs.SpaceLemmas.{AreGiven, AreSpaced, IsNewPlace, given, new_place, not_given, nowhere, taken}
 use Rattle.fc_oldlaws.specs.agree.Laws.{AddedLaw, AgreeOn, DirectoryAddedLaw, ReplacedLaw}
 use Rattle.fc_oldlaws.proofs.lemmas.agree.DirectoryLemmas.{Cut, child_object, dir_placed, one_agrees, spaced_parts}
-use Rattle.fc_laws.proofs.lemmas.agree.DirectoryAddedLemmas.{size_of_new}
-
-no_directory : (o : Object) → is_directory_object o ≡ false → [] ≡ directories (o ∷ [])
-no_directory o file = ap (λ (b : Bool). cond b (o ∷ []) []) (sym file)
+use Rattle.fc_changes.proofs.CdirLemmas.{size_of_new}
+use Rattle.fc_image.proofs.InPlaceLemmas.{no_directory}
 
 some_object : (a b : Object) → (let q : Option Object = Some a in q) ≡ Some b → a ≡ b
 some_object a b h = cc

@@ -36,7 +36,8 @@ use Rattle.fc_oldchanges.proofs.SpaceLemmas.{AreGiven, AreSpaced, given, right_b
 use Rattle.fc_oldlaws.specs.agree.Laws.{AgreeOn, RemovedLaw, parts_with}
 use Rattle.fc_laws.proofs.lemmas.agree.WalkedLemmas.{Had, had, object_lies, says}
 use Rattle.fc_oldlaws.proofs.lemmas.agree.EditLemmas.{agreed_after}
-use Rattle.fc_laws.proofs.lemmas.agree.RemovedLemmas.{gone_held, gone_listed}
+use Rattle.fc_laws.proofs.lemmas.agree.RemovedLemmas.{gone_listed}
+use Rattle.fc_changes.proofs.DeletedLemmas.{none_held as gone_held}
 
 pub spaced_parts : (kind : Kind) (space : OldMapContent) (nodes : Nodes) (owners : List Owner) (root : Node) (listings : List Listing) → AgreeOn kind space nodes owners root listings → AreSpaced kind space (objects_of listings)
 spaced_parts kind space nodes owners root listings a = record { units = a.is_map.units; holes = a.holes; lies = object_lies kind (Layout.Old space) nodes root listings a.walked }

@@ -13,9 +13,9 @@ use Rattle.fc_tree.specs.declared.node.Node.{Node}
 use Rattle.fc_laws.specs.nodes.Edits.{Nodes}
 use Rattle.fc_laws.proofs.lemmas.agree.RoomLemmas.{room_of}
 use Rattle.fc_laws.proofs.lemmas.agree.WalkedLemmas.{object_lies}
-use Rattle.fc_oldchanges.proofs.MadeLemmas.{ceil_some}
 use Rattle.fc_oldchanges.proofs.PlaceLemmas.{in_disc, row_or_none}
 use Rattle.fc_oldlaws.specs.agree.Laws.{AgreeOn}
+use Rattle.fc_changes.proofs.ChangeLemmas.{ceil_some}
 
 -- some bytes have a sector
 a_sector : (space : OldMapContent) (address bytes : ℕ) (sectors : List ℕ) → 0 < bytes → (space.sector_units ≡ 1) ⊎ (space.sector_units ≡ 4) → sectors_at (Layout.Old space) address bytes ≡ Some sectors

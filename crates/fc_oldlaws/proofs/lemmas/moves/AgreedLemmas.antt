@@ -19,7 +19,7 @@ use Rattle.fc_image.specs.declared.effects.Owned.{Owned}
 use Rattle.fc_tree.specs.declared.node.Node.{Node}
 use Rattle.fc_tree.specs.Agree.{Agree, HasForm, IsDirectory, reader_of_nodes}
 use Rattle.fc_tree.specs.Parts.{AreOwners}
-use Rattle.fc_tree.proofs.WalkedLemmas.{apart_names, place_of, sound_law}
+use Rattle.fc_tree.proofs.WalkedLemmas.{place_of, sound_law}
 use Rattle.fc_laws.specs.nodes.Edits.{Nodes}
 use Rattle.fc_oldlaws.specs.agree.Laws.{AgreeOn, parts_with}
 use Rattle.fc_laws.proofs.lemmas.agree.WalkedLemmas.{sound}
@@ -35,6 +35,7 @@ use Rattle.fc_oldlaws.proofs.lemmas.moves.PlaceLemmas.{Start, had, holes_behind,
 use Rattle.fc_oldlaws.proofs.lemmas.moves.SayableLemmas.{form_after, moved_low, other_low, say_after, small_by_form}
 use Rattle.fc_oldlaws.proofs.lemmas.moves.StartLemmas.{rises}
 use Rattle.fc_oldlaws.proofs.lemmas.moves.WalkLemmas.{objects_after, walked_after}
+use Rattle.fc_tree.proofs.EndLemmas.{no_twin as apart_names}
 
 module _ (kind : Kind) (s : Slide) (nodes nodes' : Nodes) (owners owners' : List Owner) (root : Node) (listings : List Listing) (a : AgreeOn kind s.space nodes owners root listings)
     (is : IsSlide s (objects_of listings)) (moved : AreMoved s nodes nodes') (made : AreRemade s.space nodes' owners owners') where

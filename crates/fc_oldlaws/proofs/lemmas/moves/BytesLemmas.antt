@@ -2,7 +2,7 @@
 use Rattle.std.proofs.Common.{◌≡◌, ◌⊎◌, inl, inr, ℕ, zero, suc, ◌*◌, ◌/◌, ◌%◌, true, false, List, [], ◌∷◌, ◌++◌, length, map, take, drop, refl, sym, ap, ap₂, subst, ◌∙◌, arith, Some, slice_get}
 use Rattle.std.specs.Prelude.{Contains, nat_lt}
 use Rattle.std.specs.List.{range_with_len}
-use Rattle.std.proofs.lemmas.Bool.{lt-ltb}
+use Rattle.std.proofs.lemmas.Bool.{lt-ltb, false_from_ne_true as unless}
 use Rattle.fc_bytes.specs.Words.{bytes_at}
 use Rattle.fc_device.specs.Sectors.{row_at, sector_at}
 use Rattle.fc_names.specs.Names.{Path}
@@ -22,7 +22,7 @@ use Rattle.fc_objects.proofs.BlockLemmas.{row_bytes}
 use Rattle.fc_image.specs.declared.effects.Owned.{Owned}
 use Rattle.fc_image.specs.effects.Moves.{SameBodies, is_in_body, is_in_hole}
 use Rattle.fc_squash.proofs.ByteLemmas.{in_sectors}
-use Rattle.fc_changes.proofs.BasicLemmas.{cases_cons, clash, nothing_in, unless}
+use Rattle.fc_changes.proofs.BasicLemmas.{cases_cons, clash, nothing_in}
 use Rattle.fc_oldchanges.proofs.BeforeLemmas.{Walked, listed_in, parts}
 use Rattle.fc_oldchanges.proofs.ChangeLemmas.{opened}
 use Rattle.fc_oldchanges.proofs.PlaceLemmas.{pair_apart}

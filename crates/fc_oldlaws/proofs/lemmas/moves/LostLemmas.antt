@@ -2,7 +2,7 @@
 use Rattle.std.proofs.Common.{◌≡◌, ◌<◌, ◌≤◌, ◌⊎◌, inl, inr, ⊎_elim, ℕ, zero, suc, ◌+◌, ◌*◌, ◌/◌, ◌%◌, Bool, true, false, not, List, [], ◌∷◌, length, map, drop, refl, sym, ap, ap₂, subst, ◌∙◌, arith, Some, slice_get}
 use Rattle.std.specs.Prelude.{Ok, Err, Contains, ◌&&◌, ◌||◌}
 use Rattle.std.specs.List.{flat_map, range_with_len}
-use Rattle.std.proofs.lemmas.Bool.{cases_eq, cases_lt}
+use Rattle.std.proofs.lemmas.Bool.{cases_eq, cases_lt, false_from_ne_true as unless, not-true as not_true, or_cases, or_left as or_first, or_right as or_last}
 use Rattle.fc_device.specs.Sectors.{sector_at}
 use Rattle.fc_record.specs.Kinds.{disc_size}
 use Rattle.fc_newmap.proofs.PlaceLemmas.{in_either}
@@ -13,40 +13,24 @@ use Rattle.fc_image.specs.Walk.{Object}
 use Rattle.fc_image.specs.Objects.{objects_of}
 use Rattle.fc_image.proofs.EntriesLemmas.{from_map, in_mapped}
 use Rattle.fc_image.proofs.FreeLemmas.{range_bounds}
-use Rattle.fc_image.proofs.MoveLemmas.{all_filter, not_true}
-use Rattle.fc_image.proofs.OneZoneLemmas.{and_first, and_second}
+use Rattle.fc_image.proofs.MoveLemmas.{all_filter}
 use Rattle.fc_image.specs.declared.effects.Owned.{Owned}
 use Rattle.fc_image.specs.effects.Moves.{SameButStarts, is_in_body, is_in_hole}
 use Rattle.fc_image.specs.effects.Steady.{SameSectors, lost_sectors}
-use Rattle.fc_changes.proofs.BasicLemmas.{cases_cons, clash, filter_same, first_in, in_any, next_in, nothing_in, unless}
+use Rattle.fc_changes.proofs.BasicLemmas.{cases_cons, clash, filter_same, first_in, in_any, next_in, nothing_in}
 use Rattle.fc_changes.proofs.OutsideLemmas.{same_behind}
-use Rattle.fc_oldchanges.proofs.PlaceLemmas.{among_flat}
 use Rattle.fc_oldlaws.specs.moves.After.{listings_after, space_after}
 use Rattle.fc_oldlaws.proofs.lemmas.moves.StartLemmas.{body, by_number, in_body, in_order, of_body, one_element, rises}
 use Rattle.fc_oldlaws.proofs.lemmas.moves.PlaceLemmas.{Case, Start, case_of, came_from, g, had, has_slid, hole_right, holes_as, in_now, no_sectors, objects, old_body, root_in, root_or_held, root_stays, row, space, u, units, held_below, y, y'}
 use Rattle.fc_oldlaws.proofs.lemmas.moves.WalkLemmas.{objects_after}
 use Rattle.fc_oldlaws.proofs.lemmas.moves.BytesLemmas.{Steps, all, listed, no_body, start, to, wide, z}
 use Rattle.fc_oldlaws.proofs.lemmas.moves.ImageLemmas.{disc, long}
-use Rattle.fc_laws.proofs.lemmas.agree.NewPlaceLemmas.{some_there as some_sectors}
+use Rattle.fc_record.proofs.KindLemmas.{and_first, and_second}
+use Rattle.fc_changes.proofs.NewPlaceLemmas.{some_there as some_sectors}
+use Rattle.fc_changes.proofs.PlacedLemmas.{is_in_flat as among_flat}
+use Rattle.fc_image.proofs.CommandLemmas.{both_ways as same_truth}
 
 -- ---- lists
-
-same_truth : (a b : Bool) → (a ≡ true → b ≡ true) → (b ≡ true → a ≡ true) → a ≡ b
-same_truth true b to_b to_a = sym (to_b refl)
-same_truth false true to_b to_a = to_a refl
-same_truth false false to_b to_a = refl
-
-or_cases : (a b : Bool) → (a || b) ≡ true → (a ≡ true) ⊎ (b ≡ true)
-or_cases true b e = inl refl
-or_cases false b e = inr e
-
-or_first : (a b : Bool) → a ≡ true → (a || b) ≡ true
-or_first true b e = refl
-or_first false b e = absurd (cc)
-
-pub or_last : (a b : Bool) → b ≡ true → (a || b) ≡ true
-or_last true b e = refl
-or_last false b e = e
 
 -- of which list a sector is
 flat_among : {X : Type 0} (f : X → List ℕ) (xs : List X) (t : ℕ) → is_among (flat_map f xs) t ≡ true → (x : X) × Contains xs x × (is_among (f x) t ≡ true)

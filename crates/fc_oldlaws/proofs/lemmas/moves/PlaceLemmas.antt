@@ -3,7 +3,7 @@ use Rattle.std.proofs.Common.{◌≡◌, ◌<◌, ◌≤◌, ◌⊎◌, inl, inr
 use Rattle.std.specs.Prelude.{Ok, Err, Contains, nat_lt, ◌==◌, ◌&&◌, ◌||◌, slice_get}
 use Rattle.std.specs.List.{flat_map, range_with_len}
 use Rattle.std.specs.Int.{div_ceil}
-use Rattle.std.proofs.lemmas.Bool.{cases_eq, cases_lt, le-leb, lt-ltb, ltb-true}
+use Rattle.std.proofs.lemmas.Bool.{cases_eq, cases_lt, le-leb, lt-ltb, ltb-true, false_from_ne_true as unless}
 use Rattle.std.proofs.lemmas.List.Folds.{list_any-append}
 use Rattle.fc_names.specs.Names.{Path}
 use Rattle.fc_names.specs.declared.name.NameForm.{NameForm}
@@ -28,11 +28,11 @@ use Rattle.fc_image.proofs.RenameLemmas.{child_path}
 use Rattle.fc_image.specs.declared.effects.Owned.{Owned}
 use Rattle.fc_image.specs.effects.Moves.{is_in_body, is_in_hole}
 use Rattle.fc_squash.specs.Squashing.{place}
-use Rattle.fc_changes.proofs.BasicLemmas.{any_in, cases_cons, clash, first_in, in_any, in_flat, next_in, nothing_in, unless}
-use Rattle.fc_oldchanges.proofs.MadeLemmas.{ceil_some}
+use Rattle.fc_changes.proofs.BasicLemmas.{any_in, cases_cons, clash, first_in, in_any, in_flat, next_in, nothing_in}
 use Rattle.fc_oldchanges.proofs.PlaceLemmas.{IsRow, pair_apart, row_or_none}
 use Rattle.fc_oldlaws.specs.moves.After.{IsOwnedAs, IsSlide, Slide, move_of, object_after, space_after, start_after}
 use Rattle.fc_oldlaws.proofs.lemmas.moves.StartLemmas.{body, by_number, found_at, in_body, in_order, not_found, of_body, one_element, rises}
+use Rattle.fc_changes.proofs.ChangeLemmas.{ceil_some}
 
 -- ---- numbers
 

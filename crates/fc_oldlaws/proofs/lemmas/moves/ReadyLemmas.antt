@@ -27,7 +27,6 @@ use Rattle.fc_tree.proofs.WalkedLemmas.{same_some}
 use Rattle.fc_laws.specs.nodes.Edits.{Nodes}
 use Rattle.fc_image.specs.declared.effects.Owned.{Owned}
 use Rattle.fc_squash.specs.Squashing.{place, places}
-use Rattle.fc_squash.proofs.PlaceLemmas.{Every}
 use Rattle.fc_squash.proofs.StandLemmas.{apart_all}
 use Rattle.fc_squash.proofs.StepLemmas.{every_from}
 use Rattle.fc_oldlaws.specs.agree.Laws.{AgreeOn}
@@ -41,6 +40,7 @@ use Rattle.fc_oldlaws.specs.moves.Laws.{ReadyLaw}
 use Rattle.fc_oldlaws.specs.moves.Nodes.{AreReady, AreSliding, Slides, sliding_at, sliding_below, units_in}
 use Rattle.fc_oldlaws.proofs.lemmas.moves.OwnedLemmas.{are_owned}
 use Rattle.fc_oldlaws.proofs.lemmas.moves.PlaceLemmas.{same_object}
+use Rattle.fc_image.proofs.lemmas.effects.OneHoleLemmas.{Every}
 
 -- ---- the list
 

@@ -14,7 +14,6 @@ use Rattle.fc_image.specs.Laws.{Tells}
 use Rattle.fc_image.specs.Report.{holder_address}
 use Rattle.fc_image.specs.Walk.{Listing, Object, object_bytes, reader_of}
 use Rattle.fc_image.proofs.EntriesLemmas.{from_map}
-use Rattle.fc_image.proofs.OneZoneLemmas.{and_first, and_second}
 use Rattle.fc_image.specs.effects.Settled.{has_same_places}
 use Rattle.fc_image.specs.effects.Steady.{AreWritten, IsRewritten}
 use Rattle.fc_changes.proofs.BasicLemmas.{clash}
@@ -24,6 +23,7 @@ use Rattle.fc_oldlaws.specs.moves.Steps.{IsChanged}
 use Rattle.fc_oldlaws.proofs.lemmas.moves.FormLemmas.{no_big, not_long}
 use Rattle.fc_oldlaws.proofs.lemmas.moves.PlaceLemmas.{says}
 use Rattle.fc_oldlaws.proofs.lemmas.moves.BytesLemmas.{Steps, bytes_carried, bytes_late, listed, start, z, z'}
+use Rattle.fc_record.proofs.KindLemmas.{and_first, and_second}
 
 -- ---- directories in which nothing changes
 

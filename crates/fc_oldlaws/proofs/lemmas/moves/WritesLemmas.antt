@@ -35,7 +35,7 @@ use Rattle.fc_tree.specs.Nodes.{HoldObjects, body_in, body_of, number_of}
 use Rattle.fc_tree.proofs.FindLemmas.{object_of_number}
 use Rattle.fc_tree.proofs.HeldLemmas.{holder_law}
 use Rattle.fc_tree.proofs.SoundLemmas.{listing_of}
-use Rattle.fc_tree.proofs.WalkedLemmas.{apart_names, listed_directory, same_some}
+use Rattle.fc_tree.proofs.WalkedLemmas.{listed_directory, same_some}
 use Rattle.fc_laws.specs.nodes.Edits.{Nodes}
 use Rattle.fc_oldchanges.proofs.PlaceLemmas.{IsRow, row_or_none}
 use Rattle.fc_oldlaws.specs.agree.Laws.{parts_with}
@@ -47,6 +47,7 @@ use Rattle.fc_oldlaws.specs.moves.Writes.{AreDirectoriesPlaced, AreDirectoriesWr
 use Rattle.fc_oldlaws.proofs.lemmas.moves.FormLemmas.{not_long}
 use Rattle.fc_oldlaws.proofs.lemmas.moves.NodesLemmas.{above}
 use Rattle.fc_oldlaws.proofs.lemmas.moves.PlaceLemmas.{same_object}
+use Rattle.fc_tree.proofs.EndLemmas.{no_twin as apart_names}
 
 -- ---- small bodies
 

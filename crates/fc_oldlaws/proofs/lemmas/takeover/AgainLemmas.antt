@@ -17,7 +17,7 @@ use Rattle.fc_oldchanges.proofs.MapLemmas.{front_same}
 between : (xs ys zs : List ℕ) → take (length ys) (drop (length xs) (xs ++ (ys ++ zs))) ≡ ys
 between xs ys zs = ap (take (length ys)) (drop-append_seam xs (ys ++ zs)) ∙ take-append_seam ys zs
 
-long_triples : (numbers : List ℕ) → length (triples numbers) ≡ 246
+pub long_triples : (numbers : List ℕ) → length (triples numbers) ≡ 246
 long_triples numbers =
     let all = flat_map (little_bytes 3) numbers ++ replicate 246 0 in
     length-take-le 246 all (omega (arith, length-append (flat_map (little_bytes 3) numbers) (replicate 246 0), length-replicate {A = ℕ} 246 0))

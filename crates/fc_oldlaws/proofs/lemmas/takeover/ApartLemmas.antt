@@ -2,7 +2,7 @@
 use Rattle.std.proofs.Common.{◌≡◌, ◌<◌, ◌⊎◌, inl, inr, ⊎_elim, ℕ, ◌*◌, ◌/◌, Bool, true, false, cond, List, [], ◌∷◌, ◌++◌, refl, sym, ap, subst, ◌∙◌, arith}
 use Rattle.std.specs.Prelude.{Ok, Err, Option, Some, Contains, IsPermutation, filter, not, ◌==◌, ◌||◌, ◌&&◌}
 use Rattle.std.specs.List.{flat_map, range_with_len}
-use Rattle.std.proofs.lemmas.Bool.{eqb-true}
+use Rattle.std.proofs.lemmas.Bool.{eqb-true, not-true as not_true}
 use Rattle.std.proofs.lemmas.List.Elements.{Contains-append_left}
 use Rattle.std.proofs.lemmas.List.Sorted.{Contains-permutation}
 use Rattle.fc_names.specs.Names.{Path, is_directory, is_same_path}
@@ -23,16 +23,14 @@ use Rattle.fc_image.specs.Order.{directories, held, listed}
 use Rattle.fc_image.proofs.EntriesLemmas.{in_mapped}
 use Rattle.fc_image.proofs.HolesLemmas.{apart_at, apart_from}
 use Rattle.fc_image.proofs.MapEditLemmas.{is_file}
-use Rattle.fc_image.proofs.MoveLemmas.{not_true}
 use Rattle.fc_image.proofs.OldMapLemmas.{old_map_law}
-use Rattle.fc_image.proofs.OneZoneLemmas.{and_first, and_second}
 use Rattle.fc_image.proofs.OrderLemmas.{order_law}
 use Rattle.fc_image.proofs.PathsLemmas.{itself}
 use Rattle.fc_image.proofs.RenameLemmas.{child_path}
 use Rattle.fc_image.specs.effects.Steady.{lost_sectors, may_be_rewritten}
 use Rattle.fc_changes.proofs.BasicLemmas.{cases_cons, clash, nothing_in}
 use Rattle.fc_changes.proofs.OutsideLemmas.{no_sectors}
-use Rattle.fc_changes.proofs.PlacedLemmas.{filter_test}
+use Rattle.fc_changes.proofs.PlacedLemmas.{filter_test, is_in_flat as among_flat}
 use Rattle.fc_changes.proofs.ReadsLemmas.{lies_in}
 use Rattle.fc_laws.proofs.lemmas.takeover.ApartLemmas.{apart_back}
 use Rattle.fc_laws.proofs.lemmas.takeover.SaidLemmas.{apart_front}
@@ -41,10 +39,11 @@ use Rattle.fc_oldchanges.specs.Changed.{IsFileAt, IsFirstFitted}
 use Rattle.fc_oldchanges.proofs.BeforeLemmas.{all_listed, child_in, had, listed_in, object_lies, opened_as, parts, says_old}
 use Rattle.fc_oldchanges.proofs.HoleLemmas.{below_end, units_in}
 use Rattle.fc_oldchanges.proofs.MapLemmas.{IsOldDisc, old_disc}
-use Rattle.fc_oldchanges.proofs.PlaceLemmas.{among_flat, in_disc, pair_apart}
+use Rattle.fc_oldchanges.proofs.PlaceLemmas.{in_disc, pair_apart}
 use Rattle.fc_oldchanges.proofs.SpaceLemmas.{new_place, spaced}
 use Rattle.fc_oldlaws.specs.takeover.Writes.{IsUnwritten}
 use Rattle.fc_oldlaws.specs.takeover.Places.{AreSpared, IsOfRewritten, MayBeWritten, ObjectsLaw, PlacesLaw}
+use Rattle.fc_record.proofs.KindLemmas.{and_first, and_second}
 
 -- ---- lists
 
@@ -76,12 +75,12 @@ one_owner taken (o ∷ os) p q s a p_in q_in p_has q_has = elim (cases_cons o os
   ]
 ]
 
-in_sectors : (n u s : ℕ) → (u ≡ 1) ⊎ (u ≡ 4) → n ≡ n / u * u → u * s < n → s < n / u
+pub in_sectors : (n u s : ℕ) → (u ≡ 1) ⊎ (u ≡ 4) → n ≡ n / u * u → u * s < n → s < n / u
 in_sectors n u s (inl one) whole low = subst (λ (v : ℕ). n ≡ n / v * v → v * s < n → s < n / v) (sym one) (λ w l. omega (arith, l)) whole low
 in_sectors n u s (inr four) whole low = subst (λ (v : ℕ). n ≡ n / v * v → v * s < n → s < n / v) (sym four) (λ w l. omega (arith, w, l)) whole low
 
 -- no bytes take no sectors
-no_bytes : (layout : Layout) (address : ℕ) (sectors : List ℕ) → sectors_at layout address 0 ≡ Some sectors → sectors ≡ []
+pub no_bytes : (layout : Layout) (address : ℕ) (sectors : List ℕ) → sectors_at layout address 0 ≡ Some sectors → sectors ≡ []
 unfolding sectors_at
 no_bytes layout address sectors e = sym (same [] sectors e)
   where

@@ -2,7 +2,7 @@
 use Rattle.std.proofs.Common.{◌≡◌, ◌<◌, ◌≤◌, ℕ, zero, suc, ◌*◌, Bool, true, false, cond, List, [], ◌∷◌, ◌++◌, length, take, refl, sym, ap, ap₂, subst, ◌∙◌, arith}
 use Rattle.std.specs.Prelude.{Ok, Err, Option, Some, None, Contains, IsPermutation, nat_le, slice_get, ◌&&◌, ◌==◌}
 use Rattle.std.specs.Int.{div_ceil}
-use Rattle.std.proofs.lemmas.Bool.{eqb-true, leb-true}
+use Rattle.std.proofs.lemmas.Bool.{eqb-true, leb-true, false_from_ne_true as unless}
 use Rattle.std.proofs.lemmas.Grind.{div_ceil_times}
 use Rattle.std.proofs.lemmas.List.Elements.{Contains-append_right}
 use Rattle.std.proofs.lemmas.List.Sorted.{Contains-permutation, IsPermutation-sym}
@@ -25,16 +25,14 @@ use Rattle.fc_image.specs.Walk.{Listing, Object, is_directory_object, object_byt
 use Rattle.fc_image.specs.Objects.{objects_of}
 use Rattle.fc_image.specs.Opening.{Opened}
 use Rattle.fc_image.proofs.CommandLemmas.{is_prefix_of}
-use Rattle.fc_image.proofs.OneZoneLemmas.{and_first}
 use Rattle.fc_image.proofs.RelistLemmas.{folded_long}
 use Rattle.fc_image.proofs.RenameLemmas.{child_path}
 use Rattle.fc_image.proofs.TreeLemmas.{folds_alike}
 use Rattle.fc_image.specs.effects.Short.{holes_without, new_dir_size, old_need}
 use Rattle.fc_image.specs.effects.Steady.{AreWritten}
 use Rattle.fc_changes.specs.Changed.{IsEntryMade}
-use Rattle.fc_changes.proofs.BasicLemmas.{clash, first_in, long_pushed, next_in, unless}
+use Rattle.fc_changes.proofs.BasicLemmas.{clash, first_in, long_pushed, next_in}
 use Rattle.fc_changes.proofs.OutsideLemmas.{no_sectors}
-use Rattle.fc_laws.proofs.lemmas.takeover.ApartLemmas.{apart_both}
 use Rattle.fc_laws.proofs.lemmas.takeover.MovingLemmas.{child_of}
 use Rattle.fc_oldchanges.specs.Owed.{IsBefore, IsWritten, MapStays, holding}
 use Rattle.fc_oldchanges.specs.Changed.{IsDeleteChange, IsDirectoryChange, IsFileChange, IsMoveChange, IsRenameChange, IsRewordChange}
@@ -45,19 +43,13 @@ use Rattle.fc_oldlaws.proofs.lemmas.takeover.AgainLemmas.{map_before, map_later,
 use Rattle.fc_oldlaws.proofs.lemmas.takeover.ApartLemmas.{disc, file_free, fitted_free, free_unwritten, listed', no_map', objects_law, own_apart}
 use Rattle.fc_oldlaws.proofs.lemmas.takeover.TakenLemmas.{deleted_takes_over, directory_made_takes_over, filed_takes_over, moved_takes_over, renamed_takes_over, reworded_takes_over}
 use Rattle.fc_oldlaws.proofs.lemmas.takeover.WriteLemmas.{object_stays', written_bytes_law}
-use Rattle.fc_laws.proofs.lemmas.agree.DirectoryAddedLemmas.{size_of_new}
+use Rattle.fc_record.proofs.KindLemmas.{and_first}
+use Rattle.fc_changes.proofs.CdirLemmas.{size_of_new}
+use Rattle.fc_changes.proofs.MovedLemmas.{both_apart as apart_both}
+use Rattle.fc_laws.proofs.lemmas.takeover.StepLemmas.{never, same_long, listed_first}
+use Rattle.fc_changes.proofs.FiledLemmas.{file_of as is_file}
 
 -- ---- writes
-
-never : (zs : List ℕ) (s : ℕ) → is_among [] s ≡ true → is_among zs s ≡ true
-never zs s h = absurd (cc)
-
-same_long : (p q : Path) → is_same_path p q ≡ true → length p ≡ length q
-same_long p q same = sym (folded_long p) ∙ ap (λ (x : Path). length x) (folds_alike p q same) ∙ folded_long q
-
-is_file : (old : Option Object) (path : Path) (l : Listing) (content : Directory) (i : ℕ) (o : Object) → IsEntryMade old path l content i o.entry → is_directory_object o ≡ false
-is_file None path l content i o made = ap is_directory made.2
-is_file (Some p) path l content i o made = ap is_directory made.4 ∙ made.2
 
 module _ (space : OldMapContent) where
   abbrev y : Layout
@@ -332,9 +324,6 @@ module _ (kind : Kind) (image : List ℕ) (v : Opened) (space : OldMapContent) (
           e.not_into)
 
 -- ---- the laws
-
-listed_first : (v : Opened) (l : Listing) (rest : List Listing) → IsPermutation v.listings (l ∷ rest) → Contains v.listings l
-listed_first v l rest found = Contains-permutation (l ∷ rest) v.listings l (IsPermutation-sym v.listings (l ∷ rest) found) (first_in l rest)
 
 pub steps_law : ReadsBack → StepsLaw
 steps_law back = record {

@@ -14,11 +14,12 @@ use Rattle.fc_image.proofs.HolesLemmas.{apart_at}
 use Rattle.fc_image.specs.effects.Steady.{AreWritten}
 use Rattle.fc_objects.specs.Bytes.{first_bytes}
 use Rattle.fc_objects.specs.Written.{AreApart, IsPartWritten}
-use Rattle.fc_changes.proofs.BasicLemmas.{clash, unless}
+use Rattle.fc_changes.proofs.BasicLemmas.{clash}
 use Rattle.fc_laws.proofs.lemmas.takeover.WriteLemmas.{among_at, room_for}
 use Rattle.fc_oldchanges.specs.Owed.{IsWritten}
 use Rattle.fc_oldchanges.proofs.PlaceLemmas.{row_or_none}
 use Rattle.fc_oldlaws.specs.takeover.Writes.{IsObjectStep, IsObjectWritten, IsUnwritten, WrittenBytesLaw}
+use Rattle.std.proofs.lemmas.Bool.{false_from_ne_true as unless}
 
 -- ---- writes
 

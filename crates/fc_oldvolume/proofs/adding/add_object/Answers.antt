@@ -5,8 +5,9 @@ use Rattle.fc_drafts.specs.Draft.{directory_in}
 use Rattle.fc_laws.specs.nodes.Edits.{with_body}
 use Rattle.fc_tree.specs.declared.node.Node.{Node}
 use Rattle.fc_tree.specs.Nodes.{body_in, nodes_of}
-use Rattle.fc_oldvolume.proofs.AddingLemmas.{added_nodes, still, there_of}
+use Rattle.fc_oldvolume.proofs.AddingLemmas.{added_nodes, still}
 use Rattle.fc_oldvolume.proofs.adding.add_object.Goals as goal
+use Rattle.fc_volume.proofs.MadeLemmas.{there_of}
 
 pub set_body-requires : goal.set_body-requires
 set_body-requires c =

@@ -26,13 +26,15 @@ use Rattle.fc_oldvolume.specs.declared.making.Making.{Making}
 use Rattle.fc_oldvolume.specs.Changing.{IsOldLayout}
 use Rattle.fc_oldvolume.specs.Making.{IsWrittenWith}
 use Rattle.fc_volume.proofs.AdmittingLemmas.{admitted_from, kept_from}
-use Rattle.fc_oldvolume.proofs.CdirAskedLemmas.{answered, asked, edit_of, kept_as_it_was, no_memory, no_owner, object_on_disk, on_disk, ready, some, space_answer, there, unless_any}
-use Rattle.fc_oldvolume.proofs.CdirVolumeLemmas.{has_changed, places_of, same_nodes, space_is, stands_now}
+use Rattle.fc_oldvolume.proofs.CdirAskedLemmas.{answered, asked, edit_of, kept_as_it_was, no_memory, no_owner, object_on_disk, on_disk, ready, some, space_answer, there}
+use Rattle.fc_oldvolume.proofs.CdirVolumeLemmas.{has_changed, places_of, space_is, stands_now}
 use Rattle.fc_oldvolume.proofs.ChangeLemmas.{is_old, old_layout, places_written, still_old, writes_nothing}
 use Rattle.fc_oldvolume.proofs.DeleteVolumeLemmas.{same_form}
 use Rattle.fc_oldvolume.proofs.JudgedLemmas.{judged_first, judged_last}
 use Rattle.fc_oldvolume.proofs.SetVolumeLemmas.{lie_behind, two_sectors}
 use Rattle.fc_oldvolume.proofs.making.cdir.Goals as goal
+use Rattle.fc_volume.proofs.CdirAskedLemmas.{unless_any}
+use Rattle.fc_volume.proofs.CdirVolumeLemmas.{same_nodes}
 
 pub returns-in-Err-clause-refused : goal.returns-in-Err-clause-refused
 returns-in-Err-clause-refused g c = λ v image sound parts.

@@ -15,8 +15,8 @@ use Rattle.fc_volume.proofs.SettingLemmas.{one_content}
 use Rattle.fc_oldvolume.specs.declared.making.Making.{Making}
 use Rattle.fc_oldvolume.specs.declared.taking.Taken.{Taken}
 use Rattle.fc_oldvolume.specs.Making.{CanMakeIn, IsMakingReady}
-use Rattle.fc_oldvolume.proofs.MakingLemmas.{other_value}
 use Rattle.fc_oldvolume.proofs.making.draft_cdir.Goals as goal
+use Rattle.fc_volume.proofs.MakingLemmas.{other_value}
 
 pub prepare_cdir-requires-clause-held : goal.prepare_cdir-requires-clause-held
 prepare_cdir-requires-clause-held c = subst (CanMakeIn (nodes_of c.args.tree.now) (layout_of c.args.places.now) c.args.dir) (sym c.in_ok-name.ensures) c.requires.held

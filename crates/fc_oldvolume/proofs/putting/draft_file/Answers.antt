@@ -13,8 +13,8 @@ use Rattle.fc_volume.proofs.SettingLemmas.{one_content}
 use Rattle.fc_oldvolume.specs.declared.putting.NewFile.{NewFile}
 use Rattle.fc_oldvolume.specs.declared.taking.Taken.{Taken}
 use Rattle.fc_oldvolume.specs.Filing.{CanPutIn, IsFileReady, WantsFile}
-use Rattle.fc_oldvolume.proofs.MakingLemmas.{other_value}
 use Rattle.fc_oldvolume.proofs.putting.draft_file.Goals as goal
+use Rattle.fc_volume.proofs.MakingLemmas.{other_value}
 
 pub prepare_file-requires-clause-held : goal.prepare_file-requires-clause-held
 prepare_file-requires-clause-held c = subst (CanPutIn (nodes_of c.args.tree.now) (layout_of c.args.places.now) c.args.dir) (sym c.in_ok-name.ensures) c.requires.held

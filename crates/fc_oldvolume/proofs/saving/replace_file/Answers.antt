@@ -23,8 +23,7 @@ use Rattle.fc_oldvolume.specs.declared.making.Making.{Making}
 use Rattle.fc_oldvolume.specs.declared.replacing.Replacement.{Replacement}
 use Rattle.fc_oldvolume.specs.Changing.{IsOldLayout}
 use Rattle.fc_oldvolume.specs.Spaces.{LieBehind}
-use Rattle.fc_oldvolume.proofs.CdirAskedLemmas.{kept_as_it_was, no_memory, space_answer, unless_any}
-use Rattle.fc_oldvolume.proofs.MakingLemmas.{other_value}
+use Rattle.fc_oldvolume.proofs.CdirAskedLemmas.{kept_as_it_was, no_memory, space_answer}
 use Rattle.fc_oldvolume.proofs.ChangeLemmas.{is_old, old_layout, one_space, places_written, still_old, writes_nothing}
 use Rattle.fc_oldvolume.proofs.DeleteVolumeLemmas.{same_form}
 use Rattle.fc_oldvolume.proofs.FileAskedLemmas.{all_done, by_space}
@@ -33,6 +32,8 @@ use Rattle.fc_oldvolume.proofs.OverFileLemmas.{can_file}
 use Rattle.fc_oldvolume.proofs.OverFileVolumeLemmas.{has_changed, layout', places_of, space_is, stands_now}
 use Rattle.fc_oldvolume.proofs.SetVolumeLemmas.{lie_behind, two_sectors}
 use Rattle.fc_oldvolume.proofs.saving.replace_file.Goals as goal
+use Rattle.fc_volume.proofs.CdirAskedLemmas.{unless_any}
+use Rattle.fc_volume.proofs.MakingLemmas.{other_value}
 
 pub draft_replacing-requires-clause-behind : goal.draft_replacing-requires-clause-behind
 draft_replacing-requires-clause-behind g c = λ space at.

@@ -1,8 +1,8 @@
 use Rattle.std.proofs.Common.{◌++◌, List, ap, ◌∙◌}
 use Rattle.fc_newmap.specs.Map.{ZoneRun, hole_runs}
 use Rattle.fc_newmap.specs.Walk.{holes_in}
-use Rattle.fc_plan.proofs.Left.{walked_on}
 use Rattle.fc_plan.proofs.supply.holes_of.Goals as goal
+use Rattle.fc_newmap.proofs.TallyLemmas.{walked_on}
 
 pub loop-hole-preserved : goal.loop-hole-preserved
 loop-hole-preserved c =

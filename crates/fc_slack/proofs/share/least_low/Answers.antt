@@ -1,8 +1,9 @@
 use Rattle.std.proofs.Common.{◌≡◌, ◌&&◌, ℕ, true, ap, sym, ◌∙◌}
 use Rattle.fc_slack.specs.Slack.{has_shares, may_share}
 use Rattle.fc_slack.proofs.OpenLemmas.{all_found, free_found}
-use Rattle.fc_slack.proofs.Searches.{least_closed, least_found, least_missing, second}
+use Rattle.fc_slack.proofs.Searches.{least_closed, least_found, least_missing}
 use Rattle.fc_slack.proofs.share.least_low.Goals as goal
+use Rattle.fc_record.proofs.KindLemmas.{and_second as second}
 
 pub returns-then-not-may_share : goal.returns-then-not-may_share
 returns-then-not-may_share c = λ dir moved.

@@ -2,11 +2,11 @@ use Rattle.std.proofs.Common.{take, refl, sym, ap, subst, ◌∙◌, arith}
 use Rattle.std.specs.Prelude.{◌==◌, Result, Err}
 use Rattle.std.proofs.lemmas.List.{length-take-le}
 use Rattle.fc_oldmap.specs.declared.OldMapFault.{OldMapFault}
-use Rattle.std.proofs.lemmas.Bool.{eqb-true}
+use Rattle.std.proofs.lemmas.Bool.{eqb-true, and_parts}
 use Rattle.fc_record.specs.Kinds.{is_old_map, old_units}
 use Rattle.fc_oldmap.specs.Holes.{AreHoles}
 use Rattle.fc_oldmap.specs.OldMap.{OldMapContent, map_units}
-use Rattle.fc_volume.proofs.MapsOldLemmas.{and_parts, behind, map_read, hole_read, no_check}
+use Rattle.fc_volume.proofs.MapsOldLemmas.{behind, map_read, hole_read, no_check}
 use Rattle.fc_volume.proofs.maps.old_map_in.Goals as goal
 
 pub returns-then-disc_units-units-clause-map : goal.returns-then-disc_units-units-clause-map

@@ -2,7 +2,7 @@ use Rattle.std.proofs.Common.{All, ◌<◌, ℕ, List, [], sym, ap, subst, ◌�
 use Rattle.std.proofs.lemmas.Result.{on_ok_weaker}
 use Rattle.std.specs.List.{flat_map}
 use Rattle.fc_device.proofs.DiskLaws.{laws}
-use Rattle.fc_device.proofs.StopLemmas.{led}
+use Rattle.fc_device.proofs.StopLemmas.{led, one_told}
 use Rattle.fc_device.specs.Calls.{StopsAndExitsLeave}
 use Rattle.fc_record.specs.declared.Geometry.{Geometry}
 use Rattle.fc_newmap.specs.Map.{map_sectors}
@@ -12,7 +12,6 @@ use Rattle.fc_objects.specs.Written.{AreApart}
 use Rattle.fc_writing.specs.declared.ready.Piece.{Piece}
 use Rattle.fc_writing.specs.Content.{IsPart}
 use Rattle.fc_writing.specs.Ready.{content_of, late_content, place_of}
-use Rattle.fc_writing.proofs.ContentLemmas.{one_told}
 use Rattle.fc_writing.proofs.EarlyLemmas.{late_low, once_late}
 use Rattle.fc_writing.proofs.NewLemmas.{equal_still, given, giving, late_put, putting}
 use Rattle.fc_writing.proofs.StageLemmas.{keeps_both}

@@ -1,14 +1,13 @@
 use Rattle.std.proofs.Common.{◌≡◌, ◌*◌, ◌⊎◌, ℕ, List, [], sym, ap, subst, ◌∙◌}
 use Rattle.std.proofs.lemmas.Result.{on_ok_weaker}
 use Rattle.fc_device.proofs.DiskLaws.{laws}
-use Rattle.fc_device.proofs.StopLemmas.{keeps_weaker, led}
+use Rattle.fc_device.proofs.StopLemmas.{keeps_weaker, led, one_told}
 use Rattle.fc_device.specs.Calls.{StopsAndExitsLeave}
 use Rattle.fc_copies.proofs.PassLemmas.{keeps_on}
 use Rattle.fc_image.specs.Layout.{Layout, map_place}
 use Rattle.fc_writing.specs.Content.{HasContent, IsPart}
 use Rattle.fc_writing.specs.Old.{StepLeaves, sector_of}
 use Rattle.fc_writing.specs.Ready.{early_content}
-use Rattle.fc_writing.proofs.ContentLemmas.{one_told}
 use Rattle.fc_writing.proofs.FrontLemmas.{HasUnits}
 use Rattle.fc_writing.proofs.OldLemmas.{early_before, early_taken, early_taking}
 use Rattle.fc_writing.proofs.StageLemmas.{without_map}

@@ -2,7 +2,7 @@ use Rattle.std.proofs.Common.{All, ◌≡◌, ◌<◌, ◌*◌, ◌⊎◌, ℕ, 
 use Rattle.std.specs.List.{flat_map}
 use Rattle.std.proofs.lemmas.Result.{on_ok_weaker}
 use Rattle.fc_device.proofs.DiskLaws.{laws}
-use Rattle.fc_device.proofs.StopLemmas.{keeps_weaker, led}
+use Rattle.fc_device.proofs.StopLemmas.{keeps_weaker, led, one_told}
 use Rattle.fc_device.specs.Calls.{StopsAndExitsLeave}
 use Rattle.fc_copies.proofs.PassLemmas.{keeps_on}
 use Rattle.fc_image.specs.Layout.{Layout, map_place}
@@ -11,7 +11,6 @@ use Rattle.fc_writing.specs.declared.ready.Piece.{Piece}
 use Rattle.fc_writing.specs.Content.{IsPart}
 use Rattle.fc_writing.specs.Old.{StepLeaves, sector_of}
 use Rattle.fc_writing.specs.Ready.{content_of, late_content, place_of}
-use Rattle.fc_writing.proofs.ContentLemmas.{one_told}
 use Rattle.fc_writing.proofs.EarlyLemmas.{late_low, once_late}
 use Rattle.fc_writing.proofs.FrontLemmas.{HasUnits}
 use Rattle.fc_writing.proofs.OldLemmas.{late_before, late_given, late_giving, late_lent}

@@ -1,10 +1,9 @@
 use Rattle.std.proofs.Common.{◌≡◌, ◌*◌, ℕ, sym, ap, subst, ◌∙◌}
 use Rattle.std.proofs.lemmas.Result.{on_ok_weaker}
 use Rattle.fc_device.proofs.DiskLaws.{laws}
-use Rattle.fc_device.proofs.StopLemmas.{keeps_start, keeps_weaker}
+use Rattle.fc_device.proofs.StopLemmas.{keeps_start, keeps_weaker, one_told}
 use Rattle.fc_writing.specs.declared.ready.MapStep.{MapStep}
 use Rattle.fc_writing.specs.Old.{IsOfDisc, StepLeaves, front_after, front_in, sector_of}
-use Rattle.fc_writing.proofs.ContentLemmas.{one_told}
 use Rattle.fc_writing.proofs.FrontLemmas.{count_of, done_of_disc, front_same, left_of_disc}
 use Rattle.fc_writing.proofs.old_front.make_old_step.Goals as goal
 

@@ -2,12 +2,11 @@ use Rattle.std.proofs.Common.{All, ◌≡◌, ◌<◌, ℕ, List, [], sym, subst
 use Rattle.std.specs.List.{flat_map}
 use Rattle.std.proofs.lemmas.List.{take_all}
 use Rattle.fc_device.proofs.DiskLaws.{form_then, laws}
-use Rattle.fc_device.proofs.StopLemmas.{led}
+use Rattle.fc_device.proofs.StopLemmas.{led, one_told}
 use Rattle.fc_copies.proofs.PassLemmas.{keeps_on}
 use Rattle.fc_writing.specs.declared.ready.Transfer.{Transfer}
 use Rattle.fc_writing.specs.Content.{Content, HasContent, IsPart}
 use Rattle.fc_writing.specs.Ready.{carried_by, from_of, to_of}
-use Rattle.fc_writing.proofs.ContentLemmas.{one_told}
 use Rattle.fc_writing.proofs.ListLemmas.{all_one, carried_now, enough_one, has_more, once_one, one_carried, carried_sectors, others_one}
 use Rattle.fc_writing.proofs.pieces.carry.Goals as goal
 

@@ -2,7 +2,7 @@ use Rattle.std.proofs.Common.{All, ◌≡◌, ◌<◌, ℕ, true, List, [], ◌+
 use Rattle.std.specs.List.{flat_map}
 use Rattle.std.proofs.lemmas.Result.{on_ok_weaker}
 use Rattle.fc_device.proofs.DiskLaws.{laws}
-use Rattle.fc_device.proofs.StopLemmas.{keeps_weaker, led}
+use Rattle.fc_device.proofs.StopLemmas.{keeps_weaker, led, one_told}
 use Rattle.fc_device.specs.Calls.{StopsAndExitsLeave}
 use Rattle.fc_copies.proofs.PassLemmas.{keeps_on}
 use Rattle.fc_image.specs.Layout.{is_apart}
@@ -11,7 +11,6 @@ use Rattle.fc_writing.specs.declared.ready.Piece.{Piece}
 use Rattle.fc_writing.specs.declared.ready.Transfer.{Transfer}
 use Rattle.fc_writing.specs.Content.{HasContent, IsPart}
 use Rattle.fc_writing.specs.Ready.{IsEnough, carried_by, content_of, from_of, place_of, source_content, to_of}
-use Rattle.fc_writing.proofs.ContentLemmas.{one_told}
 use Rattle.fc_writing.proofs.EarlyLemmas.{carried_from_low, carried_low, carried_others, has_three, has_two, once_carried, once_pieces, once_source, part_few, part_one, part_start, part_three, part_two, pieces_low, source_from_low, source_low, source_others}
 use Rattle.fc_writing.proofs.pieces.put_early.Given.{Over}
 use Rattle.fc_writing.proofs.pieces.put_early.Goals as goal

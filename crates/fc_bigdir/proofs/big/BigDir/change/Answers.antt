@@ -1,9 +1,10 @@
 use Rattle.std.proofs.Common.{◌∙◌, sym}
 use Rattle.fc_bigdir.specs.Fields.{dir_of}
 use Rattle.fc_dirs.proofs.SearchLemmas.{blank}
-use Rattle.fc_bigdir.proofs.ChangeLemmas.{big_changed, named_at}
+use Rattle.fc_bigdir.proofs.ChangeLemmas.{big_changed}
 use Rattle.fc_bigdir.proofs.KeptLemmas.{packed-set}
 use Rattle.fc_bigdir.proofs.big.BigDir.change.Goals as goal
+use Rattle.fc_smalldir.proofs.SmallLemmas.{named_at}
 
 pub invariant_of-self : goal.invariant_of-self
 invariant_of-self c =

@@ -3,8 +3,9 @@ use Rattle.std.proofs.lemmas.List.{take_all, take_more}
 use Rattle.fc_device.specs.declared.disk.Extent.{Extent}
 use Rattle.fc_objects.specs.Extents.{extent_sectors, sectors_in}
 use Rattle.fc_tree.specs.Taken.{AreTaken}
-use Rattle.fc_tree.proofs.TakenLemmas.{taken_more, push_sectors}
+use Rattle.fc_tree.proofs.TakenLemmas.{taken_more}
 use Rattle.fc_tree.proofs.taken.Taken.take.Goals as goal
+use Rattle.fc_space.proofs.IndexedLemmas.{push_sectors}
 
 pub loop-extent-preserved : goal.loop-extent-preserved
 loop-extent-preserved c =

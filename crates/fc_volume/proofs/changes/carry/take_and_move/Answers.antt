@@ -5,8 +5,9 @@ use Rattle.fc_device.proofs.StopLemmas.{keeps_then, keeps_weaker, led}
 use Rattle.fc_objects.specs.Extents.{sectors_in}
 use Rattle.fc_volume.proofs.CarryingLemmas.{directory_kept, directory_stored, taken_moved}
 use Rattle.fc_volume.proofs.StoringLemmas.{wider_first, wider_last}
-use Rattle.fc_volume.proofs.WritingLemmas.{copies_written, written_then}
+use Rattle.fc_volume.proofs.WritingLemmas.{copies_written}
 use Rattle.fc_volume.proofs.changes.carry.take_and_move.Goals as goal
+use Rattle.fc_volume.proofs.RelocatingLemmas.{both_written as written_then}
 
 pub returns-in_err-take_space-clause-keeps : goal.returns-in_err-take_space-clause-keeps
 returns-in_err-take_space-clause-keeps g c =

@@ -5,8 +5,8 @@ use Rattle.fc_objects.specs.Extents.{sectors_in}
 use Rattle.fc_volume.specs.Carrying.{sectors_of_carrying}
 use Rattle.fc_volume.proofs.CarryingLemmas.{first_kept, first_of, moved_kept}
 use Rattle.fc_volume.proofs.CopyingLemmas.{copies_kept}
-use Rattle.fc_volume.proofs.WritingLemmas.{written_then}
 use Rattle.fc_volume.proofs.changes.carry.write_carrying.Goals as goal
+use Rattle.fc_volume.proofs.RelocatingLemmas.{both_written as written_then}
 
 pub returns-in_err-copy_first-clause-keeps : goal.returns-in_err-copy_first-clause-keeps
 returns-in_err-copy_first-clause-keeps g c =

@@ -3,8 +3,8 @@ use Rattle.std.proofs.lemmas.Result.{IfOk-weaker}
 use Rattle.fc_newmap.specs.Map.{Map}
 use Rattle.fc_space.specs.Space.{layout_of}
 use Rattle.fc_volume.specs.Carrying.{IsCopySpace}
-use Rattle.fc_volume.proofs.StoringLemmas.{one_map}
 use Rattle.fc_volume.proofs.changes.carrying.space_for.Goals as goal
+use Rattle.fc_image.proofs.SameMapLemmas.{new_map as one_map}
 
 pub returns-clause-space : goal.returns-clause-space
 returns-clause-space c =

@@ -5,8 +5,8 @@ use Rattle.fc_model.specs.Tree.{last_name}
 use Rattle.fc_space.specs.Space.{layout_of}
 use Rattle.fc_tree.specs.Nodes.{nodes_of}
 use Rattle.fc_volume.specs.Making.{IsMakingReady}
-use Rattle.fc_volume.proofs.StoringLemmas.{one_map}
 use Rattle.fc_volume.proofs.changes.cdir.draft_cdir.Goals as goal
+use Rattle.fc_image.proofs.SameMapLemmas.{new_map as one_map}
 
 pub draft_in-requires-clause-held : goal.draft_in-requires-clause-held
 draft_in-requires-clause-held c = c.requires.held c.in-NewMapped.map (ap layout_of (sym c.space.ensures ∙ c.in-NewMapped.is))

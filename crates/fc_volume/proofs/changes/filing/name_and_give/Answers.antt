@@ -6,8 +6,9 @@ use Rattle.fc_objects.specs.Extents.{sectors_in}
 use Rattle.fc_volume.proofs.ChangeLemmas.{ok_both, ok_then}
 use Rattle.fc_volume.proofs.FilingLemmas.{on_ok}
 use Rattle.fc_volume.proofs.StoringLemmas.{stored_as}
-use Rattle.fc_volume.proofs.WritingLemmas.{copies_written, part_kept, part_written, written_then}
+use Rattle.fc_volume.proofs.WritingLemmas.{copies_written, part_kept, part_written}
 use Rattle.fc_volume.proofs.changes.filing.name_and_give.Goals as goal
+use Rattle.fc_volume.proofs.RelocatingLemmas.{both_written as written_then}
 
 pub returns-in_err-store-clause-keeps : goal.returns-in_err-store-clause-keeps
 returns-in_err-store-clause-keeps g c =

@@ -4,8 +4,9 @@ use Rattle.fc_device.proofs.DiskLaws.{laws}
 use Rattle.fc_device.proofs.StopLemmas.{keeps_then, keeps_weaker, led}
 use Rattle.fc_objects.specs.Extents.{sectors_in}
 use Rattle.fc_volume.proofs.StoringLemmas.{copies_kept, first_as, kept_as}
-use Rattle.fc_volume.proofs.WritingLemmas.{copies_written, written_then}
+use Rattle.fc_volume.proofs.WritingLemmas.{copies_written}
 use Rattle.fc_volume.proofs.changes.filing.store_and_take.Goals as goal
+use Rattle.fc_volume.proofs.RelocatingLemmas.{both_written as written_then}
 
 pub returns-in_err-store_first-clause-keeps : goal.returns-in_err-store_first-clause-keeps
 returns-in_err-store_first-clause-keeps g c = kept_as g.D.Disk c.args.map.now c.deref.ensures.value c.store_first.ensures.keeps

@@ -5,8 +5,8 @@ use Rattle.fc_objects.specs.Extents.{sectors_in}
 use Rattle.fc_volume.proofs.ChangeLemmas.{ok_both, ok_then}
 use Rattle.fc_volume.proofs.FilingLemmas.{apart_by, back_still, copies_by, room_by, written_by}
 use Rattle.fc_volume.proofs.StoringLemmas.{wider_first, wider_last}
-use Rattle.fc_volume.proofs.WritingLemmas.{written_then}
 use Rattle.fc_volume.proofs.changes.filing.write_file.Goals as goal
+use Rattle.fc_volume.proofs.RelocatingLemmas.{both_written as written_then}
 
 pub returns-in_err-store_and_take-clause-keeps : goal.returns-in_err-store_and_take-clause-keeps
 returns-in_err-store_and_take-clause-keeps g c =

@@ -4,8 +4,9 @@ use Rattle.fc_device.proofs.DiskLaws.{laws}
 use Rattle.fc_device.proofs.StopLemmas.{keeps_then, keeps_weaker, led}
 use Rattle.fc_objects.specs.Extents.{sectors_in}
 use Rattle.fc_volume.proofs.ChangeLemmas.{ok_both, ok_then}
-use Rattle.fc_volume.proofs.WritingLemmas.{copies_written, written_then}
+use Rattle.fc_volume.proofs.WritingLemmas.{copies_written}
 use Rattle.fc_volume.proofs.changes.removal.write_removed.Goals as goal
+use Rattle.fc_volume.proofs.RelocatingLemmas.{both_written as written_then}
 
 pub give_space-requires-clause-copies : goal.give_space-requires-clause-copies
 give_space-requires-clause-copies g c = λ image told.

@@ -5,8 +5,9 @@ use Rattle.fc_device.proofs.StopLemmas.{keeps_then, keeps_weaker, led}
 use Rattle.fc_objects.specs.Extents.{sectors_in}
 use Rattle.fc_volume.proofs.RepairedLemmas.{keeps_told}
 use Rattle.fc_volume.proofs.StoringLemmas.{first_stored}
-use Rattle.fc_volume.proofs.WritingLemmas.{copies_written, part_written, written_then}
+use Rattle.fc_volume.proofs.WritingLemmas.{copies_written, part_written}
 use Rattle.fc_volume.proofs.changes.storing.store_first.Goals as goal
+use Rattle.fc_volume.proofs.RelocatingLemmas.{both_written as written_then}
 
 pub returns-in_err-match_copies-clause-keeps : goal.returns-in_err-match_copies-clause-keeps
 returns-in_err-match_copies-clause-keeps g c =

@@ -5,8 +5,9 @@ use Rattle.fc_device.proofs.StopLemmas.{keeps_then, keeps_weaker, led}
 use Rattle.fc_record.specs.declared.Geometry.{Geometry}
 use Rattle.fc_objects.specs.Extents.{sectors_in}
 use Rattle.fc_volume.proofs.StoringLemmas.{taken_named}
-use Rattle.fc_volume.proofs.WritingLemmas.{copies_written, part_kept, part_written, written_then}
+use Rattle.fc_volume.proofs.WritingLemmas.{copies_written, part_kept, part_written}
 use Rattle.fc_volume.proofs.changes.storing.take_and_name.Goals as goal
+use Rattle.fc_volume.proofs.RelocatingLemmas.{both_written as written_then}
 
 pub returns-in_err-take_space-clause-keeps : goal.returns-in_err-take_space-clause-keeps
 returns-in_err-take_space-clause-keeps g c =

@@ -4,8 +4,8 @@ use Rattle.fc_device.proofs.DiskLaws.{laws}
 use Rattle.fc_device.proofs.StopLemmas.{keeps_then, keeps_weaker, led}
 use Rattle.fc_objects.specs.Extents.{sectors_in}
 use Rattle.fc_volume.proofs.StoringLemmas.{copies_kept, first_as, kept_as, wider_first, wider_last}
-use Rattle.fc_volume.proofs.WritingLemmas.{written_then}
 use Rattle.fc_volume.proofs.changes.storing.write_new.Goals as goal
+use Rattle.fc_volume.proofs.RelocatingLemmas.{both_written as written_then}
 
 pub returns-in_err-store_first-clause-keeps : goal.returns-in_err-store_first-clause-keeps
 returns-in_err-store_first-clause-keeps g c =
