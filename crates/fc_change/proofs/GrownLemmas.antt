@@ -17,7 +17,7 @@ use Rattle.fc_change.specs.declared.job.Growth.{Growth}
 use Rattle.fc_change.specs.declared.placing.growth.Growing.{Growing}
 use Rattle.fc_change.specs.declared.placing.growth.Growing.TheVariants as growings
 use Rattle.fc_change.specs.declared.spaces.GrownPlace.{GrownPlace}
-use Rattle.fc_change.specs.GrownSpace.{IsGrown, IsNewSpace, LeadsTo, address_moved, gone_at_once, is_alone, kept_parts, plans_of}
+use Rattle.fc_change.specs.GrownSpace.{IsGrown, IsNewSpace, LeadsTo, address_moved, gone_at_once, is_alone, kept_parts, place_of_plan, plans_of}
 use Rattle.fc_change.specs.Planning.{IsGrowthPlan, IsGrowthTaken, IsGrownTo, IsJudged, IsLonger, IsMovedIf, IsMovedTo, IsNewSpaceOf, IsObjectTaken, IsPlannedAfter, alone_in, len_moved}
 use Rattle.fc_change.specs.Shortage.{grown_bytes, is_grown_alone, short_of}
 use Rattle.fc_change.specs.Steps.{IsStep}
@@ -98,6 +98,7 @@ grown_is m h object (Some g) (growings.Moves growth address alone) (Some plan) (
   directory = t.directory ∙ ap₂ (λ (b : Bool) (a : ℕ). let r : Regrowth = record { node = growth.node; address = address_moved b a plan; len = growth.len } in r) j.alone_is j.address_is
       ∙ ap (λ (k : Growth). let r : Regrowth = record { node = k.node; address = address_moved (is_alone h g) (address_in h.nodes g.node) plan; len = k.len } in r) j.growth_is;
   moves = t.moves;
+  sectors = t.sectors ∙ ap (λ (k : Growth). place_of_plan m.geometry plan k.len) j.growth_is;
   leads = subst (λ (k : Growth). LeadsTo m k.len plan (sectors_in q.extents.items)) j.growth_is t.leads;
   free = t.free;
 }

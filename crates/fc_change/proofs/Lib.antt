@@ -2,7 +2,7 @@ mod TakingLemmas
 mod TurningLemmas
 mod DraftLemmas
 mod PieceLemmas
-mod PlanLemmas
+pub mod PlanLemmas
 mod LeadsLemmas
 mod RoomLemmas
 mod ShortageLemmas

@@ -86,11 +86,11 @@ pub record LiesWithin (hole run : ZoneRun) : Type 0 where
   pub from : hole.1.start ≤ run.1.start
   pub to : run.1.start + run.1.len ≤ hole.1.start + hole.1.len
 
-one_there : (x y : ZoneRun) → Contains (x ∷ []) y → x ≡ y
+pub one_there : (x y : ZoneRun) → Contains (x ∷ []) y → x ≡ y
 one_there x y (zero, low, e) = e
 one_there x y (suc i, low, e) = absurd (omega (arith, low))
 
-rest_within : (hole rest : ZoneRun) (o : Option ZoneRun) → IfSome o (λ part. part.1.len ≤ hole.1.len) → Contains (left_behind hole o) rest → LiesWithin hole rest
+pub rest_within : (hole rest : ZoneRun) (o : Option ZoneRun) → IfSome o (λ part. part.1.len ≤ hole.1.len) → Contains (left_behind hole o) rest → LiesWithin hole rest
 rest_within hole rest None short at =
     subst (λ (x : ZoneRun). LiesWithin hole x) (one_there hole rest at) (record { zone = refl; from = omega arith; to = omega arith })
 rest_within hole rest (Some part) short at = by (part.1.len == hole.1.len) at
@@ -100,7 +100,7 @@ rest_within hole rest (Some part) short at = by (part.1.len == hole.1.len) at
     by false c = subst (λ (x : ZoneRun). LiesWithin hole x) (one_there (rest_of hole part) rest c) (record { zone = refl; from = omega arith; to = omega (arith, short) })
 
 -- the hole of which a rest is left
-left_in : (holes parts : List ZoneRun) (r : ZoneRun) → Contains (holes_left holes parts) r → (k : ZoneRun) × Contains holes k × Contains (left_behind k (find (stands_at k) parts)) r
+pub left_in : (holes parts : List ZoneRun) (r : ZoneRun) → Contains (holes_left holes parts) r → (k : ZoneRun) × Contains holes k × Contains (left_behind k (find (stands_at k) parts)) r
 left_in [] parts r (i, low, e) = absurd (omega (arith, low))
 left_in (h ∷ holes) parts r at = elim (Contains-append_cases (left_behind h (find (stands_at h) parts)) (holes_left holes parts) r at) [
   | inl here ↦ (h, (0, omega arith, refl), here)
@@ -126,7 +126,7 @@ module _ (m : Map) (is : IsNewMap m) where
         to = subst (λ (z : ℕ). run.1.start + run.1.len ≤ end_bit m.geometry z) w.zone (let to = placed.to in let high = w.to in omega (arith, to, high));
       }
 
-  within_holds : (hole run : ZoneRun) (s : ℕ) → Contains (hole_runs m) hole → LiesWithin hole run → run.1.len % m.geometry.q ≡ 0 → HoldsSector m.geometry run s → HoldsSector m.geometry hole s
+  pub within_holds : (hole run : ZoneRun) (s : ℕ) → Contains (hole_runs m) hole → LiesWithin hole run → run.1.len % m.geometry.q ≡ 0 → HoldsSector m.geometry run s → HoldsSector m.geometry hole s
   within_holds hole run s at w even holds =
       let placed = hole_at hole at in
       let from = w.from in

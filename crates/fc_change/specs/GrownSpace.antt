@@ -86,6 +86,7 @@ pub record GrowsInto (m : Map) (h : Parts) (object : Option Plan) (g : Growth) (
   pub space : IsNewSpace m object (is_alone h g) (address_in h.nodes g.node) g.len plan
   pub directory : p.directory ≡ record { node = g.node; address = address_moved (is_alone h g) (address_in h.nodes g.node) plan; len = g.len }
   pub moves : p.moves ≡ true
+  pub sectors : sectors_in p.extents.items ≡ place_of_plan m.geometry plan g.len
   pub leads : LeadsTo m g.len plan (sectors_in p.extents.items)
   pub free : AreFree m (sectors_in p.extents.items)
 

@@ -16,7 +16,7 @@ use Rattle.fc_change.specs.declared.placing.growth.Growing.{Growing}
 use Rattle.fc_change.specs.declared.placing.growth.Growing.TheVariants as growings
 use Rattle.fc_change.specs.declared.placing.growth.Plans.{Plans}
 use Rattle.fc_change.specs.declared.spaces.GrownPlace.{GrownPlace}
-use Rattle.fc_change.specs.GrownSpace.{AreFree, GrowsThere, IsNewSpace, LeadsTo, address_moved, has_room, is_alone}
+use Rattle.fc_change.specs.GrownSpace.{AreFree, GrowsThere, IsNewSpace, LeadsTo, address_moved, has_room, is_alone, place_of_plan}
 
 -- ---- the directory
 
@@ -129,6 +129,7 @@ pub record IsNewSpaceOf (m : Map) (growth : Growth) (address : ℕ) (alone : Boo
 pub record IsMovedTo (m : Map) (growth : Growth) (address : ℕ) (alone : Bool) (plan : Plan) (p : GrownPlace) : Type 0 where
   pub directory : p.directory ≡ record { node = growth.node; address = address_moved alone address plan; len = growth.len }
   pub moves : p.moves ≡ true
+  pub sectors : sectors_in p.extents.items ≡ place_of_plan m.geometry plan growth.len
   pub leads : LeadsTo m growth.len plan (sectors_in p.extents.items)
   pub free : AreFree m (sectors_in p.extents.items)
 

@@ -16,6 +16,7 @@ returns c =
     record {
       directory = ap (λ (a : ℕ). let r : Regrowth = record { node = c.args.growth.node; address = a; len = c.args.growth.len } in r) c.address_moved-address.ensures;
       moves = refl;
+      sectors = c.in_ok-extents.ensures;
       leads = new_leads c.args.map.now c.is_map.ensures c.args.growth c.args.address c.args.alone c.args.plan.now c.requires sectors c.in_ok-extents.ensures;
       free = new_free c.args.map.now c.is_map.ensures c.args.growth c.args.address c.args.alone c.args.plan.now c.requires sectors c.in_ok-extents.ensures;
     }
