@@ -30,7 +30,7 @@ use Rattle.fc_course.proofs.ChangeLemmas.{map_of}
 pub laws_for : {D : Type 0} (d : Ghosts D) (was : Holdings) (old : D) → CourseLaw → (stands : Stands d was old) → IsMapIn (layout_of was.places) → PlacesSuffice (layout_of was.places) → (job : Job) (name bytes : List ℕ)
     → HasLaws (parts_of was) job name → IsJudged (parts_of was) job name bytes → JobLaws stands.agree.0 (parts_of was) job name bytes
 laws_for d was old law stands is suffice job name bytes has judged =
-    law (parts_of was) job name bytes stands.agree.0 has (map_of (layout_of was.places) (d.sectors old) is stands.map_room) suffice stands.agree.1 judged
+    law (parts_of was) job name bytes stands.agree.0 has (map_of (layout_of was.places) (d.sectors old) is stands.map_room) stands.version suffice stands.agree.1 judged
 
 -- room for more nodes is no other node
 same_nodes : (tree : Numbers) (room : ℕ) → nodes_of (record tree { room = room }) ≡ nodes_of tree

@@ -41,6 +41,7 @@ use Rattle.fc_course.specs.Promises.{ChangesParts, HasChanged, MayWrite, WritesP
 use Rattle.fc_course.specs.Run.{IsMapIn, IsMapOf, IsRun, KeepsBehind}
 use Rattle.fc_course.specs.Stages.{IsPreparedFor, RefusesJob}
 use Rattle.fc_course.specs.Written.{CanWriteOn, ChangeLeavesOn, IsChangedOn, IsGivenOn, space_after}
+use Rattle.fc_course.proofs.VersionLemmas.{tells_version}
 use Rattle.fc_course.proofs.AnswerLemmas.{accepted_by, faulted_by, no_memory, refused_by}
 
 -- ---- maps
@@ -165,6 +166,7 @@ module _ {D : Type 0} (d : Ghosts D) (law : Laws d) (was : Holdings) (old new : 
           size = form.size_stays ∙ stands.size ∙ sym disc.bytes;
           room = subst (λ (n : ℕ). disc_sectors (layout_of now.places) ≤ n) (sym form.sectors_stay) (subst (λ (k : ℕ). k ≤ d.sectors old) (sym disc.sectors) stands.room);
           map_room = subst (HoldsMap (layout_of now.places)) (sym form.sectors_stay) (holds_map (layout_of was.places) (layout_of now.places) p.ready (d.sectors old) run.given stands.map_room both.1);
+          version = tells_version (layout_of was.places) (layout_of now.places) p.ready is_map run.given stands.version;
           agree = (stands.agree.0, both.0);
           image = λ image told.
               (let first = keeps.told image told in

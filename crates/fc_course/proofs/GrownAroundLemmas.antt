@@ -160,7 +160,7 @@ module _ (layout : Layout) (listings : List Listing) (sound : AreSound layout li
 
 module _ (layout : Layout) (listings : List Listing) (nodes : Nodes) (sound : AreSound layout listings) (held : HoldObjects nodes listings) where
   -- no directory is listed twice
-  one_of_two : (xs ys : List Listing) → IsPermutation listings (xs ++ ys) → (j k : Listing) → Contains xs j → Contains ys k → is_same_path j.object.path k.object.path ≡ true → ⊥
+  pub one_of_two : (xs ys : List Listing) → IsPermutation listings (xs ++ ys) → (j k : Listing) → Contains xs j → Contains ys k → is_same_path j.object.path k.object.path ≡ true → ⊥
   one_of_two xs ys all j k j_in k_in same =
       let c = cut_element xs j j_in in
       let first : IsPermutation listings (j ∷ ((c.0 ++ c.1) ++ ys)) =

@@ -47,6 +47,7 @@ use Rattle.fc_course.proofs.GrownSpaceLemmas as space_of
 use Rattle.fc_course.proofs.GrownTakenLemmas.{can_take_over}
 use Rattle.fc_course.proofs.GrownVacantLemmas.{gains}
 use Rattle.fc_course.proofs.GrownWalkLemmas.{IsBigOne, big_one}
+use Rattle.fc_course.proofs.GrownWalkLemmas as walk
 use Rattle.fc_course.proofs.NodeLemmas.{each_at, size_of_form}
 use Rattle.fc_course.proofs.NodeLemmas as its_node
 use Rattle.fc_dirs.specs.Directory.{directory_size}
@@ -56,7 +57,7 @@ use Rattle.fc_changes.proofs.NewPlaceLemmas.{some_there as some_listed}
 
 module _ (m : Map) (nodes : Nodes) (owners : List Owner) (dir : ℕ) (path : Path) (pr : Prepared) (prep : IsPreparedFor (parts_with m nodes owners) (jobs.Directory dir) (last_name path) pr)
     (growth : Growth) (some : prep.wants.grows ≡ Some growth) (is_map : IsNewMap m)
-    (kind : Kind) (root : Node) (listings : List Listing) (agreed : AgreeOn kind m nodes owners root listings) (spot : IsVacant nodes listings path dir) (number : ℕ) (free : get nodes number ≡ None) where
+    (kind : Kind) (root : Node) (listings : List Listing) (agreed : AgreeOn kind m nodes owners root listings) (spot : IsVacant nodes listings path dir) where
   abbrev l : Listing
   l = spot.listing
 
@@ -64,11 +65,12 @@ module _ (m : Map) (nodes : Nodes) (owners : List Owner) (dir : ℕ) (path : Pat
   sound = agreed_law.sound kind m nodes owners root listings agreed
 
   -- Nodes and owners are there for it, and there is memory for one more.
-  pub can_take : (layout : Layout) (room : ℕ) → nodes_more pr.change.object ≤ room → CanTakeOver layout nodes (owners_admitted (Layout.New m) pr.change.object number owners) room pr.change
-  can_take layout room enough =
-      let at = cdir.at_walk m nodes owners dir path pr prep growth some is_map kind root listings agreed spot number free in
-      let stay = cdir.stay m nodes owners dir path pr prep growth some is_map kind root listings agreed spot number free in
-      let to = cdir.to m nodes owners dir path pr prep growth some is_map kind root listings agreed spot number free in
+  pub can_take : (layout : Layout) (number room : ℕ) → nodes_more pr.change.object ≤ room → CanTakeOver layout nodes (owners_admitted (Layout.New m) pr.change.object number owners) room pr.change
+  can_take layout number room enough =
+      let is = cdir.is m nodes owners dir path pr prep growth some is_map in
+      let at = walk.number m nodes owners dir path prep.wants prep.spaces is kind root listings agreed spot in
+      let stay = walk.stay m nodes owners dir path prep.wants prep.spaces is kind root listings agreed spot in
+      let to = walk.to m nodes owners dir path prep.wants prep.spaces is kind root listings agreed spot in
       let p = cdir.p m nodes owners dir path pr prep growth some is_map in
       let has = agreed.walked.held.each l.object (its_node.among nodes (Layout.New m) listings sound agreed.walked.held l spot.listed p.directory.node at) in
       can_take_over (Layout.New m) layout nodes owners listings l stay has.holder_number (cdir.e m nodes owners dir path pr prep growth some is_map) p.directory pr.change (Some (cdir.own m nodes owners dir path pr prep growth some is_map))

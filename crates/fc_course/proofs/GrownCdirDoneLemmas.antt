@@ -58,11 +58,12 @@ use Rattle.fc_course.specs.Stages.{IsPreparedFor}
 use Rattle.fc_course.proofs.GrownArrivalLemmas as arrival
 use Rattle.fc_course.proofs.GrownAskedLemmas.{grows}
 use Rattle.fc_course.proofs.GrownCdirLemmas as cdir
-use Rattle.fc_course.proofs.GrownMapLemmas.{IsStepOf, map_grows}
+use Rattle.fc_course.proofs.GrownMapLemmas.{map_grows}
 use Rattle.fc_course.proofs.GrownOutcomeLemmas as told
 use Rattle.fc_course.proofs.GrownPieceLemmas.{piece_put, IsGrownReady}
 use Rattle.fc_course.proofs.GrownPreparedLemmas as prepared
-use Rattle.fc_course.proofs.GrownRootLemmas.{address_fits, can_root, version_by, HasVersion}
+use Rattle.fc_course.proofs.GrownCdirRootLemmas as rooted
+use Rattle.fc_course.proofs.GrownRootLemmas.{HasVersion, version_by}
 use Rattle.fc_course.proofs.GrownSpaceLemmas as space_of
 use Rattle.fc_course.proofs.PutLemmas.{CopiesNone, put_out, puts_of, source_puts, AreLong}
 use Rattle.fc_course.proofs.GrownVacantLemmas.{at_path, gains}
@@ -90,24 +91,6 @@ use Rattle.fc_course.proofs.ArrivalPreparedLemmas.{new_size}
 use Rattle.fc_laws.proofs.lemmas.nodes.MovingLemmas.{some_long as longer}
 use Rattle.fc_course.proofs.ArrivalLemmas.{directory_long}
 use Rattle.fc_image.proofs.EntriesLemmas.{cases as contains_cases}
-
--- ---- small facts
-
--- a big directory's length is one that is allowed
-big_length : (len : ℕ) (content : Directory) → HasForm forms.Long len content → IsDirectory content → is_big_size len ≡ true
-big_length len (Directory.Big dir) has is = subst (λ (n : ℕ). is_big_size n ≡ true) has is.size
-big_length len (Directory.Small dir) has is = absurd has
-
-big_short : (n : ℕ) → is_big_size n ≡ true → n < 2 ^ 32
-big_short n e =
-    let range = and_parts (nat_le 2048 n) (nat_le n 4194304) (and_parts (is_in_range 2048 4194304 n) (n % 2048 == 0) e).0 in
-    let high = leb-true n 4194304 range.1 in omega (arith, high)
-
--- node 0 is the root's
-at_zero : (nodes : Nodes) (listings : List Listing) (layout : Layout) (sound : AreSound layout listings) (held : HoldObjects nodes listings) (l : Listing) → Contains listings l → number_of nodes l.object.path ≡ Some 0 → l.object.path ≡ []
-at_zero nodes listings layout sound held l listed zero' =
-    ⊎_elim (λ top. ap (λ (o : Object). o.path) (sym top) ∙ root_path layout listings sound) (λ kid. absurd (kid_lower layout listings nodes sound held kid.0 l.object 0 kid.1 kid.2 zero' refl))
-    (root_or_child layout listings sound l.object (listed_directory layout listings sound l listed).0)
 
 module _ (m : Map) (nodes : Nodes) (owners : List Owner) (dir : ℕ) (path : Path) (pr : Prepared) (prep : IsPreparedFor (parts_with m nodes owners) (jobs.Directory dir) (last_name path) pr)
     (growth : Growth) (some : prep.wants.grows ≡ Some growth) (is_map : IsNewMap m)
@@ -183,44 +166,6 @@ module _ (m : Map) (nodes : Nodes) (owners : List Owner) (dir : ℕ) (path : Pat
       grows kind m listings spot.listing P (Command.Cdir path) growth_is ge.again ge.same ge.holder ge.others _ _
       (space_of.lies m nodes owners listings spot.listing.object stay growth (Some plan) prep.spaced.places.dir P to ge.again ge.same ge.holder ge.others)
       (space_of.own_used m nodes owners listings spot.listing.object stay growth (Some plan) prep.spaced.places.dir P to) nodes sound agreed.walked.held spot.listed around.0 around.1 around.2 around.3 ge.told_by ge.kept_by
-
-  -- ---- the root in the record
-
-  big_now : is_big_size P.directory.len ≡ true
-  big_now =
-      let can = prepared.own_can (Layout.New m) nodes listings sound agreed.walked.held spot.listing spot.listed P at agreed.walked.forms form E pr.change ch room prep.ready.made pr.ready rd in
-      big_length P.directory.len (directory_in ch.said.draft) (subst (λ (f : NameForm). HasForm f P.directory.len (directory_in ch.said.draft)) form can.form) can.body
-
-  fits : (2 ≤ P.directory.address / 256) × (P.directory.address < 2 ^ 32)
-  fits = address_fits m P.directory.address is_map (space_of.address_id m nodes owners listings spot.listing.object stay growth (Some plan) prep.spaced.places.dir P to)
-
-  abbrev as_root : RootPlace
-  as_root = record { address = P.directory.address; len = P.directory.len }
-
-  -- A record with a version can have the root's new place.
-  pub rooted : HasVersion m → IfSome (root_of (Some P)) (CanRoot m)
-  rooted version = by (P.directory.node == 0)
-    where
-      by : (b : Bool) → IfSome (cond b (Some as_root) None) (CanRoot m)
-      by true = can_root m as_root version fits.0 big_now
-      by false = tt
-
-  short_len : P.directory.len < 2 ^ 32
-  short_len = big_short P.directory.len big_now
-
-  pub step_of : HasVersion m → IsStepOf m growing (root_of (Some P))
-  step_of version = by (P.directory.node == 0) refl
-    where
-      by : (b : Bool) → (P.directory.node == 0) ≡ b → IsStepOf m growing (cond b (Some as_root) None)
-      by true e = record {
-        top = at_zero nodes listings (Layout.New m) sound agreed.walked.held spot.listing spot.listed (at ∙ ap (λ (n : ℕ). let x : Option ℕ = Some n in x) (eqb-true P.directory.node 0 e));
-        address = refl;
-        len = refl;
-        low = fits.1;
-        short = short_len;
-        can = can_root m as_root version fits.0 big_now;
-      }
-      by false e = longer spot.listing.object.path (λ top. clash (P.directory.node == 0) (eq-eqb P.directory.node 0 (same_some P.directory.node 0 (sym at ∙ ap (number_of nodes) top))) e)
 
   -- ---- as it ran
 
@@ -333,7 +278,7 @@ module _ (m : Map) (nodes : Nodes) (owners : List Owner) (dir : ℕ) (path : Pat
           whose = told.whose (Layout.New m) nodes listings sound agreed.walked.held spot.listing spot.listed P at agreed.walked.forms (directory_in ch.said.draft) kids' O (listing ∷ []) number around.0 around.1 around.2 ch.said ch.others
               prep.ready.made pr.ready rd ge bytes (λ q there. ap place_of (makes q there) ∙ piece_place) (λ q there. absurd (given_none q there));
           out = put_out (Layout.New m) was bytes image pr.ready plain prep.ready.carried long changed.written changed.others;
-          map = map_grows m m' growing (root_of (Some P)) kind kind_is.0 was image view before stepped.edited (step_of version) changed.copies;
+          map = map_grows m m' growing (root_of (Some P)) kind kind_is.0 was image view before stepped.edited (rooted.step_of m nodes owners dir path pr prep growth some is_map kind root listings agreed spot ge.again ge.same ge.holder ge.others version) changed.copies;
         }
 
         its_space : IsInNewSpace m (new_dir_size (dir_form (Layout.New m))) 0 x.id x.parts O

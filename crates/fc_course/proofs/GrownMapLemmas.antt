@@ -88,10 +88,10 @@ module _ (m : Map) (is : IsNewMap m) (p : RootPlace) where
     | inr more ↦ (elim more [ inl middle ↦ omega (arith, middle) | inr large ↦ omega (arith, large) ])
   ]
 
-  fits : 56 ≤ length (sector_of m 0)
+  pub fits : 56 ≤ length (sector_of m 0)
   fits = let whole = is.whole 0 some_zone in let low = sector_long in omega (arith, whole, low)
 
-  there : sector_of (with_zone m 0 (with_root (sector_of m 0) p.address p.len)) 0 ≡ with_root (sector_of m 0) p.address p.len
+  pub there : sector_of (with_zone m 0 (with_root (sector_of m 0) p.address p.len)) 0 ≡ with_root (sector_of m 0) p.address p.len
   there = let all = is.all in let some = some_zone in get_or-set_same m.zones 0 (with_root (sector_of m 0) p.address p.len) [] (omega (arith, all, some))
 
   elsewhere : (z : ℕ) → (z == 0) ≡ false → sector_of (with_zone m 0 (with_root (sector_of m 0) p.address p.len)) z ≡ sector_of m z

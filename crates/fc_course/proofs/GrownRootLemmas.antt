@@ -1,4 +1,4 @@
--- The root in the record of the disc: that it can have another place, and of an opened image it has a version.
+-- The root in the record of the disc: that it can have another place, since the record has a version.
 use Rattle.std.proofs.Common.{◌≡◌, ◌<◌, ◌≤◌, ◌/◌, ◌^◌, ◌==◌, ◌&&◌, ◌||◌, ℕ, zero, suc, Bool, true, false, cond, List, refl, sym, ap, ap₂, subst, ◌∙◌, arith, Option, Some, None}
 use Rattle.std.specs.Prelude.{Ok, nat_le, nat_lt}
 use Rattle.std.proofs.lemmas.Bool.{le-leb, leb-true, lt-ltb, ltb-true}
@@ -26,6 +26,7 @@ use Rattle.fc_writing.specs.Steps.{CanRoot}
 use Rattle.fc_slack.proofs.LowLemmas.{or_true}
 use Rattle.fc_growths.proofs.RootLemmas.{no_difference, raw_of}
 use Rattle.fc_record.proofs.KindLemmas.{and_first, and_second}
+use Rattle.fc_course.specs.Holdings.{TellsVersion}
 
 -- The map's own record has a version above 0, as it is on a disc with big directories.
 abbrev pub HasVersion : Map → Type 0
@@ -51,6 +52,10 @@ version_by kind r image v m before long =
     let opened = open_by image kind r v m before.new_kind before.opens before.layout in
     let version : s.version ≡ m.geometry.version = ap (λ (x : DiscRecord). x.version) same ∙ sym (ap (λ (g : Geometry). g.version) opened.geometry_is) in
     subst (λ (n : ℕ). 0 < n) (sym version) (some_version m.geometry.version long)
+
+-- So has one of a disc with big directories, whose record tells its version.
+pub version_of : (m : Map) → TellsVersion (Layout.New m) → dir_form (Layout.New m) ≡ forms.Long → HasVersion m
+version_of m tells long = subst (λ (n : ℕ). 0 < n) (sym tells) (some_version m.geometry.version long)
 
 -- ---- addresses
 

@@ -207,7 +207,7 @@ module _ (m : Map) (nodes : Nodes) (owners : List Owner) (listings : List Listin
     pub there_address : p.directory.address ≡ o.entry.address
     there_address = ap (λ (d : Regrowth). d.address) there.directory ∙ address_is
 
-    there_len : p.directory.len ≡ g.len
+    pub there_len : p.directory.len ≡ g.len
     there_len = ap (λ (d : Regrowth). d.len) there.directory
 
     pub there_at : sectors_at (Layout.New m) o.entry.address g.len ≡ Some (sectors_in p.extents.items)

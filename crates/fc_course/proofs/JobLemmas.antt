@@ -1,5 +1,6 @@
 -- The laws of each job that has them.
-use Rattle.std.proofs.Common.{◌<◌, ◌^◌, ℕ, List, ◌≡◌, Bool, true, false, refl}
+use Rattle.std.proofs.Common.{◌<◌, ◌^◌, ℕ, List, ◌≡◌, Bool, true, false, refl, Option, Some, None}
+use Rattle.std.specs.Option.{option_map}
 use Rattle.fc_alloc.specs.declared.owner.Owner.{Owner}
 use Rattle.fc_record.specs.declared.Kind.{Kind}
 use Rattle.fc_image.specs.Layout.{Layout}
@@ -15,11 +16,14 @@ use Rattle.fc_tree.specs.Agree.{Agree}
 use Rattle.fc_change.specs.declared.job.FileWords.{FileWords}
 use Rattle.fc_change.specs.declared.job.Job.{Job}
 use Rattle.fc_change.specs.declared.job.Job.TheVariants as jobs
+use Rattle.fc_course.specs.Holdings.{TellsVersion}
 use Rattle.fc_course.specs.Jobs.{HasLaws, IsJobFor, IsJudged, NoneGrows}
 use Rattle.fc_course.specs.Laws.{JobLaws}
 use Rattle.fc_course.specs.Run.{IsMapOf}
 use Rattle.fc_course.proofs.ArrivalLemmas.{Arrival, IsShort, job_of}
 use Rattle.fc_course.proofs.ArrivalTakenLemmas.{GrowsNone}
+use Rattle.fc_course.proofs.GrownCdirLawsLemmas.{grown_laws}
+use Rattle.fc_course.proofs.GrownNeedLemmas.{grows_by, none_old, to_bytes}
 use Rattle.fc_course.proofs.NewArrivalRunLemmas as new
 use Rattle.fc_course.proofs.OldArrivalRunLemmas as old
 use Rattle.fc_course.proofs.NewOverRunLemmas as new_over
@@ -33,7 +37,8 @@ use Rattle.fc_names.specs.Names.{Path}
 use Rattle.fc_outcomes.specs.Copying.{CopyingLaw}
 use Rattle.fc_outcomes.specs.Moving.{MovingLaw}
 use Rattle.fc_refusals.specs.declared.target.Renaming.{Renaming}
-use Rattle.fc_change.specs.Needs.{is_copied, len_at}
+use Rattle.fc_change.specs.declared.job.Wants.{Wants}
+use Rattle.fc_change.specs.Needs.{AreWants, is_copied, len_at}
 use Rattle.fc_course.proofs.CopyingRunLemmas.{copy_laws}
 use Rattle.fc_course.proofs.MoveRunLemmas.{move_laws}
 use Rattle.fc_course.proofs.MoveStageLemmas.{IsRenamer, renamer}
@@ -43,6 +48,18 @@ arrival_of : AdditionLaw → (layout : Layout) (nodes : Nodes) (owners : List Ow
     → PlacesSuffice layout → Agree kind (parts layout nodes owners) → (c : Command) → IsJobFor c (parts layout nodes owners) (job_of dir x) name bytes → JobLaws kind (parts layout nodes owners) (job_of dir x) name bytes
 arrival_of law (Layout.New m) nodes owners dir x name bytes kind few none is suffice a c j = new.arrival_laws law m nodes owners is kind a dir x few name bytes c j none
 arrival_of law (Layout.Old space) nodes owners dir x name bytes kind few none is suffice a c j = old.arrival_laws law space nodes owners is.0 is.1 suffice kind a dir x few name bytes c j none
+
+-- of a new directory, whether the one that gets it grows or not
+directory_of : AdditionLaw → (layout : Layout) (nodes : Nodes) (owners : List Owner) (dir : ℕ) (name bytes : List ℕ) (kind : Kind) → IsMapOf layout → TellsVersion layout → PlacesSuffice layout
+    → Agree kind (parts layout nodes owners) → (c : Command) → IsJobFor c (parts layout nodes owners) (jobs.Directory dir) name bytes → JobLaws kind (parts layout nodes owners) (jobs.Directory dir) name bytes
+directory_of law (Layout.Old space) nodes owners dir name bytes kind is tells suffice a c j =
+    arrival_of law (Layout.Old space) nodes owners dir Arrival.Makes name bytes kind tt (none_old (parts (Layout.Old space) nodes owners) kind a c dir Arrival.Makes name bytes j space refl) is suffice a c j
+directory_of law (Layout.New m) nodes owners dir name bytes kind is tells suffice a c j =
+    let grows = grows_by (parts (Layout.New m) nodes owners) kind a c dir Arrival.Makes name bytes j in by grows.0 grows.1
+  where
+    by : (o : Option ℕ) → ((w : Wants) → AreWants (parts (Layout.New m) nodes owners) (jobs.Directory dir) name w → w.grows ≡ option_map (to_bytes dir) o) → JobLaws kind (parts (Layout.New m) nodes owners) (jobs.Directory dir) name bytes
+    by None none = arrival_of law (Layout.New m) nodes owners dir Arrival.Makes name bytes kind tt none is suffice a c j
+    by (Some n) some = grown_laws m nodes owners is tells kind a dir (to_bytes dir n) name bytes c j some
 
 -- of a file that is saved over
 over_of : AdditionLaw → (layout : Layout) (nodes : Nodes) (owners : List Owner) (t : Target) (words : FileWords) (name bytes : List ℕ) (kind : Kind) → words.len < 2 ^ 32 → IsMapOf layout → PlacesSuffice layout
@@ -62,21 +79,21 @@ move_of moves copies (Layout.New m) nodes owners r from to name bytes kind is su
     by false e = move_laws moves (Layout.New m) nodes owners r from to name bytes kind is suffice a it grows e
 
 pub laws_of : DeletionLaw → RewordingLaw → AdditionLaw → MovingLaw → CopyingLaw → (layout : Layout) (nodes : Nodes) (owners : List Owner) (job : Job) (name bytes : List ℕ) (kind : Kind) → HasLaws (parts layout nodes owners) job name → IsMapOf layout
-    → PlacesSuffice layout → Agree kind (parts layout nodes owners) → IsJudged (parts layout nodes owners) job name bytes → JobLaws kind (parts layout nodes owners) job name bytes
-laws_of deletes rewords adds moves copies layout nodes owners (jobs.Removal t) name bytes kind has is suffice a judged =
+    → TellsVersion layout → PlacesSuffice layout → Agree kind (parts layout nodes owners) → IsJudged (parts layout nodes owners) job name bytes → JobLaws kind (parts layout nodes owners) job name bytes
+laws_of deletes rewords adds moves copies layout nodes owners (jobs.Removal t) name bytes kind has is tells suffice a judged =
     let mine = may_go (parts layout nodes owners) kind a judged.0 t name bytes judged.1 in removal_laws deletes layout nodes owners t mine.0 name bytes kind is suffice a mine.2
-laws_of deletes rewords adds moves copies layout nodes owners (jobs.Words t words) name bytes kind has is suffice a judged =
+laws_of deletes rewords adds moves copies layout nodes owners (jobs.Words t words) name bytes kind has is tells suffice a judged =
     let mine = targets (parts layout nodes owners) kind a judged.0 t (Wording.Set words) name bytes judged.1 in
     rewording_laws rewords layout nodes owners t (Wording.Set words) mine.0 name bytes kind is suffice a mine.2 has
-laws_of deletes rewords adds moves copies layout nodes owners (jobs.Marks t marks) name bytes kind has is suffice a judged =
+laws_of deletes rewords adds moves copies layout nodes owners (jobs.Marks t marks) name bytes kind has is tells suffice a judged =
     let mine = targets (parts layout nodes owners) kind a judged.0 t (Wording.Mark marks) name bytes judged.1 in
     rewording_laws rewords layout nodes owners t (Wording.Mark marks) mine.0 name bytes kind is suffice a mine.2 has
-laws_of deletes rewords adds moves copies layout nodes owners (jobs.Directory dir) name bytes kind has is suffice a judged =
-    arrival_of adds layout nodes owners dir Arrival.Makes name bytes kind tt has is suffice a judged.0 judged.1
-laws_of deletes rewords adds moves copies layout nodes owners (jobs.File (slots.New dir) words) name bytes kind has is suffice a judged =
+laws_of deletes rewords adds moves copies layout nodes owners (jobs.Directory dir) name bytes kind has is tells suffice a judged =
+    directory_of adds layout nodes owners dir name bytes kind is tells suffice a judged.0 judged.1
+laws_of deletes rewords adds moves copies layout nodes owners (jobs.File (slots.New dir) words) name bytes kind has is tells suffice a judged =
     arrival_of adds layout nodes owners dir (Arrival.Saves words) name bytes kind has.0 has.1 is suffice a judged.0 judged.1
-laws_of deletes rewords adds moves copies layout nodes owners (jobs.File (slots.Over target) words) name bytes kind has is suffice a judged =
+laws_of deletes rewords adds moves copies layout nodes owners (jobs.File (slots.Over target) words) name bytes kind has is tells suffice a judged =
     over_of adds layout nodes owners target words name bytes kind has is suffice a judged.0 judged.1
-laws_of deletes rewords adds moves copies layout nodes owners (jobs.Move r) name bytes kind has is suffice a judged =
+laws_of deletes rewords adds moves copies layout nodes owners (jobs.Move r) name bytes kind has is tells suffice a judged =
     let mine = renamer (parts layout nodes owners) kind a judged.0 r name bytes judged.1 in
     move_of moves copies layout nodes owners r mine.0 mine.1 name bytes kind is suffice a mine.3 has.0 has.1

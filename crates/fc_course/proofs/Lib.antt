@@ -127,3 +127,10 @@ pub mod GrownSaidLemmas
 pub mod GrownCdirMayLemmas
 pub mod GrownStageLemmas
 pub mod GrownCdirStageLemmas
+pub mod VersionLemmas
+pub mod GrownApartLemmas
+pub mod GrownPutLemmas
+pub mod GrownCdirRootLemmas
+pub mod GrownCdirPutLemmas
+pub mod GrownNeedLemmas
+pub mod GrownCdirLawsLemmas

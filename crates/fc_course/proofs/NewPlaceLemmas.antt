@@ -71,7 +71,7 @@ pub record IsRoomBeside (m : Map) (objects : List Object) (sectors : List ℕ) :
 -- ---- holes
 
 -- holes lie on the disc,
-hole_on_disc : (m : Map) → IsNewMap m → (s : ℕ) → is_among (hole_sectors (Layout.New m)) s ≡ true → s < disc_sectors (Layout.New m)
+pub hole_on_disc : (m : Map) → IsNewMap m → (s : ℕ) → is_among (hole_sectors (Layout.New m)) s ≡ true → s < disc_sectors (Layout.New m)
 hole_on_disc m is s i =
     let facts = new_facts m is in
     let p = holder_of m.geometry (hole_runs m) s i in
@@ -79,7 +79,7 @@ hole_on_disc m is s i =
 
 module _ (kind : Kind) (m : Map) (nodes : Nodes) (owners : List Owner) (root : Node) (listings : List Listing) (agreed : AgreeOn kind m nodes owners root listings) where
   -- and apart from the map.
-  hole_apart : (sectors : List ℕ) → ((s : ℕ) → is_among sectors s ≡ true → is_among (hole_sectors (Layout.New m)) s ≡ true) → is_apart sectors (map_sectors m.geometry) ≡ true
+  pub hole_apart : (sectors : List ℕ) → ((s : ℕ) → is_among sectors s ≡ true → is_among (hole_sectors (Layout.New m)) s ≡ true) → is_apart sectors (map_sectors m.geometry) ≡ true
   hole_apart sectors holes =
       apart_from sectors (map_sectors m.geometry)
       (λ s i j. clash (is_among (hole_sectors (Layout.New m)) s) (holes s i)

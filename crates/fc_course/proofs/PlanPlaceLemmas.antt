@@ -1,6 +1,6 @@
 -- The sectors of a plan, by the map that it was made of: each once, and in holes; and where its identifier leads to once it has them.
 use Rattle.std.proofs.Common.{◌≡◌, ◌<◌, ◌≤◌, ◌+◌, ◌-◌, ◌*◌, inl, inr, ℕ, zero, suc, Bool, true, false, cond, ◌||◌, ◌==◌, List, [], ◌∷◌, ◌++◌, drop, filter, length, take, refl, sym, ap, subst, ◌∙◌, arith}
-use Rattle.std.specs.Prelude.{Contains}
+use Rattle.std.specs.Prelude.{AllPairs, Contains}
 use Rattle.std.specs.Int.{div_ceil}
 use Rattle.std.specs.List.{range_with_len}
 use Rattle.std.proofs.Math.Nat.{div-mul-le_self, mul-le-mul_right}
@@ -46,7 +46,7 @@ taken_Distinct (suc n) (x ∷ xs) d = (unless (is_among (take n xs) x) (λ h. cl
 -- ---- fronts of holes
 
 -- a sector of a front lies in its hole
-front_holds : (g : Geometry) (hole part : ZoneRun) (s : ℕ) → 0 < g.sector → IsFront g hole part → HoldsSector g part s → HoldsSector g hole s
+pub front_holds : (g : Geometry) (hole part : ZoneRun) (s : ℕ) → 0 < g.sector → IsFront g hole part → HoldsSector g part s → HoldsSector g hole s
 front_holds g hole part s size front holds =
     let place = same_place hole part front.at_front in
     let first : first_sector g hole ≡ first_sector g part = λ i. first_sector g (place.0 i, record { start = place.1 i; len = part.1.len; kind = part.1.kind }) in
@@ -58,12 +58,67 @@ front_holds g hole part s size front holds =
     let to = holds.to in
     record { from = omega (arith, first, from); to = omega (arith, first, to, count) }
 
+-- Parts that have a sector in common begin at one place.
+abbrev pub BeginAsOne : Geometry → List ZoneRun → Type 0
+BeginAsOne g ps = (p q : ZoneRun) (s : ℕ) → Contains ps p → Contains ps q → HoldsSector g p s → HoldsSector g q s → (p.0 ≡ q.0) × (p.1.start ≡ q.1.start)
+
+module _ (g : Geometry) where
+  never_both : (p q : ZoneRun) → BeginsBefore p q → (p.0 ≡ q.0) × (p.1.start ≡ q.1.start) → ⊥
+  never_both p q before same =
+      elim before [
+        | inl zone ↦ omega (arith, zone, same.0)
+        | inr place ↦ (let later = place.1 in omega (arith, later, same.1))
+      ]
+
+  parts_Distinct : (t : ZoneRun → Bool) (ps : List ZoneRun) → Rising ps → BeginAsOne g ps → Distinct (sectors_of g (filter t ps))
+  parts_Distinct t [] rising one = tt
+  parts_Distinct t (p ∷ ps) rising one = by (t p) (parts_Distinct t ps rising.1 (λ q r s at_q at_r. one q r s (contains_later p ps q at_q) (contains_later p ps r at_r)))
+    where
+      by : (b : Bool) → Distinct (sectors_of g (filter t ps)) → Distinct (sectors_of g (cond b (p ∷ filter t ps) (filter t ps)))
+      by true rest =
+          Distinct-append (run_sectors g p) (sectors_of g (filter t ps)) (range_Distinct (first_sector g p) (sector_count g p)) rest
+          (λ s here later.
+          let r = range_in (first_sector g p) (sector_count g p) s here in
+          let q = holder_of g (filter t ps) s later in
+          let q_in = (filter_in t ps q.0 q.1.0).0 in
+          never_both p q.0 (All-contains (BeginsBefore p) ps q.0 (All-from_recursion (BeginsBefore p) ps rising.0) q_in)
+          (one p q.0 s (contains_here p ps) (contains_later p ps q.0 q_in) (record { from = r.0; to = r.1 }) q.1.1))
+      by false rest = rest
+
+  -- So the sectors of a plan of such parts, which rise, are different ones.
+  module _ (bytes : ℕ) (plan : Plan) (rising : AllPairs BeginsBefore (fronts plan.parts.items)) (one : BeginAsOne g (fronts plan.parts.items)) where
+    abbrev taken : List ZoneRun
+    taken = fronts plan.parts.items
+
+    abbrev found : Bool → List ℕ
+    found ahead = sectors_of g (parts_met g plan.id ahead (fronts plan.parts.items))
+
+    found_Distinct : (ahead : Bool) → Distinct (found ahead)
+    found_Distinct ahead = parts_Distinct (λ (p : ZoneRun). is_met g ahead plan.id p.0) taken (rising_of taken rising) one
+
+    -- the search meets a zone once
+    found_once : (s : ℕ) → is_among (found true) s ≡ true → is_among (found false) s ≡ true → ⊥
+    found_once s first second =
+        let p = holder_of g (parts_met g plan.id true taken) s first in
+        let q = holder_of g (parts_met g plan.id false taken) s second in
+        let a = filter_in (λ (r : ZoneRun). is_met g true plan.id r.0) taken p.0 p.1.0 in
+        let b = filter_in (λ (r : ZoneRun). is_met g false plan.id r.0) taken q.0 q.1.0 in
+        let high = leb-true (home_zone g plan.id) p.0.0 a.1 in
+        let low = ltb-true q.0.0 (home_zone g plan.id) b.1 in
+        let same = one p.0 q.0 s a.0 b.0 p.1.1 q.1.1 in
+        omega (arith, high, low, same.0)
+
+    pub once_by : AreApart (place_of_plan g plan bytes)
+    once_by =
+        apart_of (place_of_plan g plan bytes)
+        (taken_Distinct (div_ceil bytes g.sector) (plan_sectors g plan) (Distinct-append (found true) (found false) (found_Distinct true) (found_Distinct false) found_once))
+
 module _ (m : Map) (is : IsNewMap m) where
   shape : IsGeometry m.geometry
   shape = new_shape m is
 
   -- Two fronts of one sector begin at one place.
-  one_place : (p q : ZoneRun) (s : ℕ) → IsFrontOfOne m.geometry (hole_runs m) p → IsFrontOfOne m.geometry (hole_runs m) q → HoldsSector m.geometry p s → HoldsSector m.geometry q s → (p.0 ≡ q.0) × (p.1.start ≡ q.1.start)
+  pub one_place : (p q : ZoneRun) (s : ℕ) → IsFrontOfOne m.geometry (hole_runs m) p → IsFrontOfOne m.geometry (hole_runs m) q → HoldsSector m.geometry p s → HoldsSector m.geometry q s → (p.0 ≡ q.0) × (p.1.start ≡ q.1.start)
   one_place p q s a b in_p in_q =
       let run = λ (r : ZoneRun). is_hole r.1.kind in
       let one = runs_apart m shape is.right a.0 b.0 (filter_in run (all_runs m) a.0 a.1).0 (filter_in run (all_runs m) b.0 b.1).0 s
@@ -71,29 +126,6 @@ module _ (m : Map) (is : IsNewMap m) where
       let at_a = same_place a.0 p a.2.at_front in
       let at_b = same_place b.0 q b.2.at_front in
       (sym at_a.0 ∙ ap (λ (r : ZoneRun). r.0) one ∙ at_b.0, sym at_a.1 ∙ ap (λ (r : ZoneRun). r.1.start) one ∙ at_b.1)
-
-  never_both : (p q : ZoneRun) (s : ℕ) → IsFrontOfOne m.geometry (hole_runs m) p → IsFrontOfOne m.geometry (hole_runs m) q → BeginsBefore p q → HoldsSector m.geometry p s → HoldsSector m.geometry q s → ⊥
-  never_both p q s a b before in_p in_q =
-      let same = one_place p q s a b in_p in_q in
-      elim before [
-        | inl zone ↦ omega (arith, zone, same.0)
-        | inr place ↦ (let later = place.1 in omega (arith, later, same.1))
-      ]
-
-  parts_Distinct : (t : ZoneRun → Bool) (ps : List ZoneRun) → Rising ps → ((p : ZoneRun) → Contains ps p → IsFrontOfOne m.geometry (hole_runs m) p) → Distinct (sectors_of m.geometry (filter t ps))
-  parts_Distinct t [] rising fronts = tt
-  parts_Distinct t (p ∷ ps) rising fronts = by (t p) (parts_Distinct t ps rising.1 (λ q at. fronts q (contains_later p ps q at)))
-    where
-      by : (b : Bool) → Distinct (sectors_of m.geometry (filter t ps)) → Distinct (sectors_of m.geometry (cond b (p ∷ filter t ps) (filter t ps)))
-      by true rest =
-          Distinct-append (run_sectors m.geometry p) (sectors_of m.geometry (filter t ps)) (range_Distinct (first_sector m.geometry p) (sector_count m.geometry p)) rest
-          (λ s here later.
-          let r = range_in (first_sector m.geometry p) (sector_count m.geometry p) s here in
-          let q = holder_of m.geometry (filter t ps) s later in
-          let q_in = (filter_in t ps q.0 q.1.0).0 in
-          never_both p q.0 s (fronts p (contains_here p ps)) (fronts q.0 (contains_later p ps q.0 q_in)) (All-contains (BeginsBefore p) ps q.0 (All-from_recursion (BeginsBefore p) ps rising.0) q_in)
-          (record { from = r.0; to = r.1 }) q.1.1)
-      by false rest = rest
 
   -- ---- a plan
 
@@ -107,26 +139,9 @@ module _ (m : Map) (is : IsNewMap m) where
     abbrev met : Bool → List ℕ
     met ahead = sectors_of m.geometry (parts_met m.geometry plan.id ahead parts)
 
-    met_Distinct : (ahead : Bool) → Distinct (met ahead)
-    met_Distinct ahead = parts_Distinct (λ (p : ZoneRun). is_met m.geometry ahead plan.id p.0) parts (rising_of parts own.can.rising) front
-
-    -- the search meets a zone once
-    met_once : (s : ℕ) → is_among (met true) s ≡ true → is_among (met false) s ≡ true → ⊥
-    met_once s first second =
-        let p = holder_of m.geometry (parts_met m.geometry plan.id true parts) s first in
-        let q = holder_of m.geometry (parts_met m.geometry plan.id false parts) s second in
-        let a = filter_in (λ (r : ZoneRun). is_met m.geometry true plan.id r.0) parts p.0 p.1.0 in
-        let b = filter_in (λ (r : ZoneRun). is_met m.geometry false plan.id r.0) parts q.0 q.1.0 in
-        let high = leb-true (home_zone m.geometry plan.id) p.0.0 a.1 in
-        let low = ltb-true q.0.0 (home_zone m.geometry plan.id) b.1 in
-        let same = one_place p.0 q.0 s (front p.0 a.0) (front q.0 b.0) p.1.1 q.1.1 in
-        omega (arith, high, low, same.0)
-
     -- Its sectors are different ones,
     pub plan_once : AreApart (place_of_plan m.geometry plan bytes)
-    plan_once =
-        apart_of (place_of_plan m.geometry plan bytes)
-        (taken_Distinct (div_ceil bytes m.geometry.sector) (plan_sectors m.geometry plan) (Distinct-append (met true) (met false) (met_Distinct true) (met_Distinct false) met_once))
+    plan_once = once_by m.geometry bytes plan own.can.rising (λ p q s at_p at_q in_p in_q. one_place p q s (front p at_p) (front q at_q) in_p in_q)
 
     cut : place_of_plan m.geometry plan bytes ≡ take (div_ceil bytes m.geometry.sector) (met true) ++ take (div_ceil bytes m.geometry.sector - length (met true)) (met false)
     cut = take_append (div_ceil bytes m.geometry.sector) (met true) (met false)

@@ -3,6 +3,8 @@ use Rattle.std.specs.Prelude.{◌≡◌, ◌≤◌, ◌+◌, ◌*◌, ℕ, List}
 use Rattle.std.specs.Option.{ForSome}
 use Rattle.fc_device.specs.declared.disk.Disk.{Ghosts}
 use Rattle.fc_record.specs.declared.Kind.{Kind}
+use Rattle.fc_record.specs.Kinds.{map_record}
+use Rattle.fc_newmap.specs.Map.{sector_of}
 use Rattle.fc_image.specs.Layout.{Layout, disc_sectors, sector_bytes}
 use Rattle.fc_space.specs.Space.{layout_of}
 use Rattle.fc_tree.specs.Agree.{Agree}
@@ -28,12 +30,18 @@ abbrev pub HoldsMap : Layout → ℕ → Type 0
 HoldsMap (Layout.New m) sectors = m.geometry.map_sector + 2 * m.geometry.zones ≤ sectors
 HoldsMap (Layout.Old space) sectors = (2 ≤ sectors) × LieBehind space
 
--- The holdings stand for the disk: the disk has the disc's sectors, as many as the disc and its map take at least; the parts agree with
--- each other; and if the disk tells its bytes, these are the parts of its image, and its copies are as they are known to be.
+-- The record in a new map tells the disc's version, by which its directories are big ones.
+abbrev pub TellsVersion : Layout → Type 0
+TellsVersion (Layout.New m) = (map_record (sector_of m 0)).version ≡ m.geometry.version
+TellsVersion (Layout.Old space) = Unit {0}
+
+-- The holdings stand for the disk: the disk has the disc's sectors, as many as the disc and its map take at least; the map's record
+-- tells the disc's version; the parts agree with each other; and if the disk tells its bytes, these are the parts of its image, and its copies are as they are known to be.
 pub record Stands {D : Type 0} (d : Ghosts D) (h : Holdings) (disk : D) : Type 0 where
   pub size : d.sector_size disk ≡ sector_bytes (parts_of h).layout
   pub room : disc_sectors (parts_of h).layout ≤ d.sectors disk
   pub map_room : HoldsMap (parts_of h).layout (d.sectors disk)
+  pub version : TellsVersion (parts_of h).layout
   pub agree : (kind : Kind) × Agree kind (parts_of h)
   pub image : StandsForImage (parts_of h) (d.bytes disk)
   pub copies : ForSome (d.bytes disk) (CopiesAre h.copies (parts_of h).layout)

@@ -19,6 +19,7 @@ use Rattle.fc_change.specs.After.{CanTakeOver, nodes_more, owners_admitted}
 use Rattle.fc_change.specs.Needs.{AreWants, HasRoomOf}
 use Rattle.fc_change.specs.Shortage.{shortage}
 use Rattle.fc_course.specs.declared.stages.Prepared.{Prepared}
+use Rattle.fc_course.specs.Holdings.{TellsVersion}
 use Rattle.fc_course.specs.Jobs.{HasLaws, IsJobFor, IsJudged}
 use Rattle.fc_course.specs.Promises.{ChangesParts, WritesPlacesOf}
 use Rattle.fc_course.specs.Run.{IsMapOf, IsRun, KeepsBehind}
@@ -50,4 +51,4 @@ pub record JobLaws (kind : Kind) (h : Parts) (job : Job) (name bytes : List ℕ)
 -- ---- the jobs that have them
 
 abbrev pub CourseLaw : Type 0
-CourseLaw = (h : Parts) (job : Job) (name bytes : List ℕ) (kind : Kind) → HasLaws h job name → IsMapOf h.layout → PlacesSuffice h.layout → Agree kind h → IsJudged h job name bytes → JobLaws kind h job name bytes
+CourseLaw = (h : Parts) (job : Job) (name bytes : List ℕ) (kind : Kind) → HasLaws h job name → IsMapOf h.layout → TellsVersion h.layout → PlacesSuffice h.layout → Agree kind h → IsJudged h job name bytes → JobLaws kind h job name bytes
