@@ -6,7 +6,7 @@ mod commands;
 mod judged;
 mod name;
 
-pub use commands::cdir::cdir_job;
+pub use commands::cdir::{cdir, cdir_job};
 pub use commands::delete::{delete, delete_job};
 pub use commands::mark::{can_mark, mark, mark_job};
 pub use commands::rename::rename_job;

@@ -8,8 +8,8 @@ use Rattle.fc_course.specs.Holdings.{parts_of}
 use Rattle.fc_commands.proofs.JudgmentLemmas.{by_form, judged_job, not_judged}
 use Rattle.fc_commands.proofs.commands.cdir.cdir_job.Goals as goal
 
-pub returns : goal.returns
-returns c =
+pub returns-clause-judged : goal.returns-clause-judged
+returns-clause-judged c =
     let h = parts_of c.args.holdings.now in
     judged_job c.args.read_only (Command.Cdir c.args.path.now) h (jobs.Directory c.in_ok-dir.dir) c.in_ok-name.name []
     (λ v sound held. let vacant = c.in_ok-dir.ensures.vacant v.layout v.listings sound held.nodes in (vacant, c.in_ok-name.ensures vacant.no_root))
