@@ -96,18 +96,16 @@ pub either_units : (g : Geometry) (n : ℕ) (b : Bool) → (let u : ℕ = cond b
 either_units g n true = refl
 either_units g n false = refl
 
+-- the same length and the same slack, whether a directory grows or not
 module _ (m : Map) (nodes : Nodes) (owners : List Owner) (is_map : IsNewMap m) (dir : ℕ) (x : Arrival) (path : Path) (w : Wants)
-    (is : IsWanted (record { layout = Layout.New m; nodes = nodes; owners = owners }) dir x (last_name path) w) (bytes : List ℕ) (c : Command) (brings : Brings x path bytes c) (v : Opened)
+    (size : w.bytes ≡ bytes_of (dir_form (Layout.New m)) x) (shares : w.shares ≡ shares_of dir x) (bytes : List ℕ) (c : Command) (brings : Brings x path bytes c) (v : Opened)
     (at : v.layout ≡ Layout.New m) (sound : AreSound (Layout.New m) v.listings) (held : HoldObjects nodes v.listings) (owned : AreOwners owners nodes (Layout.New m) (objects_of v.listings))
     (spot : IsVacant nodes v.listings path dir) where
-  abbrev h : Parts
-  h = record { layout = Layout.New m; nodes = nodes; owners = owners }
+  pub length_same : new_length v c ≡ w.bytes
+  length_same = length_is x path bytes c brings v ∙ ap (λ (l : Layout). bytes_of (dir_form l) x) at ∙ sym size
 
-  length_same : new_length v c ≡ w.bytes
-  length_same = length_is x path bytes c brings v ∙ ap (λ (l : Layout). bytes_of (dir_form l) x) at ∙ sym is.bytes
-
-  slack_same : slack_for v c ≡ slack_wanted m owners w
-  slack_same = by x brings is.slack is.bytes
+  pub slack_same : slack_for v c ≡ slack_wanted m owners w
+  slack_same = by x brings shares size
     where
       found : (len : ℕ) → len ≡ w.bytes → slack_in v.layout (objects_of v.listings) (holder path) len ≡ slack_left m owners dir w.bytes
       found len e =
@@ -122,10 +120,18 @@ module _ (m : Map) (nodes : Nodes) (owners : List Owner) (is_map : IsNewMap m) (
       by (Arrival.Saves words) (inl b) shares size = ap (slack_for v) b.0 ∙ found (length bytes) (sym b.1 ∙ sym size) ∙ wanted (Some dir) shares
       by (Arrival.Saves words) (inr b) shares size = ap (slack_for v) b.0 ∙ found words.len (sym size) ∙ wanted (Some dir) shares
 
+module _ (m : Map) (nodes : Nodes) (owners : List Owner) (is_map : IsNewMap m) (dir : ℕ) (x : Arrival) (path : Path) (w : Wants)
+    (is : IsWanted (record { layout = Layout.New m; nodes = nodes; owners = owners }) dir x (last_name path) w) (bytes : List ℕ) (c : Command) (brings : Brings x path bytes c) (v : Opened)
+    (at : v.layout ≡ Layout.New m) (sound : AreSound (Layout.New m) v.listings) (held : HoldObjects nodes v.listings) (owned : AreOwners owners nodes (Layout.New m) (objects_of v.listings))
+    (spot : IsVacant nodes v.listings path dir) where
+  abbrev h : Parts
+  h = record { layout = Layout.New m; nodes = nodes; owners = owners }
+
   pub new_short : short v c ≡ shortage h w
   new_short =
       placing.short_is m v c at (fits (Layout.New m) nodes path dir x bytes c brings v sound held spot is.room)
-      ∙ ap₂ (λ (s : Option (ℕ × ℕ)) (n : ℕ). space_refusal m (cond (is_some s) 0 (units m.geometry n))) slack_same length_same
+      ∙ ap₂ (λ (s : Option (ℕ × ℕ)) (n : ℕ). space_refusal m (cond (is_some s) 0 (units m.geometry n))) (slack_same m nodes owners is_map dir x path w is.bytes is.slack bytes c brings v at sound held owned spot)
+      (length_same m nodes owners is_map dir x path w is.bytes is.slack bytes c brings v at sound held owned spot)
       ∙ ap (space_refusal m) (either_units m.geometry w.bytes (is_some (slack_wanted m owners w)))
       ∙ sym (none_more m (bytes_left m owners w))
       ∙ sym (ap (λ (g : Option Growth). short_of m (bytes_left m owners w) (is_grown_alone h g) (grown_bytes m h g)) is.grows)

@@ -28,7 +28,7 @@ use Rattle.fc_laws.specs.agree.Agreed.{AgreeOn}
 use Rattle.fc_laws.specs.nodes.Edits.{Nodes, OwnersEdited, owners_with}
 use Rattle.fc_laws.proofs.lemmas.agree.BeforeLemmas.{agreed_law}
 use Rattle.fc_laws.proofs.lemmas.nodes.ListLemmas.{put_at}
-use Rattle.fc_placing.specs.Leaving.{OwnOnly, left_among}
+use Rattle.fc_placing.specs.Leaving.{left_among}
 use Rattle.fc_plan.specs.declared.plan.Plan.{Plan}
 use Rattle.fc_plan.specs.Applied.{id_in, parts_in}
 use Rattle.fc_plan.specs.Giving.{is_one_of}
@@ -64,6 +64,7 @@ use Rattle.fc_course.proofs.GrownSpaceLemmas.{IsToGrow, alone, growing_of}
 use Rattle.fc_course.proofs.GrownSpaceLemmas as space_of
 use Rattle.fc_course.proofs.NodeLemmas as its_node
 use Rattle.fc_course.proofs.GrownBackLemmas as back_of
+use Rattle.fc_course.proofs.GrownBackLemmas.{OwnOnlyOf}
 use Rattle.fc_course.proofs.ArrivalEditLemmas.{map_insert}
 use Rattle.fc_tree.proofs.EndLemmas.{no_twin as apart_names}
 
@@ -147,7 +148,7 @@ module _ (kind : Kind) (m : Map) (nodes : Nodes) (owners : List Owner) (root : N
         -- The object has this plan, and `stay` are all other objects than l.
         module _ (m' : Map) (owners' : List Owner) (stay : List Object) (g : Growth) (plan dir : Option Plan) (place_root : Option RootPlace) (back : List ℕ) (to : IsToGrow m nodes owners listings l.object stay g plan dir p)
             (stepped : IsGrownStepped m m' plan dir (alone m nodes owners listings l.object stay g plan dir p to) place_root back)
-            (fresh : OwnOnly m None (record { path = l.object.path ++ e.name ∷ []; entry = e; sectors = sectors } ∷ []))
+            (fresh : OwnOnlyOf m (record { path = l.object.path ++ e.name ∷ []; entry = e; sectors = sectors } ∷ []) stay)
             (left : (q : Plan) → dir ≡ Some q → alone m nodes owners listings l.object stay g plan dir p to ≡ false → back ≡ option_to_list (left_among owners g.node None))
             (lost : dir ≡ None → back ≡ []) (was_alone : alone m nodes owners listings l.object stay g plan dir p to ≡ true → back ≡ []) (kept : dir ≡ None → is_one_of back (space_of.own_id m nodes owners listings l.object stay g plan dir p to) ≡ false)
             (near : Path) (at : IsAt (Layout.New m') (record { path = l.object.path ++ e.name ∷ []; entry = e; sectors = sectors }))

@@ -50,6 +50,10 @@ use Rattle.fc_course.proofs.GrownSpaceLemmas as place_of
 use Rattle.fc_changes.proofs.NewPlaceLemmas.{some_there as some_listed}
 use Rattle.fc_record.proofs.KindLemmas.{and_first, and_second}
 
+-- These objects own no identifier that was used, but those that others own.
+abbrev pub OwnOnlyOf : Map → List Object → List Object → Type 0
+OwnOnlyOf m new others = (k : ℕ) → is_used m k ≡ true → list_any (is_owner_of k) new ≡ true → list_any (is_owner_of k) others ≡ true
+
 module _ (m : Map) (nodes : Nodes) (owners : List Owner) (listings : List Listing) (o : Object) (stay : List Object) (g : Growth) (object dir : Option Plan) (p : GrownPlace)
     (to : IsToGrow m nodes owners listings o stay g object dir p) where
   abbrev objects : List Object
@@ -227,18 +231,22 @@ module _ (m : Map) (nodes : Nodes) (owners : List Owner) (listings : List Listin
 
     -- ---- what goes back
 
-    -- `new` come, which own no identifier that was used
-    module _ (new : List Object) (fresh : OwnOnly m None new) (lost : dir ≡ None → back ≡ []) (was_alone : alone ≡ true → back ≡ [])
+    -- `new` come, which own no identifier that was used but those of others
+    module _ (new : List Object) (fresh : OwnOnlyOf m new stay) (lost : dir ≡ None → back ≡ []) (was_alone : alone ≡ true → back ≡ [])
         (left : (q : Plan) → dir ≡ Some q → alone ≡ false → back ≡ option_to_list (left_among owners g.node None)) where
-      none_new : (k : ℕ) → is_used m k ≡ true → list_any (is_owner_of k) new ≡ false
-      none_new k used = fresh k used
+      more_none : (k : ℕ) → is_used m k ≡ true → list_any (is_owner_of k) (new ++ stay) ≡ list_any (is_owner_of k) stay
+      more_none k used = any_append (is_owner_of k) new stay ∙ absorbed (list_any (is_owner_of k) new) (list_any (is_owner_of k) stay) (fresh k used)
+        where
+          absorbed : (a b : Bool) → (a ≡ true → b ≡ true) → (a || b) ≡ b
+          absorbed true b from = sym (from refl)
+          absorbed false b from = refl
 
       -- with its old address it owns what it owned
       owned_there : p.directory.address ≡ o.entry.address → (k : ℕ) → is_used m k ≡ true → is_given_back objects (grown ∷ (new ++ stay)) k ≡ false
       owned_there address k used =
           ap₂ (λ (a b : Bool). a && not b) (owned_same objects (o ∷ stay) k to.others)
           (ap₂ (λ (b c : Bool). (k == 2) || (b || c)) (ap₂ (λ (b : Bool) (a : ℕ). b && (id_of a == k)) (grown_some ∙ sym o_some) address)
-          (any_append (is_owner_of k) new stay ∙ ap (λ (b : Bool). b || list_any (is_owner_of k) stay) (none_new k used)))
+          (more_none k used))
           ∙ never (is_owned (o ∷ stay) k)
         where
           never : (b : Bool) → (b && not b) ≡ false
@@ -246,12 +254,16 @@ module _ (m : Map) (nodes : Nodes) (owners : List Owner) (listings : List Listin
           never false = refl
 
       -- with a new identifier it owns none that was used
-      owns_none : (q : Plan) → Contains (new_ids m) q.id → p.directory.address ≡ 256 * q.id → OwnOnly m None (grown ∷ new)
+      owns_none : (q : Plan) → Contains (new_ids m) q.id → p.directory.address ≡ 256 * q.id → OwnOnly m None (grown ∷ [])
       owns_none q is_new address k used =
-          ap₂ (λ (a b : Bool). a || b)
+          ap (λ (a : Bool). a || false)
           (ap (λ (i : ℕ). has_sectors grown && (i == k)) (ap id_of address ∙ (let z : id_of (256 * q.id) ≡ q.id = omega arith in z))
           ∙ ap (λ (b : Bool). has_sectors grown && b) (ne_eqb q.id k (λ same. clash (is_used m k) used (ap (is_used m) (sym same) ∙ new_id_unused m q.id is_new)))
-          ∙ and_false (has_sectors grown)) (none_new k used)
+          ∙ and_false (has_sectors grown))
+
+      -- so nothing else goes back, whether they come or not
+      same_back : (k : ℕ) → is_used m k ≡ true → is_given_back objects (grown ∷ stay) k ≡ is_given_back objects (grown ∷ (new ++ stay)) k
+      same_back k used = ap (λ (b : Bool). is_owned objects k && not ((k == 2) || (is_owner_of k grown || b))) (sym (more_none k used))
 
       object_free : (q : Option Plan) → IfSome q (IsOwnPlan m to.bytes) → (k : ℕ) → is_used m k ≡ true → IsOther k q
       object_free None own k used = tt
@@ -278,6 +290,30 @@ module _ (m : Map) (nodes : Nodes) (owners : List Owner) (listings : List Listin
               (λ was is_new other address.
               ap (λ (b : Bool). is_one_of (gone_at_once (Some plan) b ++ back) k) was
               ∙ ap (λ (ids : List ℕ). is_one_of ids k) (left plan e was)
-              ∙ (leaves_ids owners g.node None m nodes listings o stay (grown ∷ new) to.node.sound to.node.held to.node.owned to.node.number to.others (owns_none plan is_new address)).exactly k used
+              ∙ (leaves_ids owners g.node None m nodes listings o stay (grown ∷ []) to.node.sound to.node.held to.node.owned to.node.number to.others (owns_none plan is_new address)).exactly k used ∙ same_back k used
               ∙ sym (ap (λ (b : Bool). is_given_back objects (grown ∷ (new ++ stay)) k || (b || false)) (ne_eqb plan.id k (λ same. clash (is_used m k) used (ap (is_used m) (sym same) ∙ new_id_unused m plan.id is_new)))
               ∙ or_false (is_given_back objects (grown ∷ (new ++ stay)) k))))
+
+      -- Where others own an identifier, which isn't the directory's, nothing is taken for it, and it stays.
+      pub other_stays : (k : ℕ) → is_used m k ≡ true → (k ≡ own_id → ⊥) → list_any (is_owner_of k) stay ≡ true → (is_taken (takings object dir) k ≡ false) × (is_one_of (gone_at_once dir alone ++ back) k ≡ false)
+      other_stays k used other owned = (
+        none,
+        gives k used
+            ∙ ap₂ (λ (a b : Bool). a || b)
+            (ap (λ (b : Bool). is_owned objects k && not ((k == 2) || (is_owner_of k grown || b))) (more_none k used ∙ owned) ∙ never (is_owned objects k) (k == 2) (is_owner_of k grown)) none,
+      )
+        where
+          never : (a b c : Bool) → (a && not (b || (c || true))) ≡ false
+          never true true c = refl
+          never true false true = refl
+          never true false false = refl
+          never false b c = refl
+
+          by : (q : Option Plan) → Grows q → is_taken (taking_of q) k ≡ false
+          by None there = refl
+          by (Some plan) into = by_alone plan into
+              (λ was id address. ap (λ (b : Bool). b || false) (ne_eqb plan.id k (λ same. other (sym same ∙ id))))
+              (λ was is_new others address. ap (λ (b : Bool). b || false) (ne_eqb plan.id k (λ same. clash (is_used m k) used (ap (is_used m) (sym same) ∙ new_id_unused m plan.id is_new))))
+
+          none : is_taken (takings object dir) k ≡ false
+          none = taken_is k used ∙ by dir to.grown

@@ -28,6 +28,7 @@ use Rattle.fc_course.specs.Jobs.{IsJobFor}
 use Rattle.fc_course.proofs.ArrivalLemmas.{Arrival, IsShort, bytes_of, job_of}
 use Rattle.fc_course.proofs.ArrivalStageLemmas.{arrives}
 use Rattle.fc_course.proofs.ArrivalTakenLemmas.{GrowsNone}
+use Rattle.fc_course.proofs.GrownWantLemmas.{its_want}
 use Rattle.fc_course.proofs.GrownWalkLemmas.{IsBigOne, big_one}
 use Rattle.fc_course.proofs.HolderLemmas as holder_of
 use Rattle.fc_course.proofs.RemovalStageLemmas.{view_of}
@@ -38,23 +39,6 @@ to_bytes dir n = record { node = dir; len = n }
 
 same_growth : (dir : ℕ) (g : Growth) → g.node ≡ dir → g ≡ to_bytes dir g.len
 same_growth dir g is = λ i. record { node = is i; len = g.len }
-
--- what comes wants room for its name, and what grows is the directory that gets it
-room_wanted : (h : Parts) (dir : ℕ) (x : Arrival) (name : List ℕ) (w : Wants) → AreWants h (job_of dir x) name w → HasRoomFor h.nodes dir name (room_of w.grows)
-room_wanted h dir Arrival.Makes name w are = are.room
-room_wanted h dir (Arrival.Saves words) name w are = are.room
-
-growth_wanted : (h : Parts) (dir : ℕ) (x : Arrival) (name : List ℕ) (w : Wants) → AreWants h (job_of dir x) name w → IsGrowthOf dir w.grows
-growth_wanted h dir Arrival.Makes name w are = are.grown
-growth_wanted h dir (Arrival.Saves words) name w are = are.grown
-
-bytes_wanted : (h : Parts) (dir : ℕ) (x : Arrival) (name : List ℕ) (w : Wants) → AreWants h (job_of dir x) name w → w.bytes ≡ bytes_of (dir_form h.layout) x
-bytes_wanted h dir Arrival.Makes name w are = are.bytes
-bytes_wanted h dir (Arrival.Saves words) name w are = are.bytes
-
-copies_none : (h : Parts) (dir : ℕ) (x : Arrival) (name : List ℕ) (w : Wants) → AreWants h (job_of dir x) name w → w.copied ≡ None
-copies_none h dir Arrival.Makes name w are = are.copy
-copies_none h dir (Arrival.Saves words) name w are = are.copy
 
 few_bytes : (form : NameForm) (x : Arrival) → IsShort x → bytes_of form x < 2 ^ 32
 few_bytes forms.Seven Arrival.Makes few = omega arith
@@ -97,7 +81,7 @@ module _ (h : Parts) (kind : Kind) (a : Agree kind h) (path : Path) (dir : ℕ) 
 
   -- So it grows, or doesn't, by whatever is wanted.
   pub grows_is : (x : Arrival) (w : Wants) → AreWants h (job_of dir x) (last_name path) w → w.grows ≡ option_map (to_bytes dir) needed
-  grows_is x w are = by w.grows (room_wanted h dir x (last_name path) w are) (growth_wanted h dir x (last_name path) w are)
+  grows_is x w are = by w.grows (its_want h dir x (last_name path) w are).room (its_want h dir x (last_name path) w are).grown
     where
       by : (g : Option Growth) → HasRoomFor h.nodes dir (last_name path) (room_of g) → IsGrowthOf dir g → g ≡ option_map (to_bytes dir) needed
       by None room of = sym (grown_as None ((room spot.listing.content gain says gets).1 spot.listing.object))
@@ -111,7 +95,7 @@ module _ (h : Parts) (kind : Kind) (a : Agree kind h) (path : Path) (dir : ℕ) 
 
   module _ (x : Arrival) (w : Wants) (are : AreWants h (job_of dir x) (last_name path) w) (growth : Growth) (some : w.grows ≡ Some growth) where
     pub big_growth : IsBigOne (dir_form h.layout) spot.listing.object.entry.len growth.len
-    big_growth = big growth.len (subst (λ (g : Option Growth). HasRoomFor h.nodes dir (last_name path) (room_of g)) some (room_wanted h dir x (last_name path) w are))
+    big_growth = big growth.len (subst (λ (g : Option Growth). HasRoomFor h.nodes dir (last_name path) (room_of g)) some (its_want h dir x (last_name path) w are).room)
 
     -- No directory of a disc with an old map has to.
     pub not_old : (space : OldMapContent) → h.layout ≡ Layout.Old space → ⊥
@@ -120,9 +104,9 @@ module _ (h : Parts) (kind : Kind) (a : Agree kind h) (path : Path) (dir : ℕ) 
     -- Where it grows, what is wanted can be placed.
     pub can_place : IsShort x → CanPlace h w
     can_place short = record {
-      few = subst (λ (n : ℕ). n < 2 ^ 32) (sym (bytes_wanted h dir x (last_name path) w are)) (few_bytes (dir_form h.layout) x short);
+      few = subst (λ (n : ℕ). n < 2 ^ 32) (sym (its_want h dir x (last_name path) w are).bytes) (few_bytes (dir_form h.layout) x short);
       grows = λ g is. subst (λ (k : Growth). 0 < k.len) (same_some growth g (sym some ∙ is)) big_growth.more;
-      copied = λ n is. absurd (let none = copies_none h dir x (last_name path) w are in cc);
+      copied = λ n is. absurd (let none = (its_want h dir x (last_name path) w are).copy in cc);
       no_growth = λ space at. absurd (not_old space at);
       behind = λ space at. absurd (not_old space at);
       free = λ space n at goes. absurd (not_old space at);

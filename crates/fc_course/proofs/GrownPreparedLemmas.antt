@@ -45,6 +45,7 @@ use Rattle.fc_change.specs.Needs.{HasRoomFor, HasRoomOf, copy_wanted, named_dir,
 use Rattle.fc_refusals.specs.declared.target.Slot.TheVariants as slots
 use Rattle.fc_writing.specs.declared.ready.Piece.{Piece}
 use Rattle.fc_writing.specs.declared.ready.Ready.{Ready}
+use Rattle.fc_course.proofs.ArrivalLemmas.{Arrival, job_of}
 use Rattle.fc_course.proofs.GrownAroundLemmas.{IsCutAround, cut_around, in_filtered}
 use Rattle.fc_course.proofs.GrownEditLemmas.{at_top, below}
 use Rattle.fc_course.proofs.GrownSaidLemmas.{GrownEdit}
@@ -67,8 +68,9 @@ pub record IsEntering (h : Parts) (job : Job) (dir : ℕ) (name : List ℕ) : Ty
   pub left : node_left job ≡ None
   pub copy : copy_wanted h job ≡ None
 
-pub directory_enters : (h : Parts) (dir : ℕ) (name : List ℕ) → IsEntering h (jobs.Directory dir) dir name
-directory_enters h dir name = record { first = λ e. refl; last = refl; room = λ r has. has; named = refl; left = refl; copy = refl }
+pub comer_enters : (h : Parts) (dir : ℕ) (x : Arrival) (name : List ℕ) → IsEntering h (job_of dir x) dir name
+comer_enters h dir Arrival.Makes name = record { first = λ e. refl; last = refl; room = λ r has. has; named = refl; left = refl; copy = refl }
+comer_enters h dir (Arrival.Saves words) name = record { first = λ e. refl; last = refl; room = λ r has. has; named = refl; left = refl; copy = refl }
 
 -- ---- the change
 

@@ -61,6 +61,7 @@ use Rattle.fc_course.proofs.NewPlaceLemmas.{IsRoomBeside, hole_apart, hole_on_di
 use Rattle.fc_course.proofs.PlanPlaceLemmas.{once_by, one_place, plan_free}
 use Rattle.fc_course.proofs.TwoPieceLemmas.{AreRoom, room_both}
 use Rattle.fc_image.proofs.EntriesLemmas.{later as contains_later}
+use Rattle.fc_image.proofs.MoveLemmas.{one_id}
 
 -- the sectors of some directories
 abbrev pub places : List Listing → List ℕ
@@ -190,6 +191,23 @@ module _ (kind : Kind) (m : Map) (nodes : Nodes) (owners : List Owner) (root : N
         by (Some q) into =
             subst (λ (ss : List ℕ). is_apart (place_of_plan m.geometry plan bytes) ss ≡ true) (sym into.sectors)
             (apart_after m agreed.is_map plan q (units m.geometry bytes) (units m.geometry g.len) bytes g.len own.plan into.space.plan_is)
+
+  -- Nor one of an object that lies in another identifier.
+  module _ (l : Listing) (stay : List Object) (g : Growth) (object dir : Option Plan) (p : GrownPlace) (to : IsToGrow m nodes owners listings l.object stay g object dir p) (address bytes : ℕ) (sectors : List ℕ)
+      (at : sectors_at (Layout.New m) address bytes ≡ Some sectors) (other : id_of address ≡ id_of l.object.entry.address → ⊥) where
+    pub apart_shared : is_apart sectors (sectors_in p.extents.items) ≡ true
+    apart_shared = by dir to.grown
+      where
+        by : (q : Option Plan) → IsGrownPlace m (parts_with m nodes owners) object g q p → is_apart sectors (sectors_in p.extents.items) ≡ true
+        by None there =
+            apart_from sectors (sectors_in p.extents.items)
+            (λ s here inside.
+            other (one_id m (new_shape m agreed.is_map) agreed.is_map.right (some_zones kind m nodes owners root listings agreed) (id_of address) (id_of l.object.entry.address) s (in_id m address bytes sectors s at here)
+            (in_id m l.object.entry.address g.len (sectors_in p.extents.items) s (space_of.there_at m nodes owners listings l.object stay g object dir p to there) inside)))
+        by (Some q) into =
+            apart_from sectors (sectors_in p.extents.items)
+            (λ s here inside.
+            id_no_hole m (new_shape m agreed.is_map) agreed.is_map.right (some_zones kind m nodes owners root listings agreed) (id_of address) s (in_id m address bytes sectors s at here) (into.free s inside))
 
   -- ---- all of it
 

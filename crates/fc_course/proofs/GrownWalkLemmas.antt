@@ -1,4 +1,4 @@
--- A new directory in one that grows by it, by any walk over parts that agree: the grown directory, its place, and the steps of the map.
+-- What comes to a directory that grows by it, by any walk over parts that agree: the grown directory, its place, and the steps of the map.
 use Rattle.std.proofs.Common.{◌≡◌, ◌<◌, ℕ, ◌%◌, ◌==◌, Bool, true, false, cond, List, [], ◌∷◌, ◌++◌, refl, sym, ap, subst, ◌∙◌, arith, Option, Some, None}
 use Rattle.std.specs.Prelude.{IsPermutation, nat_le, nat_lt}
 use Rattle.std.specs.Int.{is_in_range}
@@ -38,6 +38,7 @@ use Rattle.fc_change.specs.declared.spaces.GrownPlace.{GrownPlace}
 use Rattle.fc_change.specs.declared.spaces.Spaces.{Spaces}
 use Rattle.fc_change.specs.GrownSpace.{gone_at_once, kept_parts, plans_of, root_of}
 use Rattle.fc_change.specs.Needs.{SaysAt}
+use Rattle.fc_change.specs.Places.{plan_in}
 use Rattle.fc_change.specs.Shortage.{is_grown_alone}
 use Rattle.fc_change.specs.Steps.{IsStep}
 use Rattle.fc_writing.specs.Steps.{HasStepped}
@@ -48,6 +49,7 @@ use Rattle.fc_course.proofs.GrownSpaceLemmas as space_of
 use Rattle.fc_course.proofs.GrownStepLemmas.{PlansFit}
 use Rattle.fc_course.proofs.GrownWantLemmas.{IsGrownWanted}
 use Rattle.fc_course.proofs.GrownWantLemmas as wanted
+use Rattle.fc_course.proofs.ArrivalLemmas.{Arrival}
 use Rattle.fc_course.proofs.NodeLemmas as its_node
 use Rattle.fc_course.proofs.GrownBackLemmas as back_of
 
@@ -74,13 +76,13 @@ big_one forms.Long len size (Directory.Big dir) gain o has is grows =
     let low = leb-true 2048 dir.size range.0 in
     record { is_long = refl; some = omega (arith, has, low); more = omega (arith, less, g.1) }
 
-module _ (m : Map) (nodes : Nodes) (owners : List Owner) (dir : ℕ) (path : Path) (w : Wants) (s : Spaces) (is : IsGrownWanted m nodes owners dir (last_name path) w s)
+module _ (m : Map) (nodes : Nodes) (owners : List Owner) (dir : ℕ) (x : Arrival) (path : Path) (w : Wants) (s : Spaces) (is : IsGrownWanted m nodes owners dir x (last_name path) w s)
     (kind : Kind) (root : Node) (listings : List Listing) (agreed : AgreeOn kind m nodes owners root listings) (spot : IsVacant nodes listings path dir) where
   abbrev pub p : GrownPlace
-  p = (wanted.grown m nodes owners dir (last_name path) w s is).0
+  p = (wanted.grown m nodes owners dir x (last_name path) w s is).0
 
-  abbrev pub plan : Plan
-  plan = (wanted.own m nodes owners dir (last_name path) w s is).0
+  abbrev pub plan : Option Plan
+  plan = plan_in is.placed.placing
 
   abbrev pub l : Listing
   l = spot.listing
@@ -88,10 +90,10 @@ module _ (m : Map) (nodes : Nodes) (owners : List Owner) (dir : ℕ) (path : Pat
   abbrev sound : AreSound (Layout.New m) listings
   sound = agreed_law.sound kind m nodes owners root listings agreed
 
-  pub dir_is : (wanted.grown m nodes owners dir (last_name path) w s is).0.directory.node ≡ dir
-  dir_is = wanted.dir_is m nodes owners dir (last_name path) w s is
+  pub dir_is : (wanted.grown m nodes owners dir x (last_name path) w s is).0.directory.node ≡ dir
+  dir_is = wanted.dir_is m nodes owners dir x (last_name path) w s is
 
-  pub number : number_of nodes spot.listing.object.path ≡ Some (wanted.grown m nodes owners dir (last_name path) w s is).0.directory.node
+  pub number : number_of nodes spot.listing.object.path ≡ Some (wanted.grown m nodes owners dir x (last_name path) w s is).0.directory.node
   number = spot.holder_is ∙ ap (λ (n : ℕ). let x : Option ℕ = Some n in x) (sym dir_is)
 
   says_at : SaysAt nodes dir spot.listing.content
@@ -102,7 +104,7 @@ module _ (m : Map) (nodes : Nodes) (owners : List Owner) (dir : ℕ) (path : Pat
   }
 
   pub room_then : (gain : Gain) → GetsName spot.listing.content (last_name path) gain → HasRoom spot.listing.content gain (rooms.Grows is.growth.len)
-  room_then gain gets = wanted.room_is m nodes owners dir (last_name path) w s is l.content gain says_at gets
+  room_then gain gets = wanted.room_is m nodes owners dir x (last_name path) w s is l.content gain says_at gets
 
   big : IsBigOne (dir_form (Layout.New m)) spot.listing.object.entry.len is.growth.len
   big =
@@ -120,7 +122,7 @@ module _ (m : Map) (nodes : Nodes) (owners : List Owner) (dir : ℕ) (path : Pat
   abbrev pub stay : List Object
   stay = cut.0
 
-  pub to : IsToGrow m nodes owners listings spot.listing.object cut.0 is.growth (Some (wanted.own m nodes owners dir (last_name path) w s is).0) is.placed.dir (wanted.grown m nodes owners dir (last_name path) w s is).0
+  pub to : IsToGrow m nodes owners listings spot.listing.object cut.0 is.growth (plan_in is.placed.placing) is.placed.dir (wanted.grown m nodes owners dir x (last_name path) w s is).0
   to = record {
     node = record {
       is_map = agreed.is_map;
@@ -128,7 +130,7 @@ module _ (m : Map) (nodes : Nodes) (owners : List Owner) (dir : ℕ) (path : Pat
       held = agreed.walked.held;
       owned = agreed.owned;
       there = (listed_directory (Layout.New m) listings sound l spot.listed).0;
-      number = spot.holder_is ∙ ap (λ (n : ℕ). let x : Option ℕ = Some n in x) (sym (wanted.node_is m nodes owners dir (last_name path) w s is));
+      number = spot.holder_is ∙ ap (λ (n : ℕ). let x : Option ℕ = Some n in x) (sym (wanted.node_is m nodes owners dir x (last_name path) w s is));
     };
     form = form;
     directory = (listed_directory (Layout.New m) listings sound l spot.listed).1;
@@ -136,58 +138,58 @@ module _ (m : Map) (nodes : Nodes) (owners : List Owner) (dir : ℕ) (path : Pat
     some = big.some;
     longer = big.more;
     bytes = w.bytes;
-    own = (wanted.own m nodes owners dir (last_name path) w s is).2;
-    grown = wanted.grown_at m nodes owners dir (last_name path) w s is;
+    own = wanted.own m nodes owners dir x (last_name path) w s is;
+    grown = (wanted.grown m nodes owners dir x (last_name path) w s is).2;
   }
 
-  pub len_is : (wanted.grown m nodes owners dir (last_name path) w s is).0.directory.len ≡ is.growth.len
-  len_is = space_of.len_is m nodes owners listings l.object stay is.growth (Some plan) is.placed.dir p to
+  pub len_is : (wanted.grown m nodes owners dir x (last_name path) w s is).0.directory.len ≡ is.growth.len
+  len_is = space_of.len_is m nodes owners listings l.object stay is.growth plan is.placed.dir p to
 
-  pub room : (gain : Gain) → GetsName spot.listing.content (last_name path) gain → HasRoom spot.listing.content gain (rooms.Grows (wanted.grown m nodes owners dir (last_name path) w s is).0.directory.len)
+  pub room : (gain : Gain) → GetsName spot.listing.content (last_name path) gain → HasRoom spot.listing.content gain (rooms.Grows (wanted.grown m nodes owners dir x (last_name path) w s is).0.directory.len)
   room gain gets = subst (λ (n : ℕ). HasRoom l.content gain (rooms.Grows n)) (sym len_is) (room_then gain gets)
 
   -- ---- the steps of the map
 
   abbrev pub back : List ℕ
-  back = wanted.back m nodes owners dir (last_name path) w s is
+  back = wanted.back m nodes owners dir x (last_name path) w s is
 
   abbrev pub alone : Bool
-  alone = space_of.alone m nodes owners listings l.object stay is.growth (Some plan) is.placed.dir p to
+  alone = space_of.alone m nodes owners listings l.object stay is.growth plan is.placed.dir p to
 
-  alone_is : is_grown_alone (space_of.h m nodes owners listings spot.listing.object cut.0 is.growth (Some (wanted.own m nodes owners dir (last_name path) w s is).0) is.placed.dir (wanted.grown m nodes owners dir (last_name path) w s is).0 to) (Some is.growth) ≡ alone
-  alone_is = space_of.alone_as m nodes owners listings l.object stay is.growth (Some plan) is.placed.dir p to
+  alone_is : is_grown_alone (space_of.h m nodes owners listings spot.listing.object cut.0 is.growth (plan_in is.placed.placing) is.placed.dir (wanted.grown m nodes owners dir x (last_name path) w s is).0 to) (Some is.growth) ≡ alone
+  alone_is = space_of.alone_as m nodes owners listings l.object stay is.growth plan is.placed.dir p to
 
   -- what goes back was used
-  pub back_unused : (k : ℕ) → is_used m k ≡ false → is_one_of (wanted.back m nodes owners dir (last_name path) w s is) k ≡ false
+  pub back_unused : (k : ℕ) → is_used m k ≡ false → is_one_of (wanted.back m nodes owners dir x (last_name path) w s is) k ≡ false
   back_unused k free = by is.placed.dir refl alone refl
     where
       by : (d : Option Plan) → is.placed.dir ≡ d → (a : Bool) → alone ≡ a → is_one_of back k ≡ false
-      by None same a e = ap (λ (ids : List ℕ). is_one_of ids k) (wanted.none_there m nodes owners dir (last_name path) w s is same)
-      by (Some q) same true e = ap (λ (ids : List ℕ). is_one_of ids k) (wanted.none_alone m nodes owners dir (last_name path) w s is (alone_is ∙ e))
+      by None same a e = ap (λ (ids : List ℕ). is_one_of ids k) (wanted.none_there m nodes owners dir x (last_name path) w s is same)
+      by (Some q) same true e = ap (λ (ids : List ℕ). is_one_of ids k) (wanted.none_alone m nodes owners dir x (last_name path) w s is (alone_is ∙ e))
       by (Some q) same false e =
-          ap (λ (ids : List ℕ). is_one_of ids k) (wanted.left_then m nodes owners dir (last_name path) w s is q same (alone_is ∙ e))
+          ap (λ (ids : List ℕ). is_one_of ids k) (wanted.left_then m nodes owners dir x (last_name path) w s is q same (alone_is ∙ e))
           ∙ leaves_used owners is.growth.node None m nodes listings k agreed.is_map sound agreed.owned free
 
   pub left : (q : Plan) → is.placed.dir ≡ Some q → alone ≡ false → back ≡ option_to_list (left_among owners is.growth.node None)
-  left q same e = wanted.left_then m nodes owners dir (last_name path) w s is q same (alone_is ∙ e)
+  left q same e = wanted.left_then m nodes owners dir x (last_name path) w s is q same (alone_is ∙ e)
 
   pub lost : is.placed.dir ≡ None → back ≡ []
-  lost same = wanted.none_there m nodes owners dir (last_name path) w s is same
+  lost same = wanted.none_there m nodes owners dir x (last_name path) w s is same
 
   pub was_alone : alone ≡ true → back ≡ []
-  was_alone e = wanted.none_alone m nodes owners dir (last_name path) w s is (alone_is ∙ e)
+  was_alone e = wanted.none_alone m nodes owners dir x (last_name path) w s is (alone_is ∙ e)
 
-  pub fit : PlansFit m (Some (wanted.own m nodes owners dir (last_name path) w s is).0) is.placed.dir alone back
-  fit = back_of.plans_fit m nodes owners listings l.object stay is.growth (Some plan) is.placed.dir p to back back_unused (λ e q same. was_alone e)
+  pub fit : PlansFit m (plan_in is.placed.placing) is.placed.dir alone back
+  fit = back_of.plans_fit m nodes owners listings l.object stay is.growth plan is.placed.dir p to back back_unused (λ e q same. was_alone e)
 
-  pub takes : IsStep m (plans_of (Some (wanted.own m nodes owners dir (last_name path) w s is).0) is.placed.dir) (gone_at_once is.placed.dir alone) (kept_parts is.placed.dir alone)
-      (root_of (Some (wanted.grown m nodes owners dir (last_name path) w s is).0)) s.take
+  pub takes : IsStep m (plans_of (plan_in is.placed.placing) is.placed.dir) (gone_at_once is.placed.dir alone) (kept_parts is.placed.dir alone)
+      (root_of (Some (wanted.grown m nodes owners dir x (last_name path) w s is).0)) s.take
   takes =
-      subst (λ (a : Bool). IsStep m (plans_of (Some plan) is.placed.dir) (gone_at_once is.placed.dir a) (kept_parts is.placed.dir a) (root_of (Some p)) s.take) alone_is
-      (wanted.takes m nodes owners dir (last_name path) w s is)
+      subst (λ (a : Bool). IsStep m (plans_of plan is.placed.dir) (gone_at_once is.placed.dir a) (kept_parts is.placed.dir a) (root_of (Some p)) s.take) alone_is
+      (wanted.takes m nodes owners dir x (last_name path) w s is)
 
   -- What the map is after both.
   pub stepped : (mid m' : Map) → HasStepped m mid s.take → HasStepped mid m' s.give
-      → IsGrownStepped m m' (Some (wanted.own m nodes owners dir (last_name path) w s is).0) is.placed.dir alone (root_of (Some (wanted.grown m nodes owners dir (last_name path) w s is).0)) back
+      → IsGrownStepped m m' (plan_in is.placed.placing) is.placed.dir alone (root_of (Some (wanted.grown m nodes owners dir x (last_name path) w s is).0)) back
   stepped mid m' first second =
-      both_grown m mid m' (Some plan) is.placed.dir alone (root_of (Some p)) back s.take s.give agreed.is_map fit takes (wanted.gives m nodes owners dir (last_name path) w s is) first second
+      both_grown m mid m' plan is.placed.dir alone (root_of (Some p)) back s.take s.give agreed.is_map fit takes (wanted.gives m nodes owners dir x (last_name path) w s is) first second

@@ -1,5 +1,6 @@
--- A new directory in one that grows by it, on a new map: what is wanted, and where both are placed.
+-- What comes to a directory that grows by it, on a new map: what is wanted, and where both are placed.
 use Rattle.std.proofs.Common.{◌≡◌, ◌<◌, ℕ, ◌++◌, Bool, true, false, List, [], refl, sym, ap, ap₂, subst, ◌∙◌, arith, Option, Some, None}
+use Rattle.std.specs.Prelude.{IfSome}
 use Rattle.std.specs.Option.{option_and_then, option_to_list}
 use Rattle.fc_alloc.specs.declared.owner.Owner.{Owner}
 use Rattle.fc_names.specs.declared.name.NameForm.{NameForm}
@@ -17,7 +18,6 @@ use Rattle.fc_placing.specs.declared.placing.Placing.TheVariants as placings
 use Rattle.fc_plan.specs.declared.plan.Plan.{Plan}
 use Rattle.fc_tree.specs.Parts.{Parts}
 use Rattle.fc_change.specs.declared.job.Growth.{Growth}
-use Rattle.fc_change.specs.declared.job.Job.TheVariants as jobs
 use Rattle.fc_change.specs.declared.job.Wants.{Wants}
 use Rattle.fc_change.specs.declared.spaces.GrownPlace.{GrownPlace}
 use Rattle.fc_change.specs.declared.spaces.Place.{Place}
@@ -29,62 +29,80 @@ use Rattle.fc_change.specs.Places.{AreLeft, ArePlaced, IsPlaceFor, IsPlacingFor,
 use Rattle.fc_change.specs.Shortage.{is_grown_alone}
 use Rattle.fc_change.specs.Steps.{IsStep}
 use Rattle.fc_course.proofs.GrownSpaceLemmas.{left_is}
-use Rattle.fc_course.proofs.ArrivalPlaceLemmas.{dir_some}
+use Rattle.fc_course.proofs.ArrivalLemmas.{Arrival, bytes_of, job_of}
+use Rattle.fc_course.proofs.ArrivalPlaceLemmas.{dir_some, shares_of}
 
 -- the node of the grown directory is that of its growth
 grown_node : (m : Map) (h : Parts) (object : Option Plan) (g : Growth) (dir : Option Plan) (p : GrownPlace) → IsGrownPlace m h object g dir p → p.directory.node ≡ g.node
 grown_node m h object g None p at = ap (λ (d : Regrowth). d.node) at.directory
 grown_node m h object g (Some plan) p at = ap (λ (d : Regrowth). d.node) at.directory
 
+-- What comes wants its bytes, in slack if it is a file, and room for its name in the directory that grows, if one does.
+pub record IsItsWant (h : Parts) (dir : ℕ) (x : Arrival) (name : List ℕ) (w : Wants) : Type 0 where
+  pub bytes : w.bytes ≡ bytes_of (dir_form h.layout) x
+  pub slack : w.shares ≡ shares_of dir x
+  pub copy : w.copied ≡ None
+  pub left : w.goes ≡ None
+  pub room : HasRoomFor h.nodes dir name (room_of w.grows)
+  pub grown : IsGrowthOf dir w.grows
+
+pub its_want : (h : Parts) (dir : ℕ) (x : Arrival) (name : List ℕ) (w : Wants) → AreWants h (job_of dir x) name w → IsItsWant h dir x name w
+its_want h dir Arrival.Makes name w are = record { bytes = are.bytes; slack = are.slack; copy = are.copy; left = are.left; room = are.room; grown = are.grown }
+its_want h dir (Arrival.Saves words) name w are = record { bytes = are.bytes; slack = are.slack; copy = are.copy; left = are.left; room = are.room; grown = are.grown }
+
 -- What is wanted of the disc has this space.
-pub record IsGrownWanted (m : Map) (nodes : Nodes) (owners : List Owner) (dir : ℕ) (name : List ℕ) (w : Wants) (s : Spaces) : Type 0 where
-  pub wants : AreWants (parts_with m nodes owners) (jobs.Directory dir) name w
+pub record IsGrownWanted (m : Map) (nodes : Nodes) (owners : List Owner) (dir : ℕ) (x : Arrival) (name : List ℕ) (w : Wants) (s : Spaces) : Type 0 where
+  pub wants : AreWants (parts_with m nodes owners) (job_of dir x) name w
   pub placed : ArePlaced m (parts_with m nodes owners) w s
   pub growth : Growth
   pub some : w.grows ≡ Some growth
 
-module _ (m : Map) (nodes : Nodes) (owners : List Owner) (dir : ℕ) (name : List ℕ) (w : Wants) (s : Spaces) (is : IsGrownWanted m nodes owners dir name w s) where
+module _ (m : Map) (nodes : Nodes) (owners : List Owner) (dir : ℕ) (x : Arrival) (name : List ℕ) (w : Wants) (s : Spaces) (is : IsGrownWanted m nodes owners dir x name w s) where
   abbrev h : Parts
   h = parts_with m nodes owners
 
   abbrev placed : ArePlaced m (parts_with m nodes owners) w s
   placed = is.placed
 
-  pub bytes_are : w.bytes ≡ new_dir_size (dir_form (Layout.New m))
-  bytes_are = is.wants.bytes
+  pub want : IsItsWant (parts_with m nodes owners) dir x name w
+  want = its_want h dir x name w is.wants
 
   pub node_is : is.growth.node ≡ dir
-  node_is = subst (IsGrowthOf dir) is.some is.wants.grown
+  node_is = subst (IsGrowthOf dir) is.some want.grown
 
   pub room_is : HasRoomFor nodes dir name (rooms.Grows is.growth.len)
-  room_is = subst (λ (g : Option Growth). HasRoomFor nodes dir name (room_of g)) is.some is.wants.room
+  room_is = subst (λ (g : Option Growth). HasRoomFor nodes dir name (room_of g)) is.some want.room
 
   -- ---- the object
 
-  some_bytes : w.bytes ≡ 0 → ⊥
-  some_bytes none = let some = dir_some (dir_form (Layout.New m)) in let same = bytes_are in omega (arith, some, same, none)
+  abbrev pub placing : Placing
+  placing = is.placed.placing
 
-  plan_of : (q : Placing) → IsPlacingFor m owners w q → (plan : Plan) × (q ≡ placings.New plan) × IsOwnPlan m w.bytes plan
-  plan_of placings.Nowhere at = absurd (some_bytes at)
-  plan_of (placings.Shared share) at = absurd (let there = sym at.1 ∙ is.wants.slack in cc)
-  plan_of (placings.New plan) at = (plan, refl, at.1)
+  abbrev pub plan : Option Plan
+  plan = plan_in is.placed.placing
 
-  pub own : (plan : Plan) × (is.placed.placing ≡ placings.New plan) × IsOwnPlan m w.bytes plan
-  own = plan_of is.placed.placing is.placed.is
+  own_in : (q : Placing) → IsPlacingFor m owners w q → IfSome (plan_in q) (IsOwnPlan m w.bytes)
+  own_in placings.Nowhere at = tt
+  own_in (placings.Shared share) at = tt
+  own_in (placings.New plan) at = at.1
+
+  pub own : IfSome (plan_in is.placed.placing) (IsOwnPlan m w.bytes)
+  own = own_in is.placed.placing is.placed.is
+
+  wants_some : (y : Arrival) → w.bytes ≡ bytes_of (dir_form (Layout.New m)) y → w.shares ≡ shares_of dir y → w.bytes ≡ 0 → w.shares ≡ None → ⊥
+  wants_some Arrival.Makes bytes slack none alone = let some = dir_some (dir_form (Layout.New m)) in omega (arith, some, bytes, none)
+  wants_some (Arrival.Saves words) bytes slack none alone = absurd (let there = sym slack ∙ alone in cc)
 
   place_of : (q : Placing) (o : Option Place) → IsPlaceFor m w q o → (p : Place) × (o ≡ Some p)
-  place_of q None at = absurd (some_bytes at.0)
+  place_of q None at = absurd (wants_some x want.bytes want.slack at.0 at.1)
   place_of q (Some p) at = (p, refl)
 
   pub object : (p : Place) × (s.object ≡ Some p)
   object = place_of is.placed.placing s.object is.placed.object
 
-  pub plan_is : plan_in is.placed.placing ≡ Some own.0
-  plan_is = ap plan_in own.1
-
-  -- it lies where its plan says
-  pub object_at : IsPlaceFor m w (placings.New own.0) (Some object.0)
-  object_at = subst (λ (q : Placing). IsPlaceFor m w q (Some object.0)) own.1 (subst (IsPlaceFor m w is.placed.placing) object.1 is.placed.object)
+  -- it lies where its placing says
+  pub object_at : IsPlaceFor m w is.placed.placing (Some object.0)
+  object_at = subst (IsPlaceFor m w is.placed.placing) object.1 is.placed.object
 
   -- ---- the directory that grows
 
@@ -96,11 +114,8 @@ module _ (m : Map) (nodes : Nodes) (owners : List Owner) (dir : ℕ) (name : Lis
   pub grown : (p : GrownPlace) × (s.grown ≡ Some p) × IsGrownPlace m h (plan_in is.placed.placing) is.growth is.placed.dir p
   grown = grown_of s.grown (subst (λ (g : Option Growth). IsGrown m h (plan_in is.placed.placing) g is.placed.dir s.grown) is.some is.placed.grown)
 
-  pub grown_at : IsGrownPlace m (parts_with m nodes owners) (Some own.0) is.growth is.placed.dir grown.0
-  grown_at = subst (λ (q : Option Plan). IsGrownPlace m h q is.growth is.placed.dir grown.0) plan_is grown.2
-
   pub dir_is : grown.0.directory.node ≡ dir
-  dir_is = grown_node m h (Some own.0) is.growth is.placed.dir grown.0 grown_at ∙ node_is
+  dir_is = grown_node m h (plan_in is.placed.placing) is.growth is.placed.dir grown.0 grown.2 ∙ node_is
 
   -- ---- the steps of the map
 
@@ -112,18 +127,17 @@ module _ (m : Map) (nodes : Nodes) (owners : List Owner) (dir : ℕ) (name : Lis
   back = freed h w is.placed.dir ++ is.placed.gone
 
   none_gone : is.placed.gone ≡ []
-  none_gone = subst (λ (o : Option ℕ). AreLeft owners o (shared_id is.placed.placing) is.placed.gone) is.wants.left is.placed.left
+  none_gone = subst (λ (o : Option ℕ). AreLeft owners o (shared_id is.placed.placing) is.placed.gone) want.left is.placed.left
 
   alone_is : is_grown_alone h w.grows ≡ is_grown_alone (parts_with m nodes owners) (Some is.growth)
   alone_is = ap (is_grown_alone h) is.some
 
-  pub takes : IsStep m (plans_of (Some own.0) is.placed.dir) (gone_at_once is.placed.dir (is_grown_alone (parts_with m nodes owners) (Some is.growth)))
+  pub takes : IsStep m (plans_of (plan_in is.placed.placing) is.placed.dir) (gone_at_once is.placed.dir (is_grown_alone (parts_with m nodes owners) (Some is.growth)))
       (kept_parts is.placed.dir (is_grown_alone (parts_with m nodes owners) (Some is.growth))) (root_of (Some grown.0)) s.take
   takes =
-      subst (λ (a : Bool). IsStep m (plans_of (Some own.0) is.placed.dir) (gone_at_once is.placed.dir a) (kept_parts is.placed.dir a) (root_of (Some grown.0)) s.take) alone_is
-      (subst (λ (q : Option Plan). IsStep m (plans_of q is.placed.dir) (gone_at_once is.placed.dir (is_grown_alone h w.grows)) (kept_parts is.placed.dir (is_grown_alone h w.grows)) (root_of (Some grown.0)) s.take) plan_is
+      subst (λ (a : Bool). IsStep m (plans_of (plan_in is.placed.placing) is.placed.dir) (gone_at_once is.placed.dir a) (kept_parts is.placed.dir a) (root_of (Some grown.0)) s.take) alone_is
       (subst (λ (q : Option GrownPlace). IsStep m (plans_of (plan_in is.placed.placing) is.placed.dir) (gone_at_once is.placed.dir (is_grown_alone h w.grows)) (kept_parts is.placed.dir (is_grown_alone h w.grows)) (root_of q) s.take)
-      grown.1 is.placed.take))
+      grown.1 is.placed.take)
 
   pub gives : IsStep m [] back [] None s.give
   unfolding back
@@ -153,5 +167,5 @@ module _ (m : Map) (nodes : Nodes) (owners : List Owner) (dir : ℕ) (name : Lis
   pub left_then : (q : Plan) → is.placed.dir ≡ Some q → is_grown_alone (parts_with m nodes owners) (Some is.growth) ≡ false → back ≡ option_to_list (left_among owners is.growth.node None)
   left_then q same e =
       back_by (Some q) false same e
-      ∙ (λ i. option_to_list (option_and_then (λ (g : Growth). left_by_growth owners g.node (is.wants.copy i)) (is.some i)))
+      ∙ (λ i. option_to_list (option_and_then (λ (g : Growth). left_by_growth owners g.node (want.copy i)) (is.some i)))
       ∙ ap (λ (o : Option ℕ). option_to_list o) (left_is owners is.growth.node)

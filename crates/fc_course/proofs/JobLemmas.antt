@@ -22,7 +22,7 @@ use Rattle.fc_course.specs.Laws.{JobLaws}
 use Rattle.fc_course.specs.Run.{IsMapOf}
 use Rattle.fc_course.proofs.ArrivalLemmas.{Arrival, IsShort, job_of}
 use Rattle.fc_course.proofs.ArrivalTakenLemmas.{GrowsNone}
-use Rattle.fc_course.proofs.GrownCdirLawsLemmas.{grown_laws}
+use Rattle.fc_course.proofs.GrownNewLawsLemmas.{grown_laws}
 use Rattle.fc_course.proofs.GrownNeedLemmas.{grows_by, none_old, to_bytes}
 use Rattle.fc_course.proofs.NewArrivalRunLemmas as new
 use Rattle.fc_course.proofs.OldArrivalRunLemmas as old
@@ -43,23 +43,23 @@ use Rattle.fc_course.proofs.CopyingRunLemmas.{copy_laws}
 use Rattle.fc_course.proofs.MoveRunLemmas.{move_laws}
 use Rattle.fc_course.proofs.MoveStageLemmas.{IsRenamer, renamer}
 
--- of what comes
-arrival_of : AdditionLaw → (layout : Layout) (nodes : Nodes) (owners : List Owner) (dir : ℕ) (x : Arrival) (name bytes : List ℕ) (kind : Kind) → IsShort x → GrowsNone (parts layout nodes owners) dir x name → IsMapOf layout
+-- of what comes, where no directory grows by it
+still_of : AdditionLaw → (layout : Layout) (nodes : Nodes) (owners : List Owner) (dir : ℕ) (x : Arrival) (name bytes : List ℕ) (kind : Kind) → IsShort x → GrowsNone (parts layout nodes owners) dir x name → IsMapOf layout
     → PlacesSuffice layout → Agree kind (parts layout nodes owners) → (c : Command) → IsJobFor c (parts layout nodes owners) (job_of dir x) name bytes → JobLaws kind (parts layout nodes owners) (job_of dir x) name bytes
-arrival_of law (Layout.New m) nodes owners dir x name bytes kind few none is suffice a c j = new.arrival_laws law m nodes owners is kind a dir x few name bytes c j none
-arrival_of law (Layout.Old space) nodes owners dir x name bytes kind few none is suffice a c j = old.arrival_laws law space nodes owners is.0 is.1 suffice kind a dir x few name bytes c j none
+still_of law (Layout.New m) nodes owners dir x name bytes kind few none is suffice a c j = new.arrival_laws law m nodes owners is kind a dir x few name bytes c j none
+still_of law (Layout.Old space) nodes owners dir x name bytes kind few none is suffice a c j = old.arrival_laws law space nodes owners is.0 is.1 suffice kind a dir x few name bytes c j none
 
--- of a new directory, whether the one that gets it grows or not
-directory_of : AdditionLaw → (layout : Layout) (nodes : Nodes) (owners : List Owner) (dir : ℕ) (name bytes : List ℕ) (kind : Kind) → IsMapOf layout → TellsVersion layout → PlacesSuffice layout
-    → Agree kind (parts layout nodes owners) → (c : Command) → IsJobFor c (parts layout nodes owners) (jobs.Directory dir) name bytes → JobLaws kind (parts layout nodes owners) (jobs.Directory dir) name bytes
-directory_of law (Layout.Old space) nodes owners dir name bytes kind is tells suffice a c j =
-    arrival_of law (Layout.Old space) nodes owners dir Arrival.Makes name bytes kind tt (none_old (parts (Layout.Old space) nodes owners) kind a c dir Arrival.Makes name bytes j space refl) is suffice a c j
-directory_of law (Layout.New m) nodes owners dir name bytes kind is tells suffice a c j =
-    let grows = grows_by (parts (Layout.New m) nodes owners) kind a c dir Arrival.Makes name bytes j in by grows.0 grows.1
+-- whether one grows or not
+arrival_of : AdditionLaw → (layout : Layout) (nodes : Nodes) (owners : List Owner) (dir : ℕ) (x : Arrival) (name bytes : List ℕ) (kind : Kind) → IsShort x → IsMapOf layout → TellsVersion layout → PlacesSuffice layout
+    → Agree kind (parts layout nodes owners) → (c : Command) → IsJobFor c (parts layout nodes owners) (job_of dir x) name bytes → JobLaws kind (parts layout nodes owners) (job_of dir x) name bytes
+arrival_of law (Layout.Old space) nodes owners dir x name bytes kind few is tells suffice a c j =
+    still_of law (Layout.Old space) nodes owners dir x name bytes kind few (none_old (parts (Layout.Old space) nodes owners) kind a c dir x name bytes j space refl) is suffice a c j
+arrival_of law (Layout.New m) nodes owners dir x name bytes kind few is tells suffice a c j =
+    let grows = grows_by (parts (Layout.New m) nodes owners) kind a c dir x name bytes j in by grows.0 grows.1
   where
-    by : (o : Option ℕ) → ((w : Wants) → AreWants (parts (Layout.New m) nodes owners) (jobs.Directory dir) name w → w.grows ≡ option_map (to_bytes dir) o) → JobLaws kind (parts (Layout.New m) nodes owners) (jobs.Directory dir) name bytes
-    by None none = arrival_of law (Layout.New m) nodes owners dir Arrival.Makes name bytes kind tt none is suffice a c j
-    by (Some n) some = grown_laws m nodes owners is tells kind a dir (to_bytes dir n) name bytes c j some
+    by : (o : Option ℕ) → ((w : Wants) → AreWants (parts (Layout.New m) nodes owners) (job_of dir x) name w → w.grows ≡ option_map (to_bytes dir) o) → JobLaws kind (parts (Layout.New m) nodes owners) (job_of dir x) name bytes
+    by None none = still_of law (Layout.New m) nodes owners dir x name bytes kind few none is suffice a c j
+    by (Some n) some = grown_laws m nodes owners is tells kind a dir x few (to_bytes dir n) name bytes c j some
 
 -- of a file that is saved over
 over_of : AdditionLaw → (layout : Layout) (nodes : Nodes) (owners : List Owner) (t : Target) (words : FileWords) (name bytes : List ℕ) (kind : Kind) → words.len < 2 ^ 32 → IsMapOf layout → PlacesSuffice layout
@@ -89,9 +89,9 @@ laws_of deletes rewords adds moves copies layout nodes owners (jobs.Marks t mark
     let mine = targets (parts layout nodes owners) kind a judged.0 t (Wording.Mark marks) name bytes judged.1 in
     rewording_laws rewords layout nodes owners t (Wording.Mark marks) mine.0 name bytes kind is suffice a mine.2 has
 laws_of deletes rewords adds moves copies layout nodes owners (jobs.Directory dir) name bytes kind has is tells suffice a judged =
-    directory_of adds layout nodes owners dir name bytes kind is tells suffice a judged.0 judged.1
+    arrival_of adds layout nodes owners dir Arrival.Makes name bytes kind tt is tells suffice a judged.0 judged.1
 laws_of deletes rewords adds moves copies layout nodes owners (jobs.File (slots.New dir) words) name bytes kind has is tells suffice a judged =
-    arrival_of adds layout nodes owners dir (Arrival.Saves words) name bytes kind has.0 has.1 is suffice a judged.0 judged.1
+    arrival_of adds layout nodes owners dir (Arrival.Saves words) name bytes kind has is tells suffice a judged.0 judged.1
 laws_of deletes rewords adds moves copies layout nodes owners (jobs.File (slots.Over target) words) name bytes kind has is tells suffice a judged =
     over_of adds layout nodes owners target words name bytes kind has is suffice a judged.0 judged.1
 laws_of deletes rewords adds moves copies layout nodes owners (jobs.Move r) name bytes kind has is tells suffice a judged =

@@ -56,11 +56,11 @@ LiesBy m bytes placings.Nowhere address sectors = (bytes ≡ 0) × (sectors ≡ 
 LiesBy m bytes (placings.Shared share) address sectors = (id_of address ≡ share.id) × (sectors_at (Layout.New m) address bytes ≡ Some sectors)
 LiesBy m bytes (placings.New plan) address sectors = IsOwnPlan m bytes plan × ((low : ℕ) × (low < 2) × (address ≡ 256 * plan.id + low)) × (sectors ≡ place_of_plan m.geometry plan bytes)
 
-at_none : (layout : Layout) (address bytes : ℕ) (sectors : List ℕ) → bytes ≡ 0 → sectors ≡ [] → sectors_at layout address bytes ≡ Some sectors
+pub at_none : (layout : Layout) (address bytes : ℕ) (sectors : List ℕ) → bytes ≡ 0 → sectors ≡ [] → sectors_at layout address bytes ≡ Some sectors
 unfolding sectors_at
 at_none layout address bytes sectors none empty = ap (λ (n : ℕ). sectors_at layout address n) none ∙ ap (λ (xs : List ℕ). let r : Option (List ℕ) = Some xs in r) (sym empty)
 
-id_at : (id low : ℕ) → low < 2 → id_of (256 * id + low) ≡ id
+pub id_at : (id low : ℕ) → low < 2 → id_of (256 * id + low) ≡ id
 id_at id low small = omega (arith, small)
 
 -- Sectors that an object may have beside these, by a map and its boot block.

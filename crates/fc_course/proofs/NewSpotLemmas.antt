@@ -103,7 +103,7 @@ module _ (m : Map) (nodes : Nodes) (owners : List Owner) (is : IsNewMap m) (list
       same : (a b : ℕ) → (let q : Option ℕ = Some a in q) ≡ Some b → a ≡ b
       same a b e = cc
 
-  share_there : w.shares ≡ Some dir → (share : Share) → IsPlacingFor m owners w (placings.Shared share) → slack m (objects_of listings) near w.bytes ≡ Some (place_in share)
+  pub share_there : w.shares ≡ Some dir → (share : Share) → IsPlacingFor m owners w (placings.Shared share) → slack m (objects_of listings) near w.bytes ≡ Some (place_in share)
   share_there shares share at = sym (same_slack m nodes listings owners near dir w.bytes is sound held owned numbered) ∙ share_left shares share at
 
   share_id : (id low : ℕ) → low < 256 → id_of (256 * id + low) ≡ id

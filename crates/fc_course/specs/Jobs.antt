@@ -14,7 +14,6 @@ use Rattle.fc_tree.specs.Parts.{ArePartsOf, Parts}
 use Rattle.fc_change.specs.Jobs.{IsJob}
 use Rattle.fc_change.specs.Needs.{AreWants, len_at}
 use Rattle.fc_change.specs.declared.job.Wants.{Wants}
-use Rattle.fc_refusals.specs.declared.target.Slot.TheVariants as slots
 use Rattle.fc_change.specs.declared.job.Job.{Job}
 use Rattle.fc_change.specs.declared.job.Job.TheVariants as jobs
 
@@ -43,12 +42,11 @@ abbrev pub NoneGrows : Parts → Job → List ℕ → Type 0
 NoneGrows h job name = (w : Wants) → AreWants h job name w → w.grows ≡ None
 
 -- The laws of these jobs stand, if an entry can hold the access bits, the attributes and the length that they give, and no directory
--- grows but by `cdir`; the others follow.
+-- grows by `rename`.
 abbrev pub HasLaws : Parts → Job → List ℕ → Type 0
 HasLaws h (jobs.Removal target) name = Unit {0}
 HasLaws h (jobs.Words target words) name = words.access < 8
 HasLaws h (jobs.Marks target attrs) name = FitAttributes (dir_form h.layout) attrs
 HasLaws h (jobs.Directory dir) name = Unit {0}
-HasLaws h (jobs.File (slots.New dir) words) name = (words.len < 2 ^ 32) × NoneGrows h (jobs.File (slots.New dir) words) name
-HasLaws h (jobs.File (slots.Over target) words) name = words.len < 2 ^ 32
+HasLaws h (jobs.File slot words) name = words.len < 2 ^ 32
 HasLaws h (jobs.Move renaming) name = (len_at h.nodes renaming.target.node < 2 ^ 32) × NoneGrows h (jobs.Move renaming) name

@@ -1,4 +1,4 @@
--- `cdir` in a directory that grows by it, on a new map, by any view: the parts agree afterwards, and the command is done.
+-- What comes to a directory that grows by it, on a new map, by any view: the parts agree afterwards, and the command is done.
 use Rattle.std.proofs.Common.{◌≡◌, ℕ, List, refl, sym, subst, Some, None}
 use Rattle.std.specs.FinMap.{get}
 use Rattle.fc_alloc.specs.declared.owner.Owner.{Owner}
@@ -21,14 +21,15 @@ use Rattle.fc_laws.proofs.lemmas.agree.BeforeLemmas.{agreed_law}
 use Rattle.fc_outcomes.specs.NewImage.{Outcome}
 use Rattle.fc_refusals.specs.Targets.{IsVacant}
 use Rattle.fc_change.specs.declared.job.Growth.{Growth}
-use Rattle.fc_change.specs.declared.job.Job.TheVariants as jobs
 use Rattle.fc_change.specs.After.{AreOwnersAfter, nodes_after, owners_admitted}
 use Rattle.fc_writing.specs.New.{IsChanged, IsGiven}
 use Rattle.fc_course.specs.declared.stages.Prepared.{Prepared}
 use Rattle.fc_course.specs.Promises.{ChangesParts}
 use Rattle.fc_course.specs.Stages.{IsPreparedFor}
-use Rattle.fc_course.proofs.GrownCdirLemmas as cdir
-use Rattle.fc_course.proofs.GrownCdirDoneLemmas as done
+use Rattle.fc_course.proofs.ArrivalLemmas.{Arrival, Brings, job_of}
+use Rattle.fc_course.proofs.GrownNewLemmas as new
+use Rattle.fc_course.proofs.GrownNewDoneLemmas as done
+use Rattle.fc_course.proofs.GrownNewDoneLemmas.{filled_by}
 use Rattle.fc_course.proofs.RemovalRunLemmas.{new_view, parts, sound_in}
 use Rattle.fc_course.proofs.RemovalStageLemmas.{view_of}
 
@@ -36,8 +37,8 @@ use Rattle.fc_course.proofs.RemovalStageLemmas.{view_of}
 abbrev pub IsVacantBy : Parts → Path → ℕ → Type 0
 IsVacantBy h path dir = (v : Opened) → AreSound v.layout v.listings → ArePartsOf h v → IsVacant h.nodes v.listings path dir
 
-module _ (m : Map) (nodes : Nodes) (owners : List Owner) (is : IsNewMap m) (other : Kind) (a : Agree other (parts (Layout.New m) nodes owners)) (dir : ℕ) (path : Path)
-    (vacant : IsVacantBy (parts (Layout.New m) nodes owners) path dir) (pr : Prepared) (prep : IsPreparedFor (parts (Layout.New m) nodes owners) (jobs.Directory dir) (last_name path) pr) (growth : Growth)
+module _ (m : Map) (nodes : Nodes) (owners : List Owner) (is : IsNewMap m) (other : Kind) (a : Agree other (parts (Layout.New m) nodes owners)) (dir : ℕ) (x : Arrival) (path : Path)
+    (vacant : IsVacantBy (parts (Layout.New m) nodes owners) path dir) (pr : Prepared) (prep : IsPreparedFor (parts (Layout.New m) nodes owners) (job_of dir x) (last_name path) pr) (growth : Growth)
     (some : prep.wants.grows ≡ Some growth)
     (m' : Map) (owners' : List Owner) (number : ℕ) (free : get nodes number ≡ None) (given : IsGiven m pr.ready m')
     (after : AreOwnersAfter (Layout.New m') nodes pr.change (owners_admitted (Layout.New m) pr.change.object number owners) owners') where
@@ -55,13 +56,14 @@ module _ (m : Map) (nodes : Nodes) (owners : List Owner) (is : IsNewMap m) (othe
 
   -- The parts agree afterwards.
   pub agrees : Agree other (parts (Layout.New m') (nodes_after pr.change number nodes) owners')
-  agrees = cdir.agrees m nodes owners dir path pr prep growth some is other a.root a.listings on spot number free m' owners' given after
+  agrees = new.agrees m nodes owners dir x path pr prep growth some is other a.root a.listings on spot number free m' owners' given after
 
   -- The command is done.
-  pub changes : (bytes was image : List ℕ) → IsChanged m m' pr.ready bytes was image → ChangesParts (Command.Cdir path) h (parts (Layout.New m') (nodes_after pr.change number nodes) owners') was image
-  changes bytes was image changed kind view opens held =
+  pub changes : (c : Command) (bytes : List ℕ) → Brings x path bytes c → (was image : List ℕ) → IsChanged m m' pr.ready bytes was image → ChangesParts c h (parts (Layout.New m') (nodes_after pr.change number nodes) owners') was image
+  changes c bytes brings was image changed kind view opens held =
       let same = opened_as kind was view (Layout.New m) opens (sym held.layout) in
       let seen = new_view m nodes owners other is a kind was view opens held in
       let here = vacant view (sound_in (Layout.New m) nodes owners view (agreed_law.sound kind m nodes owners seen.0 view.listings seen.1) held) held in
-      subst (λ (v : Opened). Outcome kind was image v (Command.Cdir path) (parts (Layout.New m') (nodes_after pr.change number nodes) owners')) same
-      (done.outcome m nodes owners dir path pr prep growth some is kind seen.0 view.listings seen.1 here number free m' owners' given after bytes was image (subst (OpensAs was kind) (sym same) opens) changed)
+      subst (λ (v : Opened). Outcome kind was image v c (parts (Layout.New m') (nodes_after pr.change number nodes) owners')) same
+      (done.outcome m nodes owners dir x path pr prep growth some is kind seen.0 view.listings seen.1 here number free m' owners' given after bytes (filled_by x path bytes c brings) c brings was image
+      (subst (OpensAs was kind) (sym same) opens) changed)

@@ -1,4 +1,4 @@
--- `cdir` in a directory that grows by it, on a new map: it can be taken over, and is refused for want of space as what it wants is.
+-- What comes to a directory that grows by it, on a new map: it can be taken over, and is refused for want of space as what it wants is.
 use Rattle.std.proofs.Common.{◌≡◌, ◌<◌, ◌≤◌, ℕ, Bool, true, false, cond, List, [], ◌∷◌, ◌++◌, refl, sym, ap, ap₂, subst, ◌∙◌, Option, Some, None}
 use Rattle.std.specs.Prelude.{is_some}
 use Rattle.std.specs.FinMap.{get}
@@ -33,19 +33,21 @@ use Rattle.fc_tree.specs.Nodes.{HoldObjects}
 use Rattle.fc_tree.specs.Parts.{AreOwners}
 use Rattle.fc_tree.proofs.WalkedLemmas.{listed_directory}
 use Rattle.fc_change.specs.declared.job.Growth.{Growth}
-use Rattle.fc_change.specs.declared.job.Job.TheVariants as jobs
 use Rattle.fc_change.specs.declared.job.Wants.{Wants}
 use Rattle.fc_change.specs.After.{CanTakeOver, nodes_more, owners_admitted}
 use Rattle.fc_change.specs.Needs.{AreWants, HasRoomFor, IsGrowthOf, SaysAt, room_of}
-use Rattle.fc_change.specs.Shortage.{bytes_left, shortage}
+use Rattle.fc_change.specs.Shortage.{bytes_left, shortage, slack_for as slack_wanted}
 use Rattle.fc_placing.specs.Places.{slack_left}
 use Rattle.fc_course.specs.declared.stages.Prepared.{Prepared}
 use Rattle.fc_course.specs.Stages.{IsPreparedFor}
-use Rattle.fc_course.proofs.GrownCdirLemmas as cdir
+use Rattle.fc_course.proofs.ArrivalLemmas.{Arrival, Brings, gain_same, job_of}
+use Rattle.fc_course.proofs.ArrivalShortLemmas.{either_units, length_same, slack_same}
+use Rattle.fc_course.proofs.GrownNewLemmas as new
+use Rattle.fc_course.proofs.GrownWantLemmas.{IsItsWant, its_want}
 use Rattle.fc_course.proofs.GrownShortLemmas.{GrowsTo, grown_short}
 use Rattle.fc_course.proofs.GrownSpaceLemmas as space_of
 use Rattle.fc_course.proofs.GrownTakenLemmas.{can_take_over}
-use Rattle.fc_course.proofs.GrownVacantLemmas.{gains}
+use Rattle.fc_course.proofs.VacantLemmas.{gains}
 use Rattle.fc_course.proofs.GrownWalkLemmas.{IsBigOne, big_one}
 use Rattle.fc_course.proofs.GrownWalkLemmas as walk
 use Rattle.fc_course.proofs.NodeLemmas.{each_at, size_of_form}
@@ -55,7 +57,7 @@ use Rattle.fc_changes.proofs.NewPlaceLemmas.{some_there as some_listed}
 
 -- ---- taken over
 
-module _ (m : Map) (nodes : Nodes) (owners : List Owner) (dir : ℕ) (path : Path) (pr : Prepared) (prep : IsPreparedFor (parts_with m nodes owners) (jobs.Directory dir) (last_name path) pr)
+module _ (m : Map) (nodes : Nodes) (owners : List Owner) (dir : ℕ) (x : Arrival) (path : Path) (pr : Prepared) (prep : IsPreparedFor (parts_with m nodes owners) (job_of dir x) (last_name path) pr)
     (growth : Growth) (some : prep.wants.grows ≡ Some growth) (is_map : IsNewMap m)
     (kind : Kind) (root : Node) (listings : List Listing) (agreed : AgreeOn kind m nodes owners root listings) (spot : IsVacant nodes listings path dir) where
   abbrev l : Listing
@@ -67,14 +69,14 @@ module _ (m : Map) (nodes : Nodes) (owners : List Owner) (dir : ℕ) (path : Pat
   -- Nodes and owners are there for it, and there is memory for one more.
   pub can_take : (layout : Layout) (number room : ℕ) → nodes_more pr.change.object ≤ room → CanTakeOver layout nodes (owners_admitted (Layout.New m) pr.change.object number owners) room pr.change
   can_take layout number room enough =
-      let is = cdir.is m nodes owners dir path pr prep growth some is_map in
-      let at = walk.number m nodes owners dir path prep.wants prep.spaces is kind root listings agreed spot in
-      let stay = walk.stay m nodes owners dir path prep.wants prep.spaces is kind root listings agreed spot in
-      let to = walk.to m nodes owners dir path prep.wants prep.spaces is kind root listings agreed spot in
-      let p = cdir.p m nodes owners dir path pr prep growth some is_map in
+      let is = new.is m nodes owners dir x path pr prep growth some is_map in
+      let at = walk.number m nodes owners dir x path prep.wants prep.spaces is kind root listings agreed spot in
+      let stay = walk.stay m nodes owners dir x path prep.wants prep.spaces is kind root listings agreed spot in
+      let to = walk.to m nodes owners dir x path prep.wants prep.spaces is kind root listings agreed spot in
+      let p = new.p m nodes owners dir x path pr prep growth some is_map in
       let has = agreed.walked.held.each l.object (its_node.among nodes (Layout.New m) listings sound agreed.walked.held l spot.listed p.directory.node at) in
-      can_take_over (Layout.New m) layout nodes owners listings l stay has.holder_number (cdir.e m nodes owners dir path pr prep growth some is_map) p.directory pr.change (Some (cdir.own m nodes owners dir path pr prep growth some is_map))
-      number room (cdir.change m nodes owners dir path pr prep growth some is_map) (cdir.comes m nodes owners dir path pr prep growth some is_map)
+      can_take_over (Layout.New m) layout nodes owners listings l stay has.holder_number (new.e m nodes owners dir x path pr prep growth some is_map) p.directory pr.change (new.own m nodes owners dir x path pr prep growth some is_map)
+      number room (new.change m nodes owners dir x path pr prep growth some is_map) (new.comes m nodes owners dir x path pr prep growth some is_map)
       (record {
         sound = sound;
         held = agreed.walked.held;
@@ -82,25 +84,28 @@ module _ (m : Map) (nodes : Nodes) (owners : List Owner) (dir : ℕ) (path : Pat
         above = has.at_holder;
         number = at;
         others = to.others;
-        some = space_of.o_some m nodes owners listings l.object stay growth (Some (cdir.plan m nodes owners dir path pr prep growth some is_map)) prep.spaced.places.dir p to;
+        some = space_of.o_some m nodes owners listings l.object stay growth (new.plan m nodes owners dir x path pr prep growth some is_map) prep.spaced.places.dir p to;
       })
       (ap (λ (x : Option Node). is_some x) (its_node.there nodes (Layout.New m) listings sound agreed.walked.held l spot.listed p.directory.node at)) enough
 
 -- ---- refused
 
 -- By one walk the directory that grows is a big one, and so by each view of the same nodes.
-module _ (m : Map) (nodes : Nodes) (owners : List Owner) (dir : ℕ) (path : Path) (w : Wants) (are : AreWants (parts_with m nodes owners) (jobs.Directory dir) (last_name path) w) (growth : Growth) (some : w.grows ≡ Some growth)
+module _ (m : Map) (nodes : Nodes) (owners : List Owner) (dir : ℕ) (x : Arrival) (path : Path) (w : Wants) (are : AreWants (parts_with m nodes owners) (job_of dir x) (last_name path) w) (growth : Growth) (some : w.grows ≡ Some growth)
     (is_map : IsNewMap m) (kind : Kind) (root : Node) (walked : List Listing) (agreed : AgreeOn kind m nodes owners root walked) (first : IsVacant nodes walked path dir)
-    (v : Opened) (new : v.layout ≡ Layout.New m) (sound : AreSound (Layout.New m) v.listings) (held : HoldObjects nodes v.listings) (owned : AreOwners owners nodes (Layout.New m) (objects_of v.listings))
-    (spot : IsVacant nodes v.listings path dir) where
+    (v : Opened) (at : v.layout ≡ Layout.New m) (sound : AreSound (Layout.New m) v.listings) (held : HoldObjects nodes v.listings) (owned : AreOwners owners nodes (Layout.New m) (objects_of v.listings))
+    (spot : IsVacant nodes v.listings path dir) (bytes : List ℕ) (c : Command) (brings : Brings x path bytes c) where
+  want : IsItsWant (parts_with m nodes owners) dir x (last_name path) w
+  want = its_want (parts_with m nodes owners) dir x (last_name path) w are
+
   abbrev o : Object
   o = spot.listing.object
 
   room : HasRoomFor nodes dir (last_name path) (rooms.Grows growth.len)
-  room = subst (λ (g : Option Growth). HasRoomFor nodes dir (last_name path) (room_of g)) some are.room
+  room = subst (λ (g : Option Growth). HasRoomFor nodes dir (last_name path) (room_of g)) some want.room
 
   node_is : growth.node ≡ dir
-  node_is = subst (IsGrowthOf dir) some are.grown
+  node_is = subst (IsGrowthOf dir) some want.grown
 
   before : AreSound (Layout.New m) walked
   before = agreed_law.sound kind m nodes owners root walked agreed
@@ -144,27 +149,28 @@ module _ (m : Map) (nodes : Nodes) (owners : List Owner) (dir : ℕ) (path : Pat
   gets : GetsName spot.listing.content (last_name path) (gain_of path spot.listing)
   gets = record { name_is = refl; names_are = refl }
 
-  gains_it : gain_in v (Command.Cdir path) ≡ Some (gain_of path spot.listing)
-  gains_it = gains (Layout.New m) nodes v.listings sound path dir spot v refl
+  gains_it : gain_in v c ≡ Some (gain_of path spot.listing)
+  gains_it = sym (gain_same x path bytes c brings v) ∙ gains (Layout.New m) nodes v.listings sound path dir spot v refl
 
   has_room : HasRoom spot.listing.content (gain_of path spot.listing) (rooms.Grows growth.len)
   has_room = room spot.listing.content (gain_of path spot.listing) (says_by v.listings sound held spot) gets
 
-  grows : GrowsTo v (Command.Cdir path) o growth.len
+  grows : GrowsTo v c o growth.len
   grows = record {
     growth = ap (option_and_then growth_of) gains_it ∙ has_room.1 o;
     not_full = ap (λ (x : Option Gain). option_map_or (λ (g : Gain). is_full_with g.listing.content g) x false) gains_it ∙ has_room.0;
   }
 
-  object : object_units m v (Command.Cdir path) ≡ units m.geometry (bytes_left m owners w)
+  object : object_units m v c ≡ units m.geometry (bytes_left m owners w)
   object =
-      ap (λ (x : Layout). units m.geometry (new_dir_size (dir_form x))) new
-      ∙ ap (units m.geometry) (sym are.bytes ∙ ap (λ (q : Option ℕ). cond (is_some (option_and_then (λ (d : ℕ). slack_left m owners d w.bytes) q)) 0 w.bytes) (sym are.slack))
+      ap₂ (λ (s : Option (ℕ × ℕ)) (n : ℕ). let u : ℕ = cond (is_some s) 0 (units m.geometry n) in u) (slack_same m nodes owners is_map dir x path w want.bytes want.slack bytes c brings v at sound held owned spot)
+      (length_same m nodes owners is_map dir x path w want.bytes want.slack bytes c brings v at sound held owned spot)
+      ∙ either_units m.geometry w.bytes (is_some (slack_wanted m owners w))
 
   -- So it is refused as what it wants is.
-  pub short_is : short v (Command.Cdir path) ≡ shortage (parts_with m nodes owners) w
+  pub short_is : short v c ≡ shortage (parts_with m nodes owners) w
   short_is =
-      grown_short m nodes owners v (Command.Cdir path) o w growth some new
+      grown_short m nodes owners v c o w growth some at
       (record {
         is_map = is_map;
         sound = sound;
