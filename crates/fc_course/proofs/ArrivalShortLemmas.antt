@@ -1,12 +1,11 @@
 -- `cdir`, `save` and `create` of what is new are refused for want of space as what they want is.
-use Rattle.std.proofs.Common.{◌≡◌, ◌<◌, ◌+◌, ◌*◌, ◌&&◌, ◌==◌, inl, inr, ℕ, Bool, true, false, cond, List, [], ◌∷◌, length, Option, Some, None, refl, sym, ap, ap₂, subst, ◌∙◌, arith}
+use Rattle.std.proofs.Common.{◌≡◌, ◌+◌, ◌*◌, ◌&&◌, inl, inr, ℕ, Bool, true, false, cond, List, [], ◌∷◌, length, Option, Some, None, refl, sym, ap, ap₂, ◌∙◌, arith}
 use Rattle.std.specs.Prelude.{is_none, is_some, nat_lt}
 use Rattle.std.specs.Option.{option_and_then, option_map_or}
 use Rattle.fc_names.specs.declared.refusal.Refusal.{Refusal}
 use Rattle.fc_names.specs.declared.refusal.Refusal.TheVariants as refusals
 use Rattle.fc_names.specs.Names.{Path}
 use Rattle.fc_alloc.specs.declared.owner.Owner.{Owner}
-use Rattle.fc_oldmap.specs.declared.Hole.{Hole}
 use Rattle.fc_oldmap.specs.Holes.{first_fit_place, hole_limit, hole_sum}
 use Rattle.fc_oldmap.specs.OldMap.{OldMapContent}
 use Rattle.fc_newmap.specs.Map.{Map, bits_in, hole_runs}
@@ -18,12 +17,12 @@ use Rattle.fc_model.specs.Tree.{holder, last_name}
 use Rattle.fc_drafts.specs.declared.room.Room.TheVariants as rooms
 use Rattle.fc_drafts.specs.Gains.{GetsName}
 use Rattle.fc_image.specs.Layout.{Layout, dir_form}
-use Rattle.fc_image.specs.Objects.{object_at, objects_of}
+use Rattle.fc_image.specs.Objects.{objects_of}
 use Rattle.fc_image.specs.Opening.{Opened}
 use Rattle.fc_image.specs.Sound.{AreSound}
-use Rattle.fc_image.specs.Walk.{Listing, Object}
+use Rattle.fc_image.specs.Walk.{Object}
 use Rattle.fc_image.specs.effects.Sharing.{new_ids, units}
-use Rattle.fc_image.specs.effects.Short.{Gain, gain_in, gain_of, holes_without, is_full_with, new_dir_size, new_length, object_units, old_need, one_if, replaced_object, short, slack_for, slack_in, space_reasons, with_space_of}
+use Rattle.fc_image.specs.effects.Short.{Gain, gain_in, gain_of, holes_without, is_full_with, new_length, old_need, one_if, replaced_object, short, slack_for, slack_in, space_reasons, with_space_of}
 use Rattle.fc_changes.proofs.BasicLemmas.{and_false}
 use Rattle.fc_laws.specs.nodes.Edits.{Nodes}
 use Rattle.fc_placing.specs.Places.{FitsDirectory, slack_left}

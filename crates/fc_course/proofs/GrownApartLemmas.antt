@@ -1,17 +1,16 @@
 -- New space of a directory that grows, planned from what an object's leaves: its sectors are different ones, and none is the object's.
-use Rattle.std.proofs.Common.{◌≡◌, ◌<◌, ◌≤◌, ◌+◌, ◌-◌, ◌*◌, ◌/◌, ◌%◌, ◌==◌, ℕ, Bool, true, false, cond, List, [], ◌∷◌, refl, sym, ap, ap₂, subst, ◌∙◌, arith, All, eq-eqb, Option, Some, None}
+use Rattle.std.proofs.Common.{◌≡◌, ◌≤◌, ◌+◌, ◌-◌, ◌*◌, ◌/◌, ◌==◌, ℕ, Bool, true, false, cond, List, [], ◌∷◌, refl, sym, ap, subst, ◌∙◌, arith, eq-eqb, Option, Some, None}
 use Rattle.std.specs.Prelude.{Contains}
 use Rattle.std.specs.List.{find}
 use Rattle.std.proofs.lemmas.Bool.{and_from}
 use Rattle.std.proofs.lemmas.List.Elements.{All-contains}
-use Rattle.fc_record.specs.declared.Geometry.{Geometry}
 use Rattle.fc_record.specs.Record.{base, first_bit}
 use Rattle.fc_newmap.specs.Map.{Map, ZoneRun, all_runs, disc_bit, first_sector, hole_runs, is_hole, sector_count}
 use Rattle.fc_newmap.specs.NewMap.{IsNewMap}
 use Rattle.fc_newmap.specs.RunsLaw.{HoldsSector, IsGeometry}
 use Rattle.fc_newmap.proofs.PlaceLemmas.{filter_in}
 use Rattle.fc_newmap.proofs.RunsLemmas.{runs_apart, sectors_add}
-use Rattle.fc_image.specs.Layout.{is_among, is_apart}
+use Rattle.fc_image.specs.Layout.{is_apart}
 use Rattle.fc_image.specs.effects.Placed.{HasRunLength, IsPlan, holes_left, left_behind, stands_at}
 use Rattle.fc_image.proofs.HolesLemmas.{apart_from}
 use Rattle.fc_laws.proofs.lemmas.agree.BeforeLemmas.{new_shape}

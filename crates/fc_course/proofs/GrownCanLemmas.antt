@@ -4,10 +4,7 @@ use Rattle.std.specs.Prelude.{AllPairs, Contains, IfSome, IsSome}
 use Rattle.std.specs.List.Sorted.{IsStrictlyIncreasing}
 use Rattle.std.proofs.lemmas.Bool.{eqb-true}
 use Rattle.std.proofs.lemmas.List.Elements.{All-cons, Contains-get_or}
-use Rattle.std.proofs.lemmas.List.FromFn.{get_or-range_with_len, length-range_with_len}
 use Rattle.std.proofs.lemmas.List.Kept.{IsStrictlyIncreasing-filter}
-use Rattle.std.specs.List.{range_with_len}
-use Rattle.fc_record.specs.declared.Geometry.{Geometry}
 use Rattle.fc_newmap.specs.Map.{Map, ZoneRun, hole_runs, zone_numbers}
 use Rattle.fc_newmap.specs.NewMap.{IsNewMap}
 use Rattle.fc_newmap.proofs.HeldLemmas.{geometry_facts}
@@ -24,7 +21,6 @@ use Rattle.fc_plan.proofs.Left.{left_of_none}
 use Rattle.fc_placing.specs.Space.{zones_changed}
 use Rattle.fc_placing.proofs.SpaceLemmas.{low_in_range, range_rises}
 use Rattle.fc_tree.proofs.MemberLemmas.{no_element}
-use Rattle.fc_edits.proofs.lemmas.ShapeLemmas.{of_one}
 use Rattle.fc_writing.specs.declared.ready.MapStep.{MapStep}
 use Rattle.fc_writing.specs.declared.ready.MapStep.TheVariants as steps
 use Rattle.fc_writing.specs.declared.ready.RootPlace.{RootPlace}
@@ -34,7 +30,7 @@ use Rattle.fc_writing.proofs.LaterLemmas.{later_law}
 use Rattle.fc_change.specs.GrownSpace.{gone_at_once, kept_parts, plans_of}
 use Rattle.fc_change.specs.Steps.{IsSpaceStep, IsStep, with_zone_0, zones_of}
 use Rattle.fc_course.proofs.GrownStepLemmas.{PlansFit, with_some}
-use Rattle.fc_course.proofs.SpaceLemmas.{can_edit, zones_same}
+use Rattle.fc_course.proofs.SpaceLemmas.{can_edit, no_parts_kept, zones_same}
 
 -- ---- the zones that are listed
 
@@ -96,9 +92,6 @@ module _ (m : Map) (plans : List Plan) (gone : List ℕ) where
 
 -- ---- both steps
 
-no_parts : AllPairs BeginsBefore (fronts [])
-no_parts i j d less low = absurd (omega (arith, low, less))
-
 -- Each of these that is there has the property of those plans.
 stay_of : (P : Plan → Type 0) (object dir : Option Plan) → IfSome object P → IfSome dir P → (p : Plan) → Contains (plans_of object dir) p → P p
 stay_of P None None a b p at = absurd (no_element p at)
@@ -121,9 +114,9 @@ module _ (m : Map) (object dir : Option Plan) (alone : Bool) (back : List ℕ) (
   kept_rise = by dir fit.dir_can alone
     where
       by : (d : Option Plan) → IfSome d (CanTakePlan m.geometry (holes_left (hole_runs m) (parts_in object))) → (a : Bool) → AllPairs BeginsBefore (fronts (kept_parts d a))
-      by None can a = no_parts
+      by None can a = no_parts_kept
       by (Some q) can true = can.rising
-      by (Some q) can false = no_parts
+      by (Some q) can false = no_parts_kept
 
   abbrev plans : List Plan
   plans = plans_of object dir

@@ -3,19 +3,18 @@ use Rattle.std.proofs.Common.{◌≡◌, ◌⊎◌, inl, inr, ⊎_elim, ℕ, ◌
 use Rattle.std.specs.Prelude.{Contains, IsPermutation}
 use Rattle.std.specs.FinMap.{get, insert as put}
 use Rattle.std.proofs.lemmas.List.{length_push}
-use Rattle.std.proofs.lemmas.List.Elements.{Contains-append_cases, Contains-append_left}
 use Rattle.std.proofs.lemmas.List.Sorted.{IsPermutation-middle, IsPermutation-refl}
 use Rattle.fc_names.specs.Names.{Path, is_same_path}
 use Rattle.fc_names.specs.declared.name.NameForm.TheVariants as forms
 use Rattle.fc_model.specs.Command.{Command}
 use Rattle.fc_model.specs.Tree.{holder as holder_path}
 use Rattle.fc_dirs.specs.declared.Entry.{Entry}
-use Rattle.fc_dirs.specs.Directory.{Directory, entries_of}
+use Rattle.fc_dirs.specs.Directory.{Directory}
 use Rattle.fc_drafts.specs.declared.draft.Draft.{Draft}
 use Rattle.fc_drafts.specs.Draft.{directory_in}
 use Rattle.fc_image.specs.Layout.{Layout, dir_form}
 use Rattle.fc_image.specs.Sound.{AreSound}
-use Rattle.fc_image.specs.Walk.{Listing, Object, is_directory_object, object_size}
+use Rattle.fc_image.specs.Walk.{Listing, Object, object_size}
 use Rattle.fc_image.specs.effects.Steady.{AreWritten, IsRewritten, is_renamed_by}
 use Rattle.fc_image.proofs.PathsLemmas.{itself}
 use Rattle.fc_changes.proofs.BasicLemmas.{clash, holder_pushed}
@@ -27,7 +26,7 @@ use Rattle.fc_tree.specs.declared.node.Body.TheVariants as bodies
 use Rattle.fc_tree.specs.declared.node.Node.{Node}
 use Rattle.fc_tree.specs.Agree.{HasForm}
 use Rattle.fc_tree.specs.Nodes.{HoldObjects, body_in, number_of}
-use Rattle.fc_tree.proofs.MemberLemmas.{contains_here, in_map, no_element}
+use Rattle.fc_tree.proofs.MemberLemmas.{contains_here, no_element}
 use Rattle.fc_tree.proofs.WalkedLemmas.{child_path, same_some}
 use Rattle.fc_edits.specs.Addition.{Addition, amended, edit}
 use Rattle.fc_edits.specs.Edit.{Amended, objects}
@@ -40,7 +39,7 @@ use Rattle.fc_change.specs.declared.spaces.GrownPlace.{GrownPlace}
 use Rattle.fc_objects.specs.Extents.{sectors_in}
 use Rattle.fc_writing.specs.declared.ready.Piece.{Piece}
 use Rattle.fc_writing.specs.Ready.{place_of}
-use Rattle.fc_course.proofs.GrownAroundLemmas.{IsCutAround, in_filtered, none_holds, one_first}
+use Rattle.fc_course.proofs.GrownAroundLemmas.{IsCutAround, one_first}
 use Rattle.fc_course.proofs.GrownNodeLemmas.{body_commute, body_put, regrown_put, said_commute}
 use Rattle.fc_course.proofs.GrownReadyLemmas.{AreReady, IsOneReady, regrown_at}
 use Rattle.fc_course.proofs.GrownSpaceLemmas.{growing_of}
@@ -48,7 +47,6 @@ use Rattle.fc_course.proofs.NodeLemmas as node_of
 use Rattle.fc_course.proofs.GrownToldLemmas.{num, num_is, other_long, parent_now}
 use Rattle.fc_course.proofs.GrownSaidLemmas.{IsOwnListing, comes_to}
 use Rattle.fc_course.proofs.GrownSaidLemmas as said_of
-use Rattle.std.proofs.lemmas.Bool.{false_from_ne_true as unless}
 use Rattle.fc_image.proofs.EntriesLemmas.{later as contains_later, cases as contains_cases}
 
 module _ (layout : Layout) (nodes : Nodes) (listings : List Listing) (sound : AreSound layout listings) (held : HoldObjects nodes listings) (l : Listing) (listed : Contains listings l)

@@ -3,7 +3,6 @@ use Rattle.std.proofs.Common.{◌≡◌, ◌<◌, ◌≤◌, ◌⊎◌, inl, inr
 use Rattle.std.specs.Prelude.{Contains, Some, None, slice_index, slice_range}
 use Rattle.std.specs.List.{AllByRecursion}
 use Rattle.std.proofs.lemmas.Bool.{eqb-true}
-use Rattle.std.proofs.lemmas.List.{drop-drop}
 use Rattle.fc_bytes.specs.Bits.{bits, num}
 use Rattle.fc_bytes.specs.BitLaws.{bits-drop, bits-take}
 use Rattle.fc_record.specs.declared.DiscRecord.{DiscRecord}

@@ -13,8 +13,8 @@ use Rattle.fc_drafts.specs.Draft.{names_of}
 use Rattle.fc_drafts.specs.Gains.{GetsName}
 use Rattle.fc_image.specs.Layout.{Layout, dir_form}
 use Rattle.fc_image.specs.Sound.{AreSound}
-use Rattle.fc_image.specs.Walk.{Listing, Object}
-use Rattle.fc_image.specs.effects.Short.{Gain, Growth as Grown, growth_with, new_dir_size}
+use Rattle.fc_image.specs.Walk.{Listing}
+use Rattle.fc_image.specs.effects.Short.{Gain, Growth as Grown, growth_with}
 use Rattle.fc_laws.proofs.lemmas.agree.BeforeLemmas.{agreed_law}
 use Rattle.fc_refusals.specs.Targets.{IsVacant}
 use Rattle.fc_tree.specs.Agree.{Agree}

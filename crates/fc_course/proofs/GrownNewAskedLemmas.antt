@@ -1,7 +1,6 @@
 -- What comes to a directory that grows by it, on a new map: it can be taken over, and is refused for want of space as what it wants is.
-use Rattle.std.proofs.Common.{◌≡◌, ◌<◌, ◌≤◌, ℕ, Bool, true, false, cond, List, [], ◌∷◌, ◌++◌, refl, sym, ap, ap₂, subst, ◌∙◌, Option, Some, None}
+use Rattle.std.proofs.Common.{◌≡◌, ◌<◌, ◌≤◌, ℕ, Bool, true, false, cond, List, [], ◌∷◌, ◌++◌, refl, sym, ap, ap₂, subst, ◌∙◌, Option, Some}
 use Rattle.std.specs.Prelude.{is_some}
-use Rattle.std.specs.FinMap.{get}
 use Rattle.std.specs.Option.{option_and_then, option_map_or}
 use Rattle.fc_alloc.specs.declared.owner.Owner.{Owner}
 use Rattle.fc_names.specs.Names.{Path}
@@ -21,7 +20,7 @@ use Rattle.fc_image.specs.Opening.{Opened}
 use Rattle.fc_image.specs.Sound.{AreSound}
 use Rattle.fc_image.specs.Walk.{Listing, Object, object_size, is_directory_object}
 use Rattle.fc_image.specs.effects.Sharing.{units}
-use Rattle.fc_image.specs.effects.Short.{Gain, gain_in, gain_of, growth_of, is_full_with, new_dir_size, object_units, short}
+use Rattle.fc_image.specs.effects.Short.{Gain, gain_in, gain_of, growth_of, is_full_with, object_units, short}
 use Rattle.fc_changes.proofs.ChangeLemmas.{a_sector}
 use Rattle.fc_laws.specs.nodes.Edits.{Nodes}
 use Rattle.fc_laws.specs.agree.Agreed.{AgreeOn, parts_with}
@@ -37,7 +36,6 @@ use Rattle.fc_change.specs.declared.job.Wants.{Wants}
 use Rattle.fc_change.specs.After.{CanTakeOver, nodes_more, owners_admitted}
 use Rattle.fc_change.specs.Needs.{AreWants, HasRoomFor, IsGrowthOf, SaysAt, room_of}
 use Rattle.fc_change.specs.Shortage.{bytes_left, shortage, slack_for as slack_wanted}
-use Rattle.fc_placing.specs.Places.{slack_left}
 use Rattle.fc_course.specs.declared.stages.Prepared.{Prepared}
 use Rattle.fc_course.specs.Stages.{IsPreparedFor}
 use Rattle.fc_course.proofs.ArrivalLemmas.{Arrival, Brings, gain_same, job_of}

@@ -1,9 +1,8 @@
 -- What comes to a directory that grows by it, on a new map: what is written of it, and that the command has done then what it promises.
-use Rattle.std.proofs.Common.{◌≡◌, ◌⊎◌, ◌++◌, inl, inr, flat_map, ◌<◌, ◌≤◌, ◌*◌, ◌/◌, ◌^◌, ◌==◌, ⊎_elim, ℕ, Bool, true, false, cond, List, [], ◌∷◌, length, refl, sym, ap, ap₂, subst, ◌∙◌, arith, eq-eqb, Option, Some, None, ◌%◌, map}
-use Rattle.std.specs.Prelude.{Contains, IfSome, nat_le}
+use Rattle.std.proofs.Common.{◌≡◌, ◌++◌, flat_map, ◌≤◌, ◌*◌, ◌==◌, ⊎_elim, ℕ, Bool, false, cond, List, ◌∷◌, length, refl, sym, ap, ap₂, subst, ◌∙◌, Option, Some, None, map}
+use Rattle.std.specs.Prelude.{Contains}
 use Rattle.std.specs.FinMap.{get}
 use Rattle.std.specs.Option.{option_and_then}
-use Rattle.std.proofs.lemmas.Bool.{eqb-true, and_parts, leb-true}
 use Rattle.std.proofs.lemmas.List.Elements.{Contains-append_left}
 use Rattle.fc_alloc.specs.declared.owner.Owner.{Owner}
 use Rattle.fc_names.specs.Names.{Path}
@@ -12,46 +11,37 @@ use Rattle.fc_names.specs.declared.name.NameForm.TheVariants as forms
 use Rattle.fc_record.specs.declared.DiscRecord.{DiscRecord}
 use Rattle.fc_record.specs.declared.Geometry.{Geometry}
 use Rattle.fc_record.specs.declared.Kind.{Kind}
-use Rattle.fc_checks.specs.Checks.{is_big_size}
 use Rattle.fc_newmap.specs.Map.{Map}
 use Rattle.fc_newmap.specs.NewMap.{IsNewMap}
 use Rattle.fc_model.specs.Command.{Command}
 use Rattle.fc_model.specs.Tree.{last_name}
-use Rattle.fc_dirs.specs.Directory.{Directory, directory_size, entries_of}
-use Rattle.fc_drafts.specs.Draft.{directory_in, size_of}
+use Rattle.fc_dirs.specs.Directory.{directory_size, entries_of}
+use Rattle.fc_drafts.specs.Draft.{directory_in}
 use Rattle.fc_image.specs.Layout.{Layout, dir_form}
 use Rattle.fc_image.specs.Opening.{Opened}
 use Rattle.fc_image.specs.Stays.{OpensAs, IsNewKind}
 use Rattle.fc_image.specs.Walk.{Listing, Object, object_size}
-use Rattle.fc_image.specs.effects.Short.{gain_of, growth_in, growth_of, new_dir_size, Gain}
-use Rattle.fc_image.specs.effects.Steady.{AreWritten, new_directory, replaced_entry}
+use Rattle.fc_image.specs.effects.Short.{gain_of, growth_in, growth_of, Gain}
+use Rattle.fc_image.specs.effects.Steady.{replaced_entry}
 use Rattle.fc_laws.specs.nodes.Edits.{Nodes}
 use Rattle.fc_laws.specs.agree.Agreed.{AgreeOn, parts_with}
 use Rattle.fc_laws.proofs.lemmas.takeover.KindLemmas.{new_kind}
 use Rattle.fc_laws.proofs.lemmas.takeover.WriteLemmas.{written_bytes_law}
 use Rattle.fc_objects.specs.Extents.{sectors_in}
-use Rattle.fc_changes.specs.Changed.{IsInNewSpace}
-use Rattle.fc_changes.proofs.BasicLemmas.{clash}
 use Rattle.fc_refusals.specs.Targets.{IsVacant}
 use Rattle.fc_tree.specs.declared.node.Node.{Node}
-use Rattle.fc_tree.specs.Agree.{HasForm, IsDirectory}
-use Rattle.fc_tree.specs.Nodes.{number_of, HoldObjects}
-use Rattle.fc_tree.proofs.MemberLemmas.{contains_here, no_element}
-use Rattle.fc_tree.proofs.WalkedLemmas.{listed_directory, same_some, root_path}
+use Rattle.fc_tree.specs.Nodes.{number_of}
+use Rattle.fc_tree.proofs.WalkedLemmas.{listed_directory}
 use Rattle.fc_edits.specs.Growing.{Growing}
 use Rattle.fc_outcomes.specs.GrownAddition.{GrownAdded, NewGrownAdditionWritten}
 use Rattle.fc_outcomes.specs.Growth.{Grows}
 use Rattle.fc_outcomes.specs.Puts.{Put}
-use Rattle.fc_outcomes.proofs.lemmas.GrownFiledLemmas.{grown_addition_law}
 use Rattle.fc_change.specs.declared.job.Growth.{Growth}
 use Rattle.fc_change.specs.After.{AreOwnersAfter, owners_admitted}
 use Rattle.fc_change.specs.GrownSpace.{root_of}
 use Rattle.fc_writing.specs.declared.ready.Piece.{Piece}
-use Rattle.fc_writing.specs.declared.ready.RootPlace.{RootPlace}
-use Rattle.fc_writing.specs.declared.ready.Source.{Source}
 use Rattle.fc_writing.specs.New.{IsChanged, IsGiven}
 use Rattle.fc_writing.specs.Ready.{place_of}
-use Rattle.fc_writing.specs.Steps.{CanRoot}
 use Rattle.fc_course.specs.declared.stages.Prepared.{Prepared}
 use Rattle.fc_course.specs.Stages.{IsPreparedFor}
 use Rattle.fc_course.proofs.GrownArrivalLemmas as arrival
@@ -78,123 +68,22 @@ use Rattle.fc_course.proofs.GrownSpaceLemmas.{IsToGrow, growing_of}
 use Rattle.fc_edits.specs.GrownAddition.{NewGrownAddition}
 use Rattle.fc_laws.proofs.lemmas.agree.BeforeLemmas.{agreed_law}
 use Rattle.fc_course.proofs.NodeLemmas.{each_at}
-use Rattle.std.specs.Int.{is_in_range}
-use Rattle.fc_laws.proofs.lemmas.nodes.FitsLemmas.{kid_lower}
 use Rattle.fc_drafts.specs.declared.room.Room.TheVariants as rooms
-use Rattle.fc_tree.proofs.SoundLemmas.{root_or_child}
 use Rattle.fc_dirs.specs.Entries.{with_entry}
-use Rattle.fc_device.specs.declared.disk.Extent.{Extent}
 use Rattle.fc_plan.specs.declared.plan.Plan.{Plan}
-use Rattle.fc_course.proofs.ArrivalPreparedLemmas.{new_size}
-use Rattle.fc_laws.proofs.lemmas.nodes.MovingLemmas.{some_long as longer}
-use Rattle.fc_course.proofs.ArrivalLemmas.{directory_long}
-use Rattle.fc_image.proofs.EntriesLemmas.{cases as contains_cases}
 use Rattle.fc_dirs.specs.Entries.{has_name}
-use Rattle.fc_drafts.specs.declared.draft.Draft.{Draft}
 use Rattle.fc_newmap.specs.Map.{map_sectors}
 use Rattle.fc_model.specs.Tree.{holder}
 use Rattle.fc_image.specs.Objects.{objects_of}
-use Rattle.fc_changes.specs.Changed.{IsFileAt}
-use Rattle.fc_edits.specs.Addition.{Addition}
-use Rattle.fc_outcomes.specs.Addition.{IsItsFile}
-use Rattle.fc_outcomes.specs.GrownAddition.{IsItsGrownDirectory}
 use Rattle.fc_writing.specs.Content.{Content, HasContent, IsPart}
-use Rattle.fc_writing.specs.Ready.{all_content, carried_by, content_of, late_content, source_content}
-use Rattle.fc_change.specs.declared.spaces.Place.{Place}
+use Rattle.fc_writing.specs.Ready.{all_content, carried_by, content_of, late_content}
 use Rattle.fc_course.proofs.ArrivalLemmas.{Arrival, Brings, bytes_of, gain_same, job_of, no_last, renames_none, size_is}
-use Rattle.fc_course.proofs.ArrivalEditLemmas.{MakesIt}
-use Rattle.fc_course.proofs.FilledLemmas.{filled, filled_long, given_long, makes_file, stored_filled}
-use Rattle.fc_course.proofs.GrownNewLemmas.{OwnsDraft, WritesIt, copies_none, given_to, object_for, own_listings}
-use Rattle.fc_course.proofs.GrownSaidLemmas.{comes_to}
+use Rattle.fc_course.proofs.GrownComerLemmas.{copies_none, given_to}
 use Rattle.fc_course.proofs.GrownWalkLemmas as walk
 use Rattle.fc_course.proofs.GrownWantLemmas as wanted
 use Rattle.fc_course.proofs.NewDoneLemmas.{IsPlacedAs}
 use Rattle.fc_course.proofs.VacantLemmas.{at_path, gains}
-
--- ---- its bytes
-
--- No more bytes are given than a file has.
-abbrev pub IsFilled : Arrival → List ℕ → Type 0
-IsFilled Arrival.Makes bytes = Unit {0}
-IsFilled (Arrival.Saves words) bytes = length bytes ≤ words.len
-
-pub filled_by : (x : Arrival) (path : Path) (bytes : List ℕ) (c : Command) → Brings x path bytes c → IsFilled x bytes
-filled_by Arrival.Makes path bytes c brings = tt
-filled_by (Arrival.Saves words) path bytes c brings = given_long words path bytes c brings
-
--- What is written of the object, by a piece or of the bytes that are given, are all its bytes, in all its sectors.
-record AreItsBytes (form : NameForm) (parent : ℕ) (x : Arrival) (name : List ℕ) (o : Object) (ss : List ℕ) (made : List Piece) (source : Source) (bytes : List ℕ) : Type 0 where
-  pub stored : List ℕ
-  pub makes : (q : Piece) → Contains made q → (place_of q ≡ ss) × (q.bytes.items ≡ stored)
-  pub gives : (y : Put) → Contains (source_puts source (given_to x bytes)) y → (y.sectors ≡ ss) × (y.bytes ≡ stored)
-  pub some : ((q : Piece) × Contains made q) ⊎ Contains (source_puts source (given_to x bytes)) (record { sectors = ss; bytes = stored })
-  pub says : (d : Listing) → Contains (own_listings form parent x name o) d → AreWritten stored d.content
-  pub long : length stored ≡ bytes_of form x
-  pub same : (size : ℕ) (was : List ℕ) → source_content size was bytes source ≡ source_content size was (given_to x bytes) source
-  pub made_of : (c : Command) (path : Path) → Brings x path bytes c → MakesIt x c path stored
-
-its_bytes : (form : NameForm) (parent : ℕ) (x : Arrival) (name : List ℕ) (o : Object) (own : Option Draft) (place : Place) (made : List Piece) (source : Source) (bytes : List ℕ) → OwnsDraft form parent x name own
-    → WritesIt x own place made source → IsFilled x bytes → AreItsBytes form parent x name o (sectors_in place.extents.items) made source bytes
-its_bytes form parent Arrival.Makes name o own place made source bytes owns writes filled' =
-    let q = writes.2 in
-    let same : writes.0 ≡ owns.0 = same_some writes.0 owns.0 (sym writes.1 ∙ owns.1) in
-    let says : directory_in writes.0 ≡ new_directory form parent name = ap (λ (d : Draft). directory_in d) same ∙ owns.2 in
-    record {
-      stored = q.bytes.items;
-      makes = λ r at.
-          (let e : r ≡ q = ⊎_elim (λ here. sym here) (λ none. absurd (no_element r none)) (contains_cases q r [] (subst (λ (qs : List Piece). Contains qs r) writes.3 at)) in
-          (ap place_of e ∙ ap (λ (xs : List Extent). sectors_in xs) writes.4, ap (λ (y : Piece). y.bytes.items) e));
-      gives = λ y at. absurd (no_element y (subst (λ (s : Source). Contains (source_puts s bytes) y) writes.6 at));
-      some = inl (q, subst (λ (qs : List Piece). Contains qs q) (sym writes.3) (contains_here q []));
-      says = λ d at. ⊎_elim
-          (λ here. subst (λ (y : Listing). AreWritten q.bytes.items y.content) here (subst (AreWritten q.bytes.items) says writes.5.bytes)) (λ none. absurd (no_element d none))
-          (contains_cases (record { object = o; content = new_directory form parent name; children = [] }) d [] at);
-      long = writes.5.length_is ∙ ap (λ (d : Directory). size_of d) says ∙ new_size form parent name;
-      same = λ size was. refl;
-      made_of = λ c path brings. tt;
-    }
-its_bytes form parent (Arrival.Saves words) name o own place made source bytes owns writes filled' = record {
-  stored = filled words.len bytes;
-  makes = λ r at. absurd (no_element r (subst (λ (qs : List Piece). Contains qs r) writes.0 at));
-  gives = λ y at.
-      (let put : Put = record { sectors = sectors_in place.extents.items; bytes = filled words.len bytes } in
-      let e : y ≡ put = ⊎_elim (λ here. sym here) (λ none. absurd (no_element y none)) (contains_cases put y [] (subst (λ (s : Source). Contains (source_puts s (filled words.len bytes)) y) writes.1 at)) in
-      (ap (λ (z : Put). z.sectors) e, ap (λ (z : Put). z.bytes) e));
-  some = inr (let put : Put = record { sectors = sectors_in place.extents.items; bytes = filled words.len bytes } in
-      subst (λ (s : Source). Contains (source_puts s (filled words.len bytes)) put) (sym writes.1) (contains_here put []));
-  says = λ d at. absurd (no_element d at);
-  long = filled_long words.len bytes filled';
-  same = λ size was.
-      ap (source_content size was bytes) writes.1 ∙ stored_filled size words.len (sectors_in place.extents.items) bytes ∙ ap (source_content size was (filled words.len bytes)) (sym writes.1);
-  made_of = λ c path brings. makes_file words path bytes c brings;
-}
-
--- ---- what it is
-
--- It is a new empty directory, which says the address of the grown one, or the file that the command makes.
-abbrev pub IsItsGrown : Arrival → Command → Path → Layout → Addition → Growing → List ℕ → Type 0
-IsItsGrown Arrival.Makes c path layout a g stored = (d : Listing) × IsItsGrownDirectory path layout a g d
-IsItsGrown (Arrival.Saves words) c path layout a g stored = IsItsFile c path words.load words.exec a stored
-
-its_grown : (x : Arrival) (c : Command) (layout : Layout) (path up : Path) (address parent : ℕ) (sectors : List ℕ) (l : Listing) (content : Directory) (children : List Object) (rest : List Listing) (dir number : ℕ) (g : Growing) (stored : List ℕ)
-    → g.address ≡ parent → MakesIt x c path stored
-    → IsItsGrown x c path layout (comes_to l content children (object_for (dir_form layout) up x (last_name path) address sectors)
-    (own_listings (dir_form layout) parent x (last_name path) (object_for (dir_form layout) up x (last_name path) address sectors)) rest dir number) g stored
-its_grown Arrival.Makes c layout path up address parent sectors l content children rest dir number g stored at makes = (
-  record { object = object_for (dir_form layout) up Arrival.Makes (last_name path) address sectors; content = new_directory (dir_form layout) parent (last_name path); children = [] },
-  record { listed = refl; attrs = refl; load = refl; exec = refl; len = refl; says = ap (λ (n : ℕ). new_directory (dir_form layout) n (last_name path)) (sym at) },
-)
-its_grown (Arrival.Saves words) c layout path up address parent sectors l content children rest dir number g stored at makes = record { makes = makes; alone = refl; attrs = refl; load_word = refl; exec_word = refl }
-
--- By the law of additions the command has done what it promises.
-grown_done : (a : NewGrownAddition) (x : Arrival) (path : Path) (bytes stored : List ℕ) (c : Command) (puts : List Put) (was image : List ℕ) → Brings x path bytes c → NewGrownAdditionWritten a c path puts stored was image
-    → IsItsGrown x c path (Layout.New a.m) a.c a.growing stored → length stored ≡ bytes_of (dir_form (Layout.New a.m)) x
-    → IsPlacedAs x a.m (objects_of a.listings) (holder path) (bytes_of (dir_form (Layout.New a.m)) x) a.id a.parts a.c.o → GrownAdded a c was image
-grown_done a Arrival.Makes path bytes stored c puts was image brings written is long place =
-    subst (λ (k : Command). GrownAdded a k was image) (sym brings)
-    (grown_addition_law.new_directory a path is.0 puts stored was image (subst (λ (k : Command). NewGrownAdditionWritten a k path puts stored was image) brings written) is.1 place)
-grown_done a (Arrival.Saves words) path bytes stored c puts was image brings written is long place =
-    grown_addition_law.new_file a c path words.load words.exec puts stored was image written is (subst (λ (n : ℕ). IsFileAt a.m (objects_of a.listings) (holder path) n a.id a.parts a.c.o) (sym long) place)
+use Rattle.fc_course.proofs.GrownStoredLemmas.{AreItsBytes, IsFilled, grown_done, its_bytes, its_grown}
 
 -- ---- the edit
 

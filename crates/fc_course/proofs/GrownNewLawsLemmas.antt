@@ -1,7 +1,6 @@
 -- `cdir`, `save` and `create` of what is new in a directory that grows by it, on a new map: what their stages need, what they promise, and
 -- what they answer.
-use Rattle.std.proofs.Common.{◌≡◌, ◌≤◌, ℕ, true, List, refl, sym, ap, subst, ◌∙◌, Option, Some, None}
-use Rattle.std.specs.FinMap.{get}
+use Rattle.std.proofs.Common.{◌≡◌, ℕ, List, refl, sym, subst, Some}
 use Rattle.fc_alloc.specs.declared.owner.Owner.{Owner}
 use Rattle.fc_names.specs.Names.{Path}
 use Rattle.fc_record.specs.declared.Kind.{Kind}
@@ -9,7 +8,7 @@ use Rattle.fc_newmap.specs.Map.{Map}
 use Rattle.fc_newmap.specs.NewMap.{IsNewMap}
 use Rattle.fc_model.specs.Command.{Command}
 use Rattle.fc_model.specs.Tree.{last_name}
-use Rattle.fc_image.specs.Layout.{Layout, disc_sectors, is_among}
+use Rattle.fc_image.specs.Layout.{Layout}
 use Rattle.fc_image.specs.Opening.{Opened}
 use Rattle.fc_image.specs.Objects.{objects_of}
 use Rattle.fc_image.specs.Sound.{AreSound}
@@ -27,17 +26,16 @@ use Rattle.fc_writing.specs.Ready.{written_place}
 use Rattle.fc_writing.proofs.LeavesLemmas.{leaves_law}
 use Rattle.fc_change.specs.declared.job.Growth.{Growth}
 use Rattle.fc_change.specs.declared.job.Wants.{Wants}
-use Rattle.fc_change.specs.After.{nodes_after, owners_admitted}
 use Rattle.fc_change.specs.Needs.{AreWants}
 use Rattle.fc_change.specs.Shortage.{shortage}
 use Rattle.fc_course.specs.declared.stages.Prepared.{Prepared}
 use Rattle.fc_course.specs.Holdings.{TellsVersion}
 use Rattle.fc_course.specs.Jobs.{IsJobFor}
 use Rattle.fc_course.specs.Laws.{JobLaws}
-use Rattle.fc_course.specs.Promises.{ChangesParts, WritesPlaces, WritesPlacesOf}
+use Rattle.fc_course.specs.Promises.{ChangesParts, WritesPlacesOf}
 use Rattle.fc_course.specs.Run.{IsRun, KeepsBehind}
 use Rattle.fc_course.specs.Stages.{CanPrepareJob, IsPreparedFor}
-use Rattle.fc_course.specs.Written.{CanWriteOn, ChangeLeavesOn, IsChangedOn}
+use Rattle.fc_course.specs.Written.{ChangeLeavesOn, IsChangedOn}
 use Rattle.fc_course.proofs.ArrivalLemmas.{Arrival, Brings, CanArrive, IsShort, job_of}
 use Rattle.fc_course.proofs.ArrivalStageLemmas.{Arrives, arrives}
 use Rattle.fc_course.proofs.ArrivalTakenLemmas.{full_is}

@@ -1,10 +1,9 @@
 -- What comes to a directory that grows by it, on a new map: the edit from the change that is prepared, and as it ran.
-use Rattle.std.proofs.Common.{◌≡◌, ◌⊎◌, inl, inr, ⊎_elim, ℕ, ◌*◌, ◌+◌, ◌==◌, ◌&&◌, ◌||◌, Bool, true, false, cond, List, [], ◌∷◌, ◌++◌, refl, sym, ap, ap₂, subst, ◌∙◌, arith, eq-eqb, Option, Some, None}
+use Rattle.std.proofs.Common.{◌≡◌, ◌⊎◌, inl, inr, ⊎_elim, ℕ, ◌==◌, ◌&&◌, Bool, true, false, cond, List, [], ◌∷◌, refl, sym, ap, ap₂, subst, ◌∙◌, arith, eq-eqb, Option, Some, None}
 use Rattle.std.specs.Prelude.{IfSome, Vec, is_none}
 use Rattle.std.specs.FinMap.{get}
 use Rattle.std.specs.Option.{option_map, unwrap_or}
 use Rattle.std.specs.declared.alloc.Global.{Global}
-use Rattle.std.proofs.lemmas.Bool.{ne_eqb}
 use Rattle.fc_alloc.specs.declared.owner.Owner.{Owner}
 use Rattle.fc_names.specs.Names.{Path}
 use Rattle.fc_names.specs.declared.name.NameForm.{NameForm}
@@ -15,28 +14,21 @@ use Rattle.fc_newmap.specs.Map.{Map, is_used, id_runs}
 use Rattle.fc_newmap.specs.NewMap.{IsNewMap}
 use Rattle.fc_device.specs.declared.disk.Extent.{Extent}
 use Rattle.fc_dirs.specs.declared.Entry.{Entry}
-use Rattle.fc_dirs.specs.Directory.{directory_size, entries_of}
+use Rattle.fc_dirs.specs.Directory.{entries_of}
 use Rattle.fc_model.specs.Tree.{holder, last_name}
 use Rattle.fc_drafts.specs.declared.draft.Draft.{Draft}
 use Rattle.fc_drafts.specs.declared.room.Room.TheVariants as rooms
-use Rattle.fc_drafts.specs.Draft.{IsSayable, directory_in}
 use Rattle.fc_drafts.specs.Gains.{GetsName, HasRoom}
-use Rattle.fc_drafts.specs.Entries.{directory_entry}
 use Rattle.fc_image.specs.Edits.{IsAt}
 use Rattle.fc_image.specs.Layout.{Layout, dir_form, id_of, sectors_at}
 use Rattle.fc_image.specs.Objects.{has_sectors}
 use Rattle.fc_image.specs.Walk.{Listing, Object, object_size}
-use Rattle.fc_image.specs.effects.Short.{Gain, new_dir_size}
-use Rattle.fc_image.specs.effects.Steady.{new_directory}
-use Rattle.fc_changes.specs.Changed.{IsInNewSpace}
+use Rattle.fc_image.specs.effects.Short.{Gain}
 use Rattle.fc_changes.proofs.BasicLemmas.{clash, or_false}
 use Rattle.fc_laws.specs.nodes.Edits.{Nodes}
 use Rattle.fc_laws.specs.agree.Agreed.{AgreeOn, parts_with}
 use Rattle.fc_laws.proofs.lemmas.agree.BeforeLemmas.{agreed_law}
-use Rattle.fc_laws.proofs.lemmas.agree.SayLemmas.{say_law}
 use Rattle.fc_objects.specs.Extents.{sectors_in}
-use Rattle.fc_placing.specs.Leaving.{OwnOnly}
-use Rattle.fc_placing.specs.Places.{IsOwnPlan}
 use Rattle.fc_placing.proofs.PlacedLemmas.{place_law}
 use Rattle.fc_plan.specs.declared.plan.Plan.{Plan}
 use Rattle.fc_plan.specs.Applied.{IsTakenIn, parts_in_order}
@@ -47,26 +39,17 @@ use Rattle.fc_tree.specs.declared.node.Node.{Node}
 use Rattle.fc_tree.specs.Agree.{Agree}
 use Rattle.fc_tree.specs.Nodes.{number_of}
 use Rattle.fc_tree.specs.Parts.{Parts}
-use Rattle.fc_edits.specs.Addition.{ListsEmpty}
 use Rattle.fc_edits.specs.GrownAddition.{NewGrownAddition}
 use Rattle.fc_edits.proofs.lemmas.GrownAdditionLemmas.{grown_addition_law}
 use Rattle.fc_change.specs.declared.change.Regrowth.{Regrowth}
 use Rattle.fc_change.specs.declared.change.Turned.{Turned}
 use Rattle.fc_change.specs.declared.change.Turned.TheVariants as turns
 use Rattle.fc_change.specs.declared.job.Growth.{Growth}
-use Rattle.fc_change.specs.declared.job.Job.TheVariants as jobs
-use Rattle.fc_change.specs.declared.job.Wants.{Wants}
 use Rattle.fc_change.specs.declared.spaces.GrownPlace.{GrownPlace}
 use Rattle.fc_change.specs.declared.spaces.Place.{Place}
-use Rattle.fc_change.specs.declared.spaces.Spaces.{Spaces}
 use Rattle.fc_change.specs.After.{AreOwnersAfter, nodes_after, owners_admitted}
-use Rattle.fc_change.specs.Drafts.{IsNewIn}
 use Rattle.fc_change.specs.GrownSpace.{root_of}
-use Rattle.fc_change.specs.Places.{is_directory, own_address}
-use Rattle.fc_tree.specs.Counts.{address_in as node_address}
-use Rattle.fc_change.specs.Prepared.{IsDrafted, IsNewPiece, IsSourceOf}
-use Rattle.fc_writing.specs.declared.ready.Piece.{Piece}
-use Rattle.fc_writing.specs.declared.ready.Source.TheVariants as from
+use Rattle.fc_change.specs.Prepared.{IsNewPiece, IsSourceOf}
 use Rattle.fc_writing.specs.New.{IsGiven}
 use Rattle.fc_writing.specs.Steps.{HasStepped}
 use Rattle.fc_course.specs.declared.stages.Prepared.{Prepared}
@@ -82,12 +65,9 @@ use Rattle.fc_course.proofs.GrownSpaceLemmas as space_of
 use Rattle.fc_course.proofs.GrownWalkLemmas as walk
 use Rattle.fc_course.proofs.GrownWantLemmas.{IsGrownWanted}
 use Rattle.fc_course.proofs.GrownWantLemmas as wanted
-use Rattle.fc_placing.specs.Extents.{IsOwnPlace}
 use Rattle.fc_placing.specs.Space.{HasTaken}
 use Rattle.fc_plan.specs.Taking.{as_runs}
 use Rattle.fc_course.proofs.GrownBackLemmas as back_of
-use Rattle.fc_course.proofs.ArrivalEditLemmas.{no_entries}
-use Rattle.fc_course.proofs.ArrivalLemmas.{directory_long}
 use Rattle.std.proofs.lemmas.List.Sorted.{Contains-permutation}
 use Rattle.std.proofs.lemmas.Bool.{and_parts, eqb-true}
 use Rattle.std.specs.List.{list_any}
@@ -97,122 +77,34 @@ use Rattle.fc_edits.specs.Placing.{IsPlaced}
 use Rattle.fc_image.specs.Objects.{is_owner_of, objects_of}
 use Rattle.fc_image.specs.Sound.{AreSound}
 use Rattle.fc_image.specs.Walk.{is_directory_object}
-use Rattle.fc_image.specs.effects.Placed.{file_low}
 use Rattle.fc_image.specs.effects.Sharing.{slack}
 use Rattle.fc_image.proofs.HolesLemmas.{in_id}
 use Rattle.fc_image.proofs.EntriesLemmas.{cases as contains_cases}
-use Rattle.fc_newmap.specs.Map.{ZoneRun, all_runs, bits_in, has_id}
+use Rattle.fc_newmap.specs.Map.{ZoneRun, all_runs, has_id}
 use Rattle.fc_newmap.proofs.PlaceLemmas.{holder_of, id_run_in}
-use Rattle.fc_changes.specs.Changed.{IsFileAt}
 use Rattle.fc_changes.proofs.BasicLemmas.{any_in}
 use Rattle.fc_changes.proofs.ChangeLemmas.{a_sector}
 use Rattle.fc_changes.proofs.PlacedLemmas.{IsShared, is_shared}
-use Rattle.fc_edits.proofs.lemmas.NewSpaceLemmas.{parts_some, slack_files}
+use Rattle.fc_edits.proofs.lemmas.NewSpaceLemmas.{slack_files}
 use Rattle.fc_laws.proofs.lemmas.agree.BeforeLemmas.{new_shape, some_zones}
 use Rattle.fc_placing.specs.declared.placing.Placing.{Placing}
 use Rattle.fc_placing.specs.declared.placing.Placing.TheVariants as placings
 use Rattle.fc_slack.specs.declared.share.Share.{Share}
 use Rattle.fc_slack.specs.Slack.{place_in}
 use Rattle.fc_plan.specs.Applied.{id_in, parts_in}
-use Rattle.fc_tree.proofs.WalkedLemmas.{listed_directory, same_some}
-use Rattle.fc_writing.specs.declared.ready.Source.{Source}
-use Rattle.fc_change.specs.Drafts.{IsMade, IsTurnedBy, address_in}
+use Rattle.fc_tree.proofs.WalkedLemmas.{listed_directory}
+use Rattle.fc_change.specs.Drafts.{IsTurnedBy, address_in}
 use Rattle.fc_change.specs.Places.{IsPlacingFor, address_for, plan_in}
 use Rattle.fc_course.proofs.ArrivalLemmas.{Arrival, address_is, bytes_of, entry_of, job_of, name_is, size_is}
 use Rattle.fc_course.proofs.ArrivalPlaceLemmas.{dir_some, shares_of}
-use Rattle.fc_course.proofs.FilledLemmas.{filled}
 use Rattle.fc_course.proofs.GrownBackLemmas.{OwnOnlyOf}
 use Rattle.fc_course.proofs.GrownWantLemmas.{IsItsWant}
 use Rattle.fc_placing.specs.Places.{id_in as placed_id, parts_in as placed_parts}
-use Rattle.fc_course.proofs.GrownSaidLemmas.{IsOwnListing}
 use Rattle.fc_course.proofs.NewDoneLemmas.{IsPlacedAs, placed_as}
 use Rattle.fc_course.proofs.NewPlaceLemmas.{LiesBy, at_none, id_at}
 use Rattle.fc_course.proofs.NewSpotLemmas.{directory_spot, file_spot, lies_by, share_there}
-use Rattle.fc_course.proofs.PutLemmas.{CopiesNone}
 use Rattle.fc_course.proofs.VacantLemmas as vacant
-
--- ---- what it is
-
--- A new directory says the grown one's address; a file says nothing.
-abbrev pub OwnsDraft : NameForm → (address : ℕ) → Arrival → List ℕ → Option Draft → Type 0
-OwnsDraft form address Arrival.Makes name own = (d : Draft) × (own ≡ Some d) × (directory_in d ≡ new_directory form address name)
-OwnsDraft form address (Arrival.Saves words) name own = own ≡ None
-
--- A new directory is a piece, and a file gets the bytes that are given.
-abbrev pub WritesIt : Arrival → Option Draft → Place → List Piece → Source → Type 0
-WritesIt Arrival.Makes own place made source = (d : Draft) × (own ≡ Some d) × (q : Piece) × (made ≡ q ∷ []) × (q.place.items ≡ place.extents.items) × IsDrafted d q × (source ≡ from.Nothing)
-WritesIt (Arrival.Saves words) own place made source = (made ≡ []) × (source ≡ from.Bytes place.extents)
-
--- the bytes that are written of it, of those that are given
-abbrev pub given_to : Arrival → List ℕ → List ℕ
-given_to Arrival.Makes bytes = bytes
-given_to (Arrival.Saves words) bytes = filled words.len bytes
-
--- its own listing, if it is a directory
-abbrev pub own_listings : NameForm → (address : ℕ) → Arrival → List ℕ → Object → List Listing
-own_listings form address Arrival.Makes name o = record { object = o; content = new_directory form address name; children = [] } ∷ []
-own_listings form address (Arrival.Saves words) name o = []
-
-comes_by : (h : Parts) (dir : ℕ) (x : Arrival) (name : List ℕ) (g : Regrowth) (e : Entry) (t : Turned) → g.node ≡ dir → IsTurnedBy h (job_of dir x) name (Some g) e t
-    → (own : Option Draft) × (t ≡ turns.Comes g.node e own) × OwnsDraft (dir_form h.layout) g.address x name own
-comes_by h dir Arrival.Makes name g e t same is = (
-  Some is.0,
-  is.1 ∙ ap (λ (n : ℕ). turns.Comes n e (Some is.0)) (sym same),
-  (is.0, refl, is.2 ∙ ap (λ (b : Bool). new_directory (dir_form h.layout) (cond b g.address (node_address h.nodes dir)) name) (eq-eqb dir g.node (sym same))),
-)
-comes_by h dir (Arrival.Saves words) name g e t same is = (None, is ∙ ap (λ (n : ℕ). turns.Comes n e None) (sym same), refl)
-
-made_by : (h : Parts) (dir : ℕ) (x : Arrival) (name : List ℕ) (address : Option ℕ) (e : Entry) → IsMade h (job_of dir x) name address e → e ≡ entry_of (dir_form h.layout) x name (unwrap_or address 0)
-made_by h dir Arrival.Makes name address e is = is
-made_by h dir (Arrival.Saves words) name address e is = is
-
-writes_by : (x : Arrival) (form : NameForm) (address dir : ℕ) (name : List ℕ) (e : Entry) (own : Option Draft) (place : Place) (made : List Piece) (source : Source) → OwnsDraft form address x name own
-    → IsNewPiece (turns.Comes dir e own) (Some place) made → IsSourceOf (turns.Comes dir e own) (Some place) None source → WritesIt x own place made source
-writes_by Arrival.Makes form address dir name e own place made source owns makes is =
-    let makes' = subst (λ (o : Option Draft). IsNewPiece (turns.Comes dir e o) (Some place) made) owns.1 makes in
-    (owns.0, owns.1, makes'.0, makes'.1, makes'.2, makes'.3, subst (λ (o : Option Draft). IsSourceOf (turns.Comes dir e o) (Some place) None source) owns.1 is)
-writes_by (Arrival.Saves words) form address dir name e own place made source owns makes is = (
-  subst (λ (o : Option Draft). IsNewPiece (turns.Comes dir e o) (Some place) made) owns makes,
-  subst (λ (o : Option Draft). IsSourceOf (turns.Comes dir e o) (Some place) None source) owns is,
-)
-
--- the object in this directory
-abbrev pub object_for : NameForm → Path → Arrival → List ℕ → ℕ → List ℕ → Object
-object_for form up x name address sectors = record { path = up ++ (entry_of form x name address).name ∷ []; entry = entry_of form x name address; sectors = sectors }
-
-comes_by_itself : (layout : Layout) (up : Path) (x : Arrival) (name : List ℕ) (address parent : ℕ) (sectors : List ℕ) (own : Option Draft) (place : Place) (made : List Piece) (source : Source)
-    → OwnsDraft (dir_form layout) parent x name own → WritesIt x own place made source
-    → ComesAlone layout (own_listings (dir_form layout) parent x name (object_for (dir_form layout) up x name address sectors)) (object_for (dir_form layout) up x name address sectors)
-comes_by_itself layout up Arrival.Makes name address parent sectors own place made source owns writes =
-    let same : writes.0 ≡ owns.0 = same_some writes.0 owns.0 (sym writes.1 ∙ owns.1) in
-    record {
-      object = refl;
-      directory = refl;
-      none = refl;
-      says_none = no_entries (dir_form layout) parent name;
-      can = say_law.new layout (object_for (dir_form layout) up Arrival.Makes name address sectors) parent name refl (subst IsSayable (ap (λ (d : Draft). directory_in d) same ∙ owns.2) writes.5.sayable);
-    }
-comes_by_itself layout up (Arrival.Saves words) name address parent sectors own place made source owns writes = refl
-
-pub listed_by : (form : NameForm) (address number : ℕ) (x : Arrival) (name : List ℕ) (o : Object) (own : Option Draft) → OwnsDraft form address x name own → IsOwnListing number own (own_listings form address x name o)
-listed_by form address number Arrival.Makes name o own owns =
-    subst (λ (d : Option Draft). IsOwnListing number d (own_listings form address Arrival.Makes name o)) (sym owns.1) (record { object = o; content = new_directory form address name; children = [] }, refl, sym owns.2)
-listed_by form address number (Arrival.Saves words) name o own owns = subst (λ (d : Option Draft). IsOwnListing number d []) (sym owns) refl
-
--- A file that has no plan is where files are, whatever identifier is named.
-file_anywhere : (m : Map) (objects : List Object) (near : Path) (n id other : ℕ) (o : Object) → IsNewMap m → IsFileAt m objects near n id [] o → IsFileAt m objects near n other [] o
-file_anywhere m objects near n id other o is (inl slack) = inl slack
-file_anywhere m objects near n id other o is (inr (inl new)) = absurd (let some = parts_some m n (file_low m.geometry (bits_in [] * m.geometry.bit_bytes) n) id [] o is new.1 in omega (arith, some))
-file_anywhere m objects near n id other o is (inr (inr nowhere)) = inr (inr nowhere)
-
--- nothing is copied for it
-pub copies_none : (x : Arrival) (own : Option Draft) (place : Place) (made : List Piece) (source : Source) → WritesIt x own place made source → CopiesNone source
-copies_none Arrival.Makes own place made source is = subst CopiesNone (sym is.6) tt
-copies_none (Arrival.Saves words) own place made source is = subst CopiesNone (sym is.1) tt
-
-placed_anywhere : (x : Arrival) (m : Map) (objects : List Object) (near : Path) (n id other : ℕ) (o : Object) → IsNewMap m → IsPlacedAs x m objects near n id [] o → IsPlacedAs x m objects near n other [] o
-placed_anywhere Arrival.Makes m objects near n id other o is new = absurd (let some = parts_some m n 0 id [] o is new in omega (arith, some))
-placed_anywhere (Arrival.Saves words) m objects near n id other o is there = file_anywhere m objects near n id other o is there
+use Rattle.fc_course.proofs.GrownComerLemmas.{OwnsDraft, WritesIt, comes_by, comes_by_itself, listed_by, made_by, object_for, own_listings, placed_anywhere, writes_by}
 
 -- ---- the change
 
@@ -224,12 +116,6 @@ module _ (m : Map) (nodes : Nodes) (owners : List Owner) (dir : ℕ) (x : Arriva
 
   abbrev name : List ℕ
   name = last_name path
-
-  abbrev w : Wants
-  w = prep.wants
-
-  abbrev s : Spaces
-  s = prep.spaces
 
   abbrev pub is : IsGrownWanted m nodes owners dir x (last_name path) prep.wants prep.spaces
   is = record { wants = prep.spaced.wants; placed = prep.spaced.places; growth = growth; some = some }

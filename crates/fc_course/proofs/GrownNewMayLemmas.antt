@@ -1,11 +1,11 @@
 -- What comes to a directory that grows by it, on a new map, at any moment: nothing else was written but what the command may write.
-use Rattle.std.proofs.Common.{◌≡◌, ⊎_elim, ℕ, ◌==◌, ◌||◌, Bool, true, false, cond, List, [], ◌∷◌, ◌++◌, flat_map, refl, sym, ap, subst, ◌∙◌, eq-eqb, Option, Some, None, ◌&&◌}
+use Rattle.std.proofs.Common.{◌≡◌, ⊎_elim, ℕ, ◌==◌, ◌||◌, Bool, true, false, cond, List, [], ◌∷◌, ◌++◌, refl, sym, ap, subst, ◌∙◌, eq-eqb, Option, Some, None, ◌&&◌}
 use Rattle.std.specs.Prelude.{Contains}
 use Rattle.std.proofs.lemmas.List.Elements.{Contains-append_cases, Contains-append_left, Contains-append_right}
 use Rattle.fc_alloc.specs.declared.owner.Owner.{Owner}
 use Rattle.fc_names.specs.Names.{Path}
 use Rattle.fc_record.specs.declared.Kind.{Kind}
-use Rattle.fc_newmap.specs.Map.{Map, map_sectors, is_used}
+use Rattle.fc_newmap.specs.Map.{Map, is_used}
 use Rattle.fc_newmap.specs.NewMap.{IsNewMap}
 use Rattle.fc_model.specs.Command.{Command}
 use Rattle.fc_model.specs.Tree.{holder, last_name}
@@ -17,7 +17,6 @@ use Rattle.fc_image.specs.Stays.{OpensAs}
 use Rattle.fc_image.specs.Walk.{Listing, Object}
 use Rattle.fc_image.specs.effects.Steady.{has_grown, has_new_holder, holds_named, is_renamed_by, may_be_rewritten}
 use Rattle.fc_changes.proofs.BasicLemmas.{any_in}
-use Rattle.fc_oldchanges.proofs.BeforeLemmas.{opened_as}
 use Rattle.fc_laws.specs.nodes.Edits.{Nodes}
 use Rattle.fc_laws.specs.agree.Agreed.{AgreeOn, parts_with}
 use Rattle.fc_laws.specs.takeover.Places.{MayBeWritten, OpensBy}
@@ -27,19 +26,14 @@ use Rattle.fc_objects.specs.Extents.{sectors_in}
 use Rattle.fc_plan.specs.declared.plan.Plan.{Plan}
 use Rattle.fc_refusals.specs.Targets.{IsVacant}
 use Rattle.fc_tree.specs.declared.node.Node.{Node}
-use Rattle.fc_tree.specs.Parts.{ArePartsOf}
 use Rattle.fc_tree.proofs.MemberLemmas.{contains_here, no_element}
 use Rattle.fc_tree.proofs.WalkedLemmas.{listed_directory}
-use Rattle.fc_change.specs.declared.change.Says.{Says}
 use Rattle.fc_change.specs.declared.job.Growth.{Growth}
-use Rattle.fc_change.specs.GrownSpace.{AreFree, IsGrownAt as IsGrownPlace}
-use Rattle.fc_writing.specs.declared.ready.Piece.{Piece}
-use Rattle.fc_writing.specs.Laws.{ChangesOnly}
-use Rattle.fc_writing.specs.Ready.{early_place, place_of, source_place, to_of, written_place}
+use Rattle.fc_change.specs.GrownSpace.{IsGrownAt as IsGrownPlace}
+use Rattle.fc_writing.specs.Ready.{written_place}
 use Rattle.fc_course.specs.declared.stages.Prepared.{Prepared}
-use Rattle.fc_course.specs.Promises.{WritesPlaces}
 use Rattle.fc_course.specs.Stages.{IsPreparedFor}
-use Rattle.fc_course.proofs.GrownAroundLemmas.{IsCutAround, cut_around}
+use Rattle.fc_course.proofs.GrownAroundLemmas.{IsCutAround}
 use Rattle.fc_course.proofs.GrownAskedLemmas as asked
 use Rattle.fc_course.proofs.GrownAskedLemmas.{view_with}
 use Rattle.fc_course.proofs.ArrivalLemmas.{Arrival, Brings, address_is, gain_same, job_of, may_rewrite}
@@ -50,9 +44,6 @@ use Rattle.fc_course.proofs.NewDoneLemmas.{placed_as}
 use Rattle.fc_course.proofs.NewPlaceLemmas.{LiesBy, may_be_written}
 use Rattle.fc_placing.specs.Places.{id_in as placed_id, parts_in as placed_parts}
 use Rattle.fc_course.proofs.GrownMayLemmas.{there_may}
-use Rattle.fc_course.proofs.GrownPieceLemmas.{early_back, late_back, IsGrownReady}
-use Rattle.fc_course.proofs.GrownPreparedLemmas.{ready_around, IsGrownChange}
-use Rattle.fc_course.proofs.GrownReadyLemmas.{AreReady}
 use Rattle.fc_course.proofs.GrownSpaceLemmas as space_of
 use Rattle.fc_course.proofs.VacantLemmas.{gains}
 use Rattle.fc_course.proofs.GrownWalkLemmas as walk
@@ -67,10 +58,9 @@ use Rattle.fc_tree.specs.Nodes.{number_of}
 use Rattle.std.specs.Option.{option_and_then}
 use Rattle.fc_course.proofs.GrownChangeLemmas.{taking_of}
 use Rattle.fc_edits.specs.Placing.{takings_of}
-use Rattle.fc_device.specs.declared.disk.Extent.{Extent}
 use Rattle.std.proofs.lemmas.Bool.{or_left, or_right as or_second}
 use Rattle.fc_slack.proofs.LowLemmas.{or_true}
-use Rattle.fc_image.proofs.EntriesLemmas.{later as contains_later, cases as contains_cases}
+use Rattle.fc_image.proofs.EntriesLemmas.{later as contains_later}
 
 module _ (m : Map) (nodes : Nodes) (owners : List Owner) (dir : ℕ) (x : Arrival) (path : Path) (pr : Prepared) (prep : IsPreparedFor (parts_with m nodes owners) (job_of dir x) (last_name path) pr)
     (growth : Growth) (some : prep.wants.grows ≡ Some growth) (is_map : IsNewMap m)

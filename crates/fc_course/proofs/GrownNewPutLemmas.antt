@@ -1,17 +1,16 @@
 -- What comes to a directory that grows by it, on a new map: what is written of it, and that it can be.
-use Rattle.std.proofs.Common.{◌≡◌, ◌<◌, ◌≤◌, ◌==◌, ◌++◌, ℕ, Bool, true, cond, List, [], ◌∷◌, flat_map, refl, sym, ap, ap₂, subst, ◌∙◌, arith, append_assoc, All, Option, Some, None}
+use Rattle.std.proofs.Common.{◌≡◌, ◌<◌, ◌≤◌, ◌==◌, ◌++◌, ℕ, Bool, true, cond, List, [], ◌∷◌, flat_map, refl, sym, ap, ap₂, subst, ◌∙◌, arith, append_assoc, All, Option, Some}
 use Rattle.std.specs.Prelude.{Contains}
 use Rattle.std.proofs.lemmas.List.{append-nil}
 use Rattle.std.proofs.lemmas.List.Elements.{All-nil}
 use Rattle.fc_alloc.specs.declared.owner.Owner.{Owner}
 use Rattle.fc_device.specs.declared.disk.Extent.{Extent}
 use Rattle.fc_names.specs.Names.{Path}
-use Rattle.fc_names.specs.declared.name.NameForm.TheVariants as forms
 use Rattle.fc_record.specs.declared.Kind.{Kind}
 use Rattle.fc_newmap.specs.Map.{Map, map_sectors}
 use Rattle.fc_newmap.specs.NewMap.{IsNewMap}
 use Rattle.fc_model.specs.Tree.{holder, last_name}
-use Rattle.fc_image.specs.Layout.{Layout, dir_form, disc_sectors, is_among, is_apart}
+use Rattle.fc_image.specs.Layout.{Layout, dir_form, disc_sectors, is_apart}
 use Rattle.fc_image.specs.Objects.{objects_of}
 use Rattle.fc_image.specs.Sound.{AreSound}
 use Rattle.fc_image.specs.Walk.{Listing, Object}
@@ -19,7 +18,6 @@ use Rattle.fc_laws.specs.nodes.Edits.{Nodes}
 use Rattle.fc_laws.specs.agree.Agreed.{AgreeOn, parts_with}
 use Rattle.fc_laws.proofs.lemmas.agree.BeforeLemmas.{agreed_law}
 use Rattle.fc_objects.specs.Extents.{sectors_in}
-use Rattle.fc_objects.specs.Written.{AreApart}
 use Rattle.fc_plan.specs.declared.plan.Plan.{Plan}
 use Rattle.fc_refusals.specs.Targets.{IsVacant}
 use Rattle.fc_tree.specs.declared.node.Node.{Node}
@@ -33,13 +31,10 @@ use Rattle.fc_drafts.specs.declared.draft.Draft.{Draft}
 use Rattle.fc_placing.specs.declared.placing.Placing.{Placing}
 use Rattle.fc_placing.specs.declared.placing.Placing.TheVariants as placings
 use Rattle.fc_placing.specs.Places.{id_in as placed_id, parts_in as placed_parts}
-use Rattle.fc_writing.specs.declared.ready.MapStep.{MapStep}
 use Rattle.fc_writing.specs.declared.ready.Piece.{Piece}
-use Rattle.fc_writing.specs.declared.ready.Ready.{Ready}
-use Rattle.fc_writing.specs.declared.ready.Source.{Source}
 use Rattle.fc_writing.specs.declared.ready.Transfer.{Transfer}
 use Rattle.fc_writing.specs.New.{CanWrite}
-use Rattle.fc_writing.specs.Ready.{CanPut, IsEnough, IsSourceEnough, copied_place, early_place, from_of, place_of, source_from, source_place, to_of, written_place}
+use Rattle.fc_writing.specs.Ready.{CanPut, IsEnough, copied_place, from_of, place_of, source_place, to_of, written_place}
 use Rattle.fc_writing.specs.Steps.{CanStep, HasStepped}
 use Rattle.fc_course.specs.declared.stages.Prepared.{Prepared}
 use Rattle.fc_course.specs.Holdings.{TellsVersion}
@@ -48,7 +43,7 @@ use Rattle.fc_course.proofs.GrownAroundLemmas.{IsCutAround, cut_around}
 use Rattle.fc_course.proofs.GrownCanLemmas as can
 use Rattle.fc_course.proofs.ArrivalLemmas.{Arrival, address_is, job_of}
 use Rattle.fc_course.proofs.GrownNewLemmas as new
-use Rattle.fc_course.proofs.GrownNewLemmas.{WritesIt, copies_none}
+use Rattle.fc_course.proofs.GrownComerLemmas.{WritesIt, copies_none}
 use Rattle.fc_course.proofs.GrownNewRootLemmas as rooted
 use Rattle.fc_course.proofs.GrownPieceLemmas.{IsGrownReady}
 use Rattle.fc_course.proofs.GrownPreparedLemmas.{IsGrownChange, ready_around}

@@ -29,7 +29,7 @@ use Rattle.fc_course.specs.Stages.{IsPreparedFor}
 use Rattle.fc_course.proofs.ArrivalLemmas.{Arrival, Brings, job_of}
 use Rattle.fc_course.proofs.GrownNewLemmas as new
 use Rattle.fc_course.proofs.GrownNewDoneLemmas as done
-use Rattle.fc_course.proofs.GrownNewDoneLemmas.{filled_by}
+use Rattle.fc_course.proofs.GrownStoredLemmas.{filled_by}
 use Rattle.fc_course.proofs.RemovalRunLemmas.{new_view, parts, sound_in}
 use Rattle.fc_course.proofs.RemovalStageLemmas.{view_of}
 

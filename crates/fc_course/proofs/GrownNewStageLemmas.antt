@@ -1,5 +1,5 @@
 -- What comes to a directory that grows by it, on a new map: each stage can follow on the one before.
-use Rattle.std.proofs.Common.{◌≡◌, ◌<◌, ◌^◌, ⊎_elim, ℕ, List, [], ◌∷◌, refl, sym, ap, subst, ◌∙◌, arith, Option, Some, true, false}
+use Rattle.std.proofs.Common.{◌≡◌, ⊎_elim, ℕ, List, [], ◌∷◌, refl, sym, ap, subst, ◌∙◌, Option, Some, true, false}
 use Rattle.std.specs.Prelude.{Contains, is_some}
 use Rattle.std.specs.Option.{option_map, unwrap_or}
 use Rattle.fc_alloc.specs.declared.owner.Owner.{Owner}
@@ -15,7 +15,6 @@ use Rattle.fc_dirs.specs.Entries.{has_name}
 use Rattle.fc_image.specs.Layout.{Layout, dir_form}
 use Rattle.fc_image.specs.Sound.{AreSound}
 use Rattle.fc_image.specs.Walk.{Listing}
-use Rattle.fc_image.specs.effects.Short.{new_dir_size}
 use Rattle.fc_image.specs.effects.Steady.{new_directory}
 use Rattle.fc_laws.specs.nodes.Edits.{Nodes}
 use Rattle.fc_laws.specs.agree.Agreed.{AgreeOn, parts_with}

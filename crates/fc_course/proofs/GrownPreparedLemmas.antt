@@ -35,14 +35,11 @@ use Rattle.fc_change.specs.declared.change.Change.{Change}
 use Rattle.fc_change.specs.declared.change.Regrowth.{Regrowth}
 use Rattle.fc_change.specs.declared.change.Says.{Says}
 use Rattle.fc_change.specs.declared.job.Job.{Job}
-use Rattle.fc_change.specs.declared.job.Job.TheVariants as jobs
-use Rattle.fc_change.specs.declared.job.FileWords.{FileWords}
 use Rattle.fc_change.specs.declared.spaces.GrownPlace.{GrownPlace}
 use Rattle.fc_change.specs.declared.spaces.Spaces.{Spaces}
 use Rattle.fc_change.specs.Directories.{Rewriting, TellAll, Tells, around, children_of, holders_of, is_told, numbers}
 use Rattle.fc_change.specs.Drafts.{IsChangeOf, grown_in, told, told_first, told_last}
 use Rattle.fc_change.specs.Needs.{HasRoomFor, HasRoomOf, copy_wanted, named_dir, node_left}
-use Rattle.fc_refusals.specs.declared.target.Slot.TheVariants as slots
 use Rattle.fc_writing.specs.declared.ready.Piece.{Piece}
 use Rattle.fc_writing.specs.declared.ready.Ready.{Ready}
 use Rattle.fc_course.proofs.ArrivalLemmas.{Arrival, job_of}

@@ -1,6 +1,6 @@
 -- What a change writes by which a directory grows, beside the map: a new object, the directory at its place then, and those around it. Each
 -- sector is written once.
-use Rattle.std.proofs.Common.{◌≡◌, ◌<◌, ◌⊎◌, inl, inr, ⊎_elim, ℕ, ◌+◌, ◌==◌, ◌&&◌, ◌||◌, Bool, true, false, cond, List, [], ◌∷◌, ◌++◌, flat_map, length, refl, sym, ap, ap₂, subst, ◌∙◌, arith, append_assoc, eq-eqb, All, Option, Some, None}
+use Rattle.std.proofs.Common.{◌≡◌, ◌⊎◌, inr, ⊎_elim, ℕ, ◌==◌, ◌&&◌, ◌||◌, Bool, true, false, cond, List, [], ◌∷◌, ◌++◌, flat_map, refl, sym, ap, ap₂, subst, ◌∙◌, arith, append_assoc, eq-eqb, Option, Some, None}
 use Rattle.std.specs.Prelude.{Contains, Err, IfSome, IsPermutation, Ok}
 use Rattle.std.proofs.lemmas.List.{append-nil}
 use Rattle.std.proofs.lemmas.List.Concat.{flat_map-append}
@@ -60,7 +60,6 @@ use Rattle.fc_course.proofs.NewArrivalLemmas.{dir_room}
 use Rattle.fc_course.proofs.NewPlaceLemmas.{IsRoomBeside, hole_apart, hole_on_disc}
 use Rattle.fc_course.proofs.PlanPlaceLemmas.{once_by, one_place, plan_free}
 use Rattle.fc_course.proofs.TwoPieceLemmas.{AreRoom, room_both}
-use Rattle.fc_image.proofs.EntriesLemmas.{later as contains_later}
 use Rattle.fc_image.proofs.MoveLemmas.{one_id}
 
 -- the sectors of some directories

@@ -1,22 +1,20 @@
 -- The root in the record of the disc: that it can have another place, since the record has a version.
-use Rattle.std.proofs.Common.{◌≡◌, ◌<◌, ◌≤◌, ◌/◌, ◌^◌, ◌==◌, ◌&&◌, ◌||◌, ℕ, zero, suc, Bool, true, false, cond, List, refl, sym, ap, ap₂, subst, ◌∙◌, arith, Option, Some, None}
-use Rattle.std.specs.Prelude.{Ok, nat_le, nat_lt}
+use Rattle.std.proofs.Common.{◌≡◌, ◌<◌, ◌≤◌, ◌/◌, ◌^◌, ◌==◌, ◌&&◌, ◌||◌, ℕ, zero, suc, Bool, true, cond, List, refl, sym, ap, ap₂, subst, ◌∙◌, arith}
+use Rattle.std.specs.Prelude.{nat_le, nat_lt}
 use Rattle.std.proofs.lemmas.Bool.{le-leb, leb-true, lt-ltb, ltb-true}
 use Rattle.fc_names.specs.declared.name.NameForm.{NameForm}
 use Rattle.fc_names.specs.declared.name.NameForm.TheVariants as forms
 use Rattle.fc_record.specs.declared.DiscRecord.{DiscRecord}
 use Rattle.fc_record.specs.declared.Geometry.{Geometry}
 use Rattle.fc_record.specs.declared.Kind.{Kind}
-use Rattle.fc_record.specs.declared.Kind.TheVariants.{Boot, OneZone, DiscD, DiscL}
-use Rattle.fc_record.specs.Record.{id_limit, record_of}
-use Rattle.fc_record.specs.Kinds.{IsKind, map_record}
+use Rattle.fc_record.specs.Record.{id_limit}
+use Rattle.fc_record.specs.Kinds.{map_record}
 use Rattle.fc_checks.specs.Checks.{is_big_size}
 use Rattle.fc_newmap.specs.Map.{Map, sector_of}
 use Rattle.fc_newmap.specs.NewMap.{IsNewMap}
 use Rattle.fc_newmap.proofs.TallyLemmas.{ids_few}
 use Rattle.fc_image.specs.Layout.{Layout, dir_form, id_of, is_object_id}
-use Rattle.fc_image.specs.Opening.{Opened, agreement, difference}
-use Rattle.fc_image.specs.Stays.{IsNewKind}
+use Rattle.fc_image.specs.Opening.{Opened, difference}
 use Rattle.fc_image.proofs.MoveLemmas.{open_by}
 use Rattle.fc_image.proofs.OpenedLemmas.{edited_image_law}
 use Rattle.fc_image.proofs.RecordLemmas.{agree}

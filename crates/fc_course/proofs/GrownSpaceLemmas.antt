@@ -1,6 +1,6 @@
 -- A directory that grows, from where it was placed beside an object to where it lies then on the map, and what goes back.
 use Rattle.std.proofs.Common.{◌≡◌, ◌<◌, ◌≤◌, inl, inr, ◌&&◌, ◌||◌, ◌==◌, ℕ, ◌+◌, ◌*◌, Bool, true, false, cond, List, [], ◌∷◌, length, refl, sym, ap, ap₂, subst, ◌∙◌, arith, Some, None, Option, ◌-◌}
-use Rattle.std.specs.Prelude.{Contains, IfSome, IsPermutation, nat_le, nat_lt, not}
+use Rattle.std.specs.Prelude.{Contains, IfSome, IsPermutation, nat_le, not}
 use Rattle.std.specs.List.{find, range_with_len}
 use Rattle.std.specs.Option.{option_and_then, option_map_or}
 use Rattle.std.specs.FinMap.{get}
@@ -31,7 +31,6 @@ use Rattle.fc_objects.specs.Extents.{sectors_in}
 use Rattle.fc_plan.specs.declared.plan.Plan.{Plan}
 use Rattle.fc_plan.specs.Applied.{IsOther, IsTakenIn, id_in, parts_in}
 use Rattle.fc_plan.specs.Parts.{fronts}
-use Rattle.fc_plan.proofs.Left.{left_of_none}
 use Rattle.fc_plan.proofs.Shorts.{are_new_ids}
 use Rattle.fc_plan.proofs.Units.{units_some}
 use Rattle.fc_placing.specs.Leaving.{has_other, left_among, left_of as left_before}
@@ -45,7 +44,7 @@ use Rattle.fc_tree.proofs.WalkedLemmas.{same_some}
 use Rattle.fc_edits.specs.Growing.{Growing, Holder, Told}
 use Rattle.fc_edits.specs.GrownPlaces.{IsGrownAt, TakesSpace}
 use Rattle.fc_edits.specs.Edit.{Amended}
-use Rattle.fc_edits.specs.NewPlaces.{is_taken, untaken}
+use Rattle.fc_edits.specs.NewPlaces.{is_taken}
 use Rattle.fc_edits.specs.Placing.{takings_of}
 use Rattle.fc_edits.proofs.lemmas.IdentifierLemmas.{by_map}
 use Rattle.fc_change.specs.declared.job.Growth.{Growth}

@@ -4,12 +4,9 @@ use Rattle.std.specs.Prelude.{◌&&◌, IfSome, IsPermutation, is_none, not}
 use Rattle.std.specs.List.{find, list_any, flat_map}
 use Rattle.fc_record.specs.declared.Geometry.{Geometry}
 use Rattle.fc_zone.specs.declared.Run.{Run}
-use Rattle.fc_zone.specs.declared.RunKind.{RunKind}
-use Rattle.fc_zone.specs.declared.RunKind.TheVariants as kinds
 use Rattle.fc_newmap.specs.Map.{Map, ZoneRun, all_runs, has_id, hole_runs, id_runs, is_hole, is_used, runs_in, runs_of, search_order}
 use Rattle.fc_newmap.specs.NewMap.{IsNewMap}
 use Rattle.fc_newmap.specs.Edits.{KeepsRuns}
-use Rattle.fc_newmap.specs.RunsLaw.{placed}
 use Rattle.fc_image.specs.effects.Placed.{holes_left, stands_at}
 use Rattle.fc_image.specs.effects.Steady.{has_id_that, holes_with, runs_that, zone_holes}
 use Rattle.fc_plan.specs.declared.plan.Part.{Part}

@@ -43,7 +43,6 @@ use Rattle.fc_writing.specs.Ready.{place_of}
 use Rattle.fc_course.proofs.GrownAroundLemmas.{IsCutAround}
 use Rattle.fc_course.proofs.NodeLemmas.{content_is, entry_is, held_at, sectors_are, size_of_form}
 use Rattle.fc_course.proofs.NodeLemmas as its
-use Rattle.fc_laws.proofs.lemmas.agree.SayLemmas.{as_directory as says_it}
 use Rattle.fc_image.proofs.TreeLemmas.{map_both as map_append}
 use Rattle.fc_image.proofs.EntriesLemmas.{later as contains_later}
 

@@ -117,7 +117,6 @@ pub mod GrownTakenLemmas
 pub mod GrownShortLemmas
 pub mod GrownWantLemmas
 pub mod GrownWalkLemmas
-pub mod GrownVacantLemmas
 pub mod GrownBackLemmas
 pub mod GrownSaidLemmas
 pub mod GrownStageLemmas
@@ -134,3 +133,5 @@ pub mod GrownNewMayLemmas
 pub mod GrownNewDoneLemmas
 pub mod GrownNewRunLemmas
 pub mod GrownNewLawsLemmas
+pub mod GrownComerLemmas
+pub mod GrownStoredLemmas

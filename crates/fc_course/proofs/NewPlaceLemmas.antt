@@ -1,13 +1,11 @@
 -- Where what comes lies on a new map: before the map has its space, and afterwards.
-use Rattle.std.proofs.Common.{◌≡◌, ◌<◌, ◌≤◌, ◌+◌, ◌*◌, ◌/◌, ◌==◌, ◌||◌, inl, inr, ℕ, Bool, true, false, cond, List, [], ◌∷◌, refl, sym, ap, ap₂, subst, ◌∙◌, arith, Option, Some, None}
+use Rattle.std.proofs.Common.{◌≡◌, ◌<◌, ◌+◌, ◌*◌, inl, inr, ℕ, Bool, true, false, cond, List, [], ◌∷◌, refl, sym, ap, subst, ◌∙◌, arith, Option, Some, None}
 use Rattle.std.specs.Prelude.{Contains}
 use Rattle.std.specs.Option.{option_to_list}
 use Rattle.fc_names.specs.Names.{Path}
-use Rattle.fc_record.specs.declared.Geometry.{Geometry}
 use Rattle.fc_record.specs.declared.Kind.{Kind}
-use Rattle.fc_newmap.specs.Map.{Map, ZoneRun, all_runs, bits_in, hole_runs, id_runs, is_hole, map_sectors}
+use Rattle.fc_newmap.specs.Map.{Map, ZoneRun, all_runs, hole_runs, id_runs, is_hole, map_sectors}
 use Rattle.fc_newmap.specs.NewMap.{IsNewMap}
-use Rattle.fc_newmap.specs.Edits.{KeepsRuns}
 use Rattle.fc_newmap.proofs.CoverLemmas.{run_on_disc}
 use Rattle.fc_newmap.proofs.PlaceLemmas.{filter_in, holder_of, in_front}
 use Rattle.fc_alloc.specs.declared.owner.Owner.{Owner}
@@ -17,9 +15,8 @@ use Rattle.fc_image.specs.Objects.{objects_of}
 use Rattle.fc_image.specs.Opening.{Opened, boot_place, reserved_in}
 use Rattle.fc_model.specs.Command.{Command}
 use Rattle.fc_image.specs.Walk.{Listing, Object, object_size}
-use Rattle.fc_image.specs.effects.Placed.{file_low}
 use Rattle.fc_image.proofs.HolesLemmas.{apart_at, apart_from, no_hole_in}
-use Rattle.fc_changes.specs.Changed.{IsFileAt, IsInNewSpace}
+use Rattle.fc_changes.specs.Changed.{IsFileAt}
 use Rattle.fc_changes.specs.Owed.{GivesBack, IsSpaceEdit}
 use Rattle.fc_changes.proofs.BasicLemmas.{clash}
 use Rattle.fc_laws.specs.nodes.Edits.{Nodes}
@@ -37,7 +34,7 @@ use Rattle.fc_placing.specs.Space.{IsMapEdited}
 use Rattle.fc_placing.specs.declared.placing.Placing.{Placing}
 use Rattle.fc_placing.specs.declared.placing.Placing.TheVariants as placings
 use Rattle.fc_placing.proofs.PlacedLemmas.{place_law}
-use Rattle.fc_placing.proofs.SpaceLemmas.{ids_same, steps_law}
+use Rattle.fc_placing.proofs.SpaceLemmas.{steps_law}
 use Rattle.fc_plan.specs.declared.plan.Plan.{Plan}
 use Rattle.fc_plan.specs.Giving.{is_one_of}
 use Rattle.fc_tree.specs.declared.node.Node.{Node}

@@ -3,7 +3,6 @@ use Rattle.std.proofs.Common.{◌≡◌, ◌<◌, ◌+◌, ◌*◌, ◌++◌, �
 use Rattle.std.specs.Option.{option_to_list}
 use Rattle.fc_names.specs.Names.{Path}
 use Rattle.fc_alloc.specs.declared.owner.Owner.{Owner}
-use Rattle.fc_record.specs.declared.Kind.{Kind}
 use Rattle.fc_record.specs.declared.Geometry.{Geometry}
 use Rattle.fc_newmap.specs.Map.{Map, bits_in}
 use Rattle.fc_newmap.specs.NewMap.{IsNewMap}
@@ -15,11 +14,9 @@ use Rattle.fc_image.specs.effects.Placed.{file_low, has_spare_share}
 use Rattle.fc_image.specs.effects.Sharing.{slack}
 use Rattle.fc_changes.specs.Changed.{IsFileAt, IsInNewSpace}
 use Rattle.fc_changes.proofs.PlacedLemmas.{is_shared}
-use Rattle.fc_edits.specs.Placing.{IsPlaced}
 use Rattle.fc_laws.specs.nodes.Edits.{Nodes}
-use Rattle.fc_laws.specs.agree.Agreed.{parts_with}
 use Rattle.fc_objects.specs.Extents.{sectors_in}
-use Rattle.fc_placing.specs.Places.{IsFilePlace, address_in, id_in, parts_in, shared_id, slack_left}
+use Rattle.fc_placing.specs.Places.{IsFilePlace, address_in, id_in, parts_in, slack_left}
 use Rattle.fc_placing.specs.declared.placing.Placing.{Placing}
 use Rattle.fc_placing.specs.declared.placing.Placing.TheVariants as placings
 use Rattle.fc_placing.proofs.PlacedLemmas.{place_law}
@@ -35,7 +32,7 @@ use Rattle.fc_change.specs.declared.spaces.GrownPlace.{GrownPlace}
 use Rattle.fc_change.specs.declared.spaces.Place.{Place}
 use Rattle.fc_change.specs.declared.spaces.Spaces.{Spaces}
 use Rattle.fc_change.specs.GrownSpace.{freed, gone_at_once, kept_parts, plans_of, root_of}
-use Rattle.fc_change.specs.Places.{AreLeft, ArePlaced, IsPlaceFor, IsPlacingFor, address_for, is_directory, own_address, plan_in}
+use Rattle.fc_change.specs.Places.{ArePlaced, IsPlaceFor, IsPlacingFor, address_for, is_directory, own_address, plan_in}
 use Rattle.fc_change.specs.Shortage.{is_grown_alone}
 use Rattle.fc_change.specs.Steps.{IsStep}
 use Rattle.fc_course.proofs.NewPlaceLemmas.{LiesBy}

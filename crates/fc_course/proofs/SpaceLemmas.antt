@@ -40,7 +40,7 @@ zones_same m plan gone = filter_same (is_changed m (option_to_list plan) gone) (
 
 -- ---- a step
 
-no_parts_kept : AllPairs BeginsBefore (fronts [])
+pub no_parts_kept : AllPairs BeginsBefore (fronts [])
 no_parts_kept i j d less low = absurd (omega (arith, low, less))
 
 abbrev pub CanTakeIf : Map → Option Plan → Type 0

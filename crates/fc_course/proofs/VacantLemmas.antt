@@ -20,12 +20,16 @@ use Rattle.fc_tree.proofs.WalkedLemmas.{find_only, one_listing, place_of}
 use Rattle.fc_laws.specs.nodes.Edits.{Nodes}
 use Rattle.fc_refusals.specs.Targets.{IsVacant}
 use Rattle.fc_refusals.proofs.HolderLemmas.{named}
+use Rattle.fc_refusals.proofs.HolderLemmas.{named}
 use Rattle.fc_course.proofs.ArrivalLemmas.{Arrival, Brings, gain_same}
 use Rattle.fc_course.proofs.EnteredLemmas.{HasRoomMore}
-use Rattle.fc_course.proofs.GrownVacantLemmas.{whole_path}
 use Rattle.std.proofs.lemmas.Bool.{and_from as both}
 
 -- ---- paths
+
+whole_path : (path : Path) → 0 < length path → path ≡ holder path ++ last_name path ∷ []
+whole_path [] some = absurd (omega (arith, some))
+whole_path (x ∷ path) some = (named (x ∷ path) (last_name (x ∷ path)) refl).whole
 
 -- What stands in the holder of a path under its last name is at the path.
 pub at_path : (path dir : Path) (name : List ℕ) → 0 < length path → is_same_path (holder path) dir ≡ true → name ≡ last_name path → is_same_path path (dir ++ name ∷ []) ≡ true
