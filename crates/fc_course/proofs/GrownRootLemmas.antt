@@ -36,24 +36,27 @@ can_root m p version high big = record {
   size_right = ap (λ (b : Bool). ((map_record (sector_of m 0)).version == 0) || b) big ∙ or_true ((map_record (sector_of m 0)).version == 0);
 }
 
--- ---- an opened image
-
 some_version : (v : ℕ) → (let f : NameForm = cond (v == 0) forms.Ten forms.Long in f) ≡ forms.Long → 0 < v
 some_version zero e = absurd (cc)
 some_version (suc v) e = omega arith
 
-pub version_by : (kind : Kind) (r : DiscRecord) (image : List ℕ) (v : Opened) (m : Map) → IsBefore kind r image v m → dir_form (Layout.New m) ≡ forms.Long → HasVersion m
-version_by kind r image v m before long =
+-- A record that tells its disc's version has one above 0, if the directories are big.
+pub version_of : (m : Map) → TellsVersion (Layout.New m) → dir_form (Layout.New m) ≡ forms.Long → HasVersion m
+version_of m tells long = subst (λ (n : ℕ). 0 < n) (sym tells) (some_version m.geometry.version long)
+
+-- ---- an opened image
+
+-- The map's record tells the disc's version.
+pub tells_by : (kind : Kind) (r : DiscRecord) (image : List ℕ) (v : Opened) (m : Map) → IsBefore kind r image v m → TellsVersion (Layout.New m)
+tells_by kind r image v m before =
     let s = map_record (sector_of m 0) in
     let old = edited_image_law.map image kind r v m before.new_kind before.opens before.layout in
     let same = agree r s (raw_of kind r before.new_kind before.opens.kind_right) refl (no_difference r s old.own (difference r s) old.agreed) in
     let opened = open_by image kind r v m before.new_kind before.opens before.layout in
-    let version : s.version ≡ m.geometry.version = ap (λ (x : DiscRecord). x.version) same ∙ sym (ap (λ (g : Geometry). g.version) opened.geometry_is) in
-    subst (λ (n : ℕ). 0 < n) (sym version) (some_version m.geometry.version long)
+    ap (λ (x : DiscRecord). x.version) same ∙ sym (ap (λ (g : Geometry). g.version) opened.geometry_is)
 
--- So has one of a disc with big directories, whose record tells its version.
-pub version_of : (m : Map) → TellsVersion (Layout.New m) → dir_form (Layout.New m) ≡ forms.Long → HasVersion m
-version_of m tells long = subst (λ (n : ℕ). 0 < n) (sym tells) (some_version m.geometry.version long)
+pub version_by : (kind : Kind) (r : DiscRecord) (image : List ℕ) (v : Opened) (m : Map) → IsBefore kind r image v m → dir_form (Layout.New m) ≡ forms.Long → HasVersion m
+version_by kind r image v m before long = version_of m (tells_by kind r image v m before) long
 
 -- ---- addresses
 
