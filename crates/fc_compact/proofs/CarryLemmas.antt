@@ -29,9 +29,9 @@ use Rattle.fc_image.specs.Moves.{Carried, StaysBy, with_map}
 use Rattle.fc_image.proofs.HolesLemmas.{id_no_hole}
 use Rattle.fc_image.proofs.MoveLemmas.{one_id}
 use Rattle.fc_image.proofs.RemapLemmas.{map_fixed, map_moved, moved_apart, moved_in, moved_out, moved_to}
-use Rattle.fc_compact.specs.Compacting.{is_loose, loose_sectors}
-use Rattle.fc_compact.specs.Copying.{ChangesRow}
-use Rattle.fc_compact.specs.Gathering.{Carrying}
+use Rattle.fc_compact.specs.Compaction.{is_loose, loose_sectors}
+use Rattle.fc_compact.specs.Copy.{ChangesRow}
+use Rattle.fc_compact.specs.Rounds.{Carrying}
 use Rattle.fc_compact.specs.Laws.{Laws}
 use Rattle.fc_compact.specs.Ready.{AreOwnersOf, IsReady, is_movable_by}
 use Rattle.fc_compact.specs.Steps.{Preserves}

@@ -24,11 +24,11 @@ use Rattle.fc_copies.specs.Committing.{CanWrite, KeepsContents}
 use Rattle.fc_copies.specs.Copies.{CommitEnds, CommitLeaves, copy_of}
 use Rattle.fc_image.specs.Layout.{id_sectors}
 use Rattle.fc_image.specs.effects.Moves.{with_holes_joined}
-use Rattle.fc_compact.specs.Gathering.{Carrying, FallsIn, Gathers, GathersZones, HasDrawn, Spares, all_weight}
-use Rattle.fc_compact.specs.Joining.{ids_in, is_listed}
+use Rattle.fc_compact.specs.Rounds.{Carrying, FallsIn, Gathers, GathersZones, HasDrawn, Spares, all_weight}
+use Rattle.fc_compact.specs.Joins.{ids_in, is_listed}
 use Rattle.fc_compact.specs.Laws.{Laws}
 use Rattle.fc_compact.specs.Ready.{IsReady}
-use Rattle.fc_compact.specs.Settling.{one_if, zone_weight}
+use Rattle.fc_compact.specs.Settlement.{one_if, zone_weight}
 use Rattle.fc_compact.specs.Steps.{Leads, Packs, Preserves, SamePart}
 use Rattle.fc_compact.proofs.CarryLemmas.{carry_preserves, carry_ready, carrying_same}
 use Rattle.fc_compact.proofs.GatherLemmas.{joined_falls, joined_runs}

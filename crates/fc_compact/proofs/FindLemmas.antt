@@ -1,5 +1,5 @@
 -- A hole and the run that follows it, found by a walk.
-use Rattle.std.proofs.Common.{◌≡◌, ◌<◌, ◌≤◌, ℕ, ◌+◌, ◌%◌, ◌^◌, List, [], ◌∷◌, ◌++◌, refl, sym, ap, subst, ◌∙◌, arith, append_assoc}
+use Rattle.std.proofs.Common.{◌≡◌, ◌<◌, ◌≤◌, ◌⊎◌, inl, ℕ, ◌+◌, ◌-◌, ◌*◌, ◌%◌, ◌^◌, true, List, [], ◌∷◌, ◌++◌, refl, sym, ap, ap₂, subst, ◌∙◌, arith, append_assoc}
 use Rattle.fc_zone.specs.declared.Run.{Run}
 use Rattle.fc_zone.specs.declared.RunKind.TheVariants.{Hole, Id}
 use Rattle.fc_zone.specs.Zone.{IsShapeOf, Zone}
@@ -9,7 +9,10 @@ use Rattle.fc_newmap.specs.Map.{Map, runs_of, sector_of, shape}
 use Rattle.fc_newmap.specs.NewMap.{IsNewMap}
 use Rattle.fc_newmap.proofs.HeldLemmas.{end_within, geometry_facts, sector_high, shape_fits}
 use Rattle.fc_image.specs.effects.Moves.{Slid}
-use Rattle.fc_compact.specs.Sliding.{HasRuns, hole_at, part, row, run_at}
+use Rattle.fc_alloc.specs.declared.owner.Owner.{Owner}
+use Rattle.fc_compact.specs.Ready.{is_movable_by}
+use Rattle.fc_compact.specs.Slides.{CanShift, HasRuns, HasShifted, IsSlide, hole_at, part, row, run_at, slid}
+use Rattle.fc_compact.specs.declared.shift.Slide.{Slide}
 use Rattle.fc_compact.proofs.ShiftLemmas.{part_some}
 use Rattle.fc_compact.proofs.WholeLemmas.{run_room, run_whole}
 
@@ -67,9 +70,60 @@ module _ (m : Map) (is : IsNewMap m) (z : ℕ) (low : z < m.geometry.zones) (fro
         ∙ ap (λ (rs : List Run). front ++ hole_at start hole.len ∷ rs) (sym (part_some (start + hole.len) run.len id rest some_len))
         ∙ ap (λ (k : ℕ). front ++ hole_at k hole.len ∷ part (k + hole.len) run.len id rest) (sym from)
 
+    -- as a slide
+    abbrev pub pair : Slide
+    pair = record { zone = z; start = start; id = id; hole = hole.len; len = run.len }
+
+    pub none_slid : HasRuns m z (front ++ slid pair 0 rest)
+    none_slid = first_row ∙ ap (λ (k : ℕ). front ++ row start id 0 hole.len k rest) (let e : run.len ≡ run.len - 0 = omega arith in e)
+
+    -- all of it can move
+    pub can_shift : CanShift m pair 0 run.len
+    can_shift =
+        let fits = pair_fits in
+        let all : 0 + run.len ≡ run.len = omega arith in
+        record {
+          zone = low;
+          runs = (front, rest, none_slid);
+          fits = omega (arith, named, fits);
+          some = some_len;
+          within = omega arith;
+          whole = ap (λ (k : ℕ). k % m.geometry.q) all ∙ len_whole;
+          room = (let room = len_room in omega (arith, room));
+          hole_whole = hole_whole;
+          hole_room = hole_room;
+          left = inl (omega arith);
+        }
+
+    pub is_slide : (owners : List Owner) → is_movable_by owners id ≡ true → (run.len ≤ hole.len) ⊎ (2 * m.geometry.min ≤ run.len) → IsSlide m owners pair
+    is_slide owners may room =
+        let fits = pair_fits in
+        record {
+          zone = low;
+          movable = may;
+          runs = (front, rest, none_slid);
+          fits = omega (arith, named, fits);
+          len_whole = len_whole;
+          hole_whole = hole_whole;
+          len_room = len_room;
+          hole_room = hole_room;
+          room = room;
+        }
+
     -- all has slid
-    pub slid_row : (m' : Map) → HasRuns m' z (front ++ row start id run.len hole.len 0 rest) → ((y : ℕ) → (y ≡ z → ⊥) → runs_of m' y ≡ runs_of m y) → Slid m m' z start
-    slid_row m' zone others = record {
+    pub all_slid : (m' : Map) → HasShifted m m' pair 0 run.len → HasRuns m' z (front ++ record run { start = hole.start } ∷ (record hole { start = hole.start + run.len } ∷ rest))
+    all_slid m' shifted =
+        let all : 0 + run.len ≡ run.len = omega arith in
+        let none : run.len - (0 + run.len) ≡ 0 = omega arith in
+        shifted front rest none_slid
+        ∙ ap₂ (λ (k left : ℕ). front ++ row start id k hole.len left rest) all none
+        ∙ ap (λ (rs : List Run). front ++ rs) (part_some start run.len id (hole_at (start + run.len) hole.len ∷ rest) some_len)
+        ∙ ap (λ (r : Run). front ++ r ∷ (hole_at (start + run.len) hole.len ∷ rest)) (run_ext (run_at start run.len id) (record run { start = hole.start }) (sym named) refl (sym is_run))
+        ∙ ap (λ (h : Run). front ++ record run { start = hole.start } ∷ (h ∷ rest))
+        (run_ext (hole_at (start + run.len) hole.len) (record hole { start = hole.start + run.len }) (ap (λ k. k + run.len) (sym named)) refl (sym is_hole))
+
+    pub slid_row : (m' : Map) → HasShifted m m' pair 0 run.len → ((y : ℕ) → (y ≡ z → ⊥) → runs_of m' y ≡ runs_of m y) → Slid m m' z start
+    slid_row m' shifted others = record {
       front = front;
       rest = rest;
       hole = hole;
@@ -77,10 +131,6 @@ module _ (m : Map) (is : IsNewMap m) (z : ℕ) (low : z < m.geometry.zones) (fro
       named = named;
       is_hole = is_hole;
       was = runs;
-      is = zone
-          ∙ ap (λ (rs : List Run). front ++ rs) (part_some start run.len id (hole_at (start + run.len) hole.len ∷ rest) some_len)
-          ∙ ap (λ (r : Run). front ++ r ∷ (hole_at (start + run.len) hole.len ∷ rest)) (run_ext (run_at start run.len id) (record run { start = hole.start }) (sym named) refl (sym is_run))
-          ∙ ap (λ (h : Run). front ++ record run { start = hole.start } ∷ (h ∷ rest))
-          (run_ext (hole_at (start + run.len) hole.len) (record hole { start = hole.start + run.len }) (ap (λ k. k + run.len) (sym named)) refl (sym is_hole));
+      is = all_slid m' shifted;
       others = others;
     }

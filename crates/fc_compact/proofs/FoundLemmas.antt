@@ -1,6 +1,6 @@
 -- Walks over the runs of a zone, and what they find.
-use Rattle.std.proofs.Common.{◌≡◌, ◌<◌, ◌≤◌, ℕ, suc, ◌+◌, ◌-◌, Bool, true, false, cond, List, [], ◌∷◌, ◌++◌, length, refl, sym, ap, ◌∙◌, append-nil, length-append, arith}
-use Rattle.std.specs.Prelude.{◌||◌, ◌==◌, All, Contains, filter}
+use Rattle.std.proofs.Common.{◌≡◌, ◌<◌, ◌≤◌, ℕ, ◌+◌, ◌-◌, Bool, true, false, cond, List, [], ◌∷◌, ◌++◌, length, refl, sym, ap, ◌∙◌, append-nil, length-append, arith}
+use Rattle.std.specs.Prelude.{◌||◌, ◌==◌, All, filter}
 use Rattle.std.specs.List.{list_any, range_with_len}
 use Rattle.std.specs.List.Sorted.{IsStrictlyIncreasing}
 use Rattle.std.proofs.lemmas.Bool.{eqb-true, ne_eqb}
@@ -8,7 +8,7 @@ use Rattle.std.proofs.lemmas.List.Elements.{filter-append}
 use Rattle.std.proofs.lemmas.List.FromFn.{get_or-range_with_len, length-range_with_len}
 use Rattle.fc_newmap.specs.Map.{Map, ZoneRun, has_id, runs_of}
 use Rattle.fc_newmap.specs.RunsLaw.{placed}
-use Rattle.fc_compact.specs.Joining.{has_run_in, ids_in, is_listed}
+use Rattle.fc_compact.specs.Joins.{has_run_in, ids_in, is_listed}
 use Rattle.fc_newmap.proofs.CoverLemmas.{range_cut}
 use Rattle.fc_newmap.proofs.PlaceLemmas.{in_range}
 use Rattle.fc_zone.specs.declared.Run.{Run}

@@ -28,15 +28,15 @@ use Rattle.fc_alloc.specs.declared.owner.Owner.{Owner}
 use Rattle.fc_image.specs.Layout.{Layout, disc_sectors, hole_sectors, id_sectors, is_among}
 use Rattle.fc_image.specs.Moves.{Carried}
 use Rattle.fc_image.specs.effects.Moves.{Slid, before_holes, with_holes_joined}
-use Rattle.fc_compact.specs.Copying.{ChangesRow, IsCopied, TearsRow}
-use Rattle.fc_compact.specs.Gathering.{Carrying, Drawn, Gathers, IsGathered, Spares, StaysInHoles, fresh_of}
-use Rattle.fc_compact.specs.Joining.{are_holes, ids_in, joined}
+use Rattle.fc_compact.specs.Copy.{ChangesRow, IsCopied, TearsRow}
+use Rattle.fc_compact.specs.Rounds.{Carrying, Drawn, Gathers, IsGathered, Spares, StaysInHoles, fresh_of}
+use Rattle.fc_compact.specs.Joins.{are_holes, ids_in, joined}
 use Rattle.fc_compact.specs.Laws.{Laws}
 use Rattle.fc_compact.specs.Ready.{is_movable_by}
-use Rattle.fc_compact.specs.Settling.{one_if, run_weight, zone_weight}
-use Rattle.fc_compact.specs.Sliding.{HasRuns, hole_at, row, run_at}
+use Rattle.fc_compact.specs.Settlement.{one_if, run_weight, zone_weight}
+use Rattle.fc_compact.specs.Slides.{HasRuns, hole_at, row, run_at}
 use Rattle.fc_compact.specs.Steps.{SamePart}
-use Rattle.fc_compact.specs.declared.gathering.Front.{Front}
+use Rattle.fc_compact.specs.declared.rounds.Front.{Front}
 use Rattle.fc_compact.proofs.CarryLemmas.{carrying_more}
 use Rattle.fc_compact.proofs.FindLemmas.{first_row, len_whole, run_follows, some_len}
 use Rattle.fc_compact.proofs.JoinLemmas.{count_up, disc_run}

@@ -22,9 +22,9 @@ use Rattle.fc_newmap.proofs.PlaceLemmas.{filter_in, in_id_runs, in_range, in_zon
 use Rattle.fc_alloc.specs.declared.owner.Owner.{Owner}
 use Rattle.fc_alloc.specs.Owners.{is_id_owned}
 use Rattle.fc_image.specs.effects.Settled.{zones_with}
-use Rattle.fc_compact.specs.Joining.{HasBetween, has_run_in, join_zones}
+use Rattle.fc_compact.specs.Joins.{HasBetween, has_run_in, join_zones}
 use Rattle.fc_compact.specs.Ready.{is_movable_by}
-use Rattle.fc_compact.specs.Sliding.{HasRuns, hole_at}
+use Rattle.fc_compact.specs.Slides.{HasRuns, hole_at}
 use Rattle.fc_compact.proofs.FoundLemmas.{any_there}
 use Rattle.fc_compact.proofs.WholeLemmas.{run_room, run_whole, whole_more}
 

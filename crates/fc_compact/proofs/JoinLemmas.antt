@@ -26,10 +26,10 @@ use Rattle.fc_image.specs.Objects.{objects_of}
 use Rattle.fc_image.specs.Moves.{CanCommit, Carried}
 use Rattle.fc_compact.specs.Laws.{Laws}
 use Rattle.fc_compact.specs.Ready.{IsReady, is_movable_by}
-use Rattle.fc_compact.specs.Sliding.{run_at}
+use Rattle.fc_compact.specs.Slides.{run_at}
 use Rattle.fc_compact.proofs.StepLemmas.{map_is, movable_is}
-use Rattle.fc_compact.specs.Copying.{ChangesRow, IsCopied}
-use Rattle.fc_compact.specs.Joining.{ArePut}
+use Rattle.fc_compact.specs.Copy.{ChangesRow, IsCopied}
+use Rattle.fc_compact.specs.Joins.{ArePut}
 use Rattle.fc_compact.proofs.ReadyLemmas.{row_same}
 use Rattle.fc_compact.proofs.PreservesLemmas.{geometry_is}
 

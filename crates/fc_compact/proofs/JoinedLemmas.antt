@@ -26,10 +26,10 @@ use Rattle.fc_image.specs.effects.Moves.{with_holes_joined}
 use Rattle.fc_image.specs.Layout.{Layout, disc_sectors, hole_sectors, id_sectors, is_among}
 use Rattle.fc_image.specs.Objects.{objects_of}
 use Rattle.fc_image.specs.Moves.{CanCommit}
-use Rattle.fc_compact.specs.Joining.{ArePut, EditsListed, HasBetween, all_freed, changed_runs, has_run_in, hole_part, ids_in, is_listed}
+use Rattle.fc_compact.specs.Joins.{ArePut, EditsListed, HasBetween, all_freed, changed_runs, has_run_in, hole_part, ids_in, is_listed}
 use Rattle.fc_compact.specs.Laws.{Laws}
 use Rattle.fc_compact.specs.Ready.{IsReady, is_movable_by}
-use Rattle.fc_compact.specs.Sliding.{HasRuns, hole_at, run_at}
+use Rattle.fc_compact.specs.Slides.{HasRuns, hole_at, run_at}
 use Rattle.fc_compact.specs.Steps.{Leads, Preserves}
 use Rattle.fc_compact.proofs.FoundLemmas.{no_ids}
 use Rattle.fc_compact.proofs.JoinLemmas.{count_up, disc_run, join_can, runs_le}

@@ -2,10 +2,10 @@
 use Rattle.std.proofs.Common.{◌≡◌, ◌<◌, ◌≤◌, ◌⊎◌, inl, inr, ℕ, suc, ◌+◌, ◌-◌, ◌*◌, ◌/◌, ◌%◌, List, [], ◌∷◌, length, take, drop, get_or, refl, sym, ap, subst, ◌∙◌, arith}
 use Rattle.std.specs.Prelude.{slice_index, slice_range, Contains}
 use Rattle.std.specs.List.{AllByRecursion}
-use Rattle.std.proofs.lemmas.List.{ext_get_or, get_or-drop, get_or-take, length-take, length-drop, get_or_append_left}
+use Rattle.std.proofs.lemmas.List.{ext_get_or, get_or-drop, get_or-take, length-take, length-drop}
 use Rattle.std.proofs.lemmas.Nat.{div-add-mod'}
 use Rattle.fc_bytes.specs.Bits.{bits, low_bits}
-use Rattle.fc_bytes.specs.BitLaws.{bits-drop, length-bits, length-low_bits, slice_range-same}
+use Rattle.fc_bytes.specs.BitLaws.{bits-drop, length-bits, slice_range-same}
 use Rattle.fc_bytes.specs.Words.{bytes_at}
 use Rattle.fc_record.specs.declared.Geometry.{Geometry}
 use Rattle.fc_record.specs.Kinds.{map_record}
@@ -22,7 +22,7 @@ use Rattle.fc_newmap.proofs.GeometryLemmas.{header_high}
 use Rattle.fc_newmap.proofs.HeldLemmas.{shape_fits}
 use Rattle.fc_copies.specs.Committing.{CanWrite, KeepsContents}
 use Rattle.fc_copies.specs.Copies.{HoldsCopies}
-use Rattle.fc_compact.specs.Compacting.{ZoneStays}
+use Rattle.fc_compact.specs.Compaction.{ZoneStays}
 use Rattle.fc_bytes.proofs.ByteLemmas.{first_bits}
 
 -- a bit of a byte that is the same

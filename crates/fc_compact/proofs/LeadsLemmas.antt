@@ -8,7 +8,7 @@ use Rattle.fc_zone.proofs.WrittenLemmas.{keeps_none, keeps_then}
 use Rattle.fc_newmap.specs.Map.{Map, runs_of, sector_of, shape}
 use Rattle.fc_newmap.specs.NewMap.{IsNewMap}
 use Rattle.fc_alloc.specs.declared.owner.Owner.{Owner}
-use Rattle.fc_compact.specs.Compacting.{ZoneStays}
+use Rattle.fc_compact.specs.Compaction.{ZoneStays}
 use Rattle.fc_compact.specs.Steps.{Leads}
 
 pub zone_none : (m : Map) (z : ℕ) → ZoneStays m m z

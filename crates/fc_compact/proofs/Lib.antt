@@ -6,6 +6,7 @@ pub mod PreservesLemmas
 mod ReadyLemmas
 mod RowLemmas
 mod SlideLemmas
+mod PieceLemmas
 mod FindLemmas
 pub mod StepLemmas
 mod CarryLemmas
@@ -24,7 +25,7 @@ mod HoldLemmas
 mod PacksLemmas
 mod MergeLemmas
 mod SlidLemmas
-mod GoneLemmas
+pub mod GoneLemmas
 mod AdjacentLemmas
 mod SeenLemmas
 mod PassLemmas

@@ -10,7 +10,7 @@ use Rattle.fc_newmap.specs.Edits.{IsEdit}
 use Rattle.fc_newmap.specs.Map.{Map, runs_of}
 use Rattle.fc_newmap.specs.NewMap.{IsNewMap}
 use Rattle.fc_newmap.proofs.ComposeLemmas.{edits_none, edits_then, runs_other}
-use Rattle.fc_compact.specs.Joining.{EditsListed, changed_runs, is_listed}
+use Rattle.fc_compact.specs.Joins.{EditsListed, changed_runs, is_listed}
 
 -- each is above those before it
 earlier : (zones : List ℕ) (j i : ℕ) → IsStrictlyIncreasing zones → j < i → i < length zones → get_or zones j 0 < get_or zones i 0

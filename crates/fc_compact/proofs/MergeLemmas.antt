@@ -25,11 +25,11 @@ use Rattle.fc_copies.specs.Copies.{CommitEnds, CommitLeaves, copy_of}
 use Rattle.fc_image.specs.Layout.{id_sectors}
 use Rattle.fc_image.specs.Objects.{objects_of}
 use Rattle.fc_image.specs.Moves.{CanCommit}
-use Rattle.fc_compact.specs.Joining.{ids_in, joined}
+use Rattle.fc_compact.specs.Joins.{ids_in, joined}
 use Rattle.fc_compact.specs.Laws.{Laws}
 use Rattle.fc_compact.specs.Ready.{IsReady, is_movable_by}
-use Rattle.fc_compact.specs.Settling.{CanMergeRuns, run_weight, zone_weight}
-use Rattle.fc_compact.specs.Sliding.{HasRuns}
+use Rattle.fc_compact.specs.Settlement.{CanMergeRuns, run_weight, zone_weight}
+use Rattle.fc_compact.specs.Slides.{HasRuns}
 use Rattle.fc_compact.specs.Steps.{Leads, Packs, Preserves, SamePart}
 use Rattle.fc_compact.proofs.HoldLemmas.{id_kind, run_is_whole}
 use Rattle.fc_compact.proofs.KeptLemmas.{committed_geometry, committed_record, committed_zone}

@@ -10,8 +10,8 @@ use Rattle.fc_newmap.specs.Map.{Map, ZoneRun, has_id, id_runs, runs_in, runs_of,
 use Rattle.fc_newmap.specs.RunsLaw.{placed}
 use Rattle.fc_newmap.proofs.CoverLemmas.{order_Distinct, split_once}
 use Rattle.fc_newmap.proofs.PlaceLemmas.{in_back, in_front, in_order_of, order_in}
-use Rattle.fc_compact.specs.Joining.{hole_part, ids_in}
-use Rattle.fc_compact.specs.Sliding.{hole_at, run_at}
+use Rattle.fc_compact.specs.Joins.{hole_part, ids_in}
+use Rattle.fc_compact.specs.Slides.{hole_at, run_at}
 use Rattle.fc_device.specs.Numbers.{is_listed as is_in}
 
 -- ---- one run alone

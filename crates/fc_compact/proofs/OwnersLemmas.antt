@@ -14,7 +14,7 @@ use Rattle.fc_image.specs.Layout.{id_of}
 use Rattle.fc_image.specs.Objects.{is_movable}
 use Rattle.fc_image.specs.Walk.{Object}
 use Rattle.fc_image.specs.effects.Settled.{CompactedMap, can_join, can_slide, is_done, is_settled_map, passes_adjacent}
-use Rattle.fc_compact.specs.Compacting.{ByOwnersLaw, CompactedBy, IsSettledBy, is_done_by}
+use Rattle.fc_compact.specs.Compaction.{ByOwnersLaw, CompactedBy, IsSettledBy, is_done_by}
 use Rattle.fc_compact.specs.Ready.{AreOwnersOf, is_movable_by}
 
 module _ (owners : List Owner) (objects : List Object) (own : AreOwnersOf owners objects) where

@@ -14,7 +14,7 @@ use Rattle.fc_newmap.proofs.HeldLemmas.{geometry_facts}
 use Rattle.fc_newmap.proofs.PlaceLemmas.{in_order_of}
 use Rattle.fc_alloc.specs.declared.owner.Owner.{Owner}
 use Rattle.fc_image.specs.effects.Settled.{KeepsBits}
-use Rattle.fc_compact.specs.Joining.{ids_in}
+use Rattle.fc_compact.specs.Joins.{ids_in}
 use Rattle.fc_compact.specs.Ready.{is_movable_by}
 use Rattle.fc_compact.specs.Steps.{Leads, Packs, SamePart}
 use Rattle.fc_compact.proofs.LeadsLemmas.{leads_none, leads_then}

@@ -16,9 +16,9 @@ use Rattle.fc_alloc.specs.declared.owner.Owner.{Owner}
 use Rattle.fc_alloc.specs.Owners.{is_id_owned}
 use Rattle.fc_image.specs.effects.Placed.{front_of}
 use Rattle.fc_image.specs.effects.Settled.{KeepsBits, can_join, zones_with}
-use Rattle.fc_compact.specs.Passing.{IsLongest, Tries, run_count}
+use Rattle.fc_compact.specs.Candidates.{IsLongest, Tries, run_count}
 use Rattle.fc_compact.specs.Ready.{is_movable_by}
-use Rattle.fc_compact.specs.Settling.{one_if}
+use Rattle.fc_compact.specs.Settlement.{one_if}
 use Rattle.fc_compact.specs.Steps.{Leads, Packs}
 use Rattle.fc_compact.proofs.HoldLemmas.{id_bits_long, id_run_between, id_run_low, some_min}
 use Rattle.fc_compact.proofs.PacksLemmas.{packs_none}

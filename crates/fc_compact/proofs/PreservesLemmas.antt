@@ -17,7 +17,7 @@ use Rattle.fc_newmap.proofs.RunsLemmas.{runs_apart}
 use Rattle.fc_alloc.specs.declared.owner.Owner.{Owner}
 use Rattle.fc_image.specs.Layout.{Layout, hole_sectors, is_among}
 use Rattle.fc_image.specs.Moves.{KeepsObjects}
-use Rattle.fc_compact.specs.Compacting.{is_loose, loose_sectors}
+use Rattle.fc_compact.specs.Compaction.{is_loose, loose_sectors}
 use Rattle.fc_compact.specs.Laws.{Laws}
 use Rattle.fc_compact.specs.Ready.{is_movable_by}
 use Rattle.fc_compact.specs.Steps.{Leads, Preserves}

@@ -12,7 +12,7 @@ use Rattle.fc_copies.proofs.RepairLemmas.{same_copy}
 use Rattle.fc_image.specs.Layout.{Layout, hole_sectors, is_among, is_apart, map_place}
 use Rattle.fc_image.specs.Stays.{OpensAs, SameOutsideHoles}
 use Rattle.fc_image.proofs.HolesLemmas.{apart_at}
-use Rattle.fc_compact.specs.Copying.{ChangesRow}
+use Rattle.fc_compact.specs.Copy.{ChangesRow}
 use Rattle.fc_compact.specs.Laws.{Laws}
 use Rattle.fc_compact.specs.Ready.{IsReady}
 use Rattle.fc_compact.specs.Steps.{Preserves}

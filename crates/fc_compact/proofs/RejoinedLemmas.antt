@@ -12,8 +12,8 @@ use Rattle.fc_newmap.specs.NewMap.{IsNewMap}
 use Rattle.fc_newmap.proofs.ComposeLemmas.{zone_cut}
 use Rattle.fc_image.specs.effects.Moves.{cut_run, is_joined_in, is_the_hole, rejoined, runs_joined, with_holes_joined}
 use Rattle.fc_image.specs.effects.Placed.{front_of}
-use Rattle.fc_compact.specs.Joining.{HasBetween, all_freed, changed_runs, freed, has_run_in, hole_part, is_listed}
-use Rattle.fc_compact.specs.Sliding.{HasRuns, hole_at, run_at}
+use Rattle.fc_compact.specs.Joins.{HasBetween, all_freed, changed_runs, freed, has_run_in, hole_part, is_listed}
+use Rattle.fc_compact.specs.Slides.{HasRuns, hole_at, run_at}
 use Rattle.fc_compact.proofs.HoldLemmas.{has_run_same}
 use Rattle.fc_compact.proofs.ReleaseLemmas.{hole_part_some}
 use Rattle.fc_record.proofs.KindLemmas.{and_second as second_true}

@@ -11,8 +11,8 @@ use Rattle.fc_newmap.specs.Map.{Map, ZoneRun, has_id, sector_of, shape}
 use Rattle.fc_newmap.specs.NewMap.{IsNewMap}
 use Rattle.fc_newmap.specs.RunsLaw.{placed}
 use Rattle.fc_newmap.proofs.ComposeLemmas.{zone_cut}
-use Rattle.fc_compact.specs.Joining.{HasBetween, all_freed, freed, hole_part}
-use Rattle.fc_compact.specs.Sliding.{HasRuns, hole_at}
+use Rattle.fc_compact.specs.Joins.{HasBetween, all_freed, freed, hole_part}
+use Rattle.fc_compact.specs.Slides.{HasRuns, hole_at}
 
 pub first_of : (left : List Run) (run : Run) → slice_get left 0 ≡ Some run → (rest : List Run) × (left ≡ run ∷ rest)
 first_of [] run e = absurd (cc)

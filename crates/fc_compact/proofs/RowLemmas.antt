@@ -1,5 +1,5 @@
 -- Sectors of a row that are written without a sync, and what a crash leaves of them.
-use Rattle.std.proofs.Common.{◌≡◌, ◌<◌, ◌≤◌, ◌⊎◌, inl, inr, ⊎_elim, ℕ, zero, suc, ◌+◌, ◌-◌, ◌*◌, List, length, take, drop, refl, sym, ap, subst, ◌∙◌, arith, true, Some, None, Option, option_map}
+use Rattle.std.proofs.Common.{◌≡◌, ◌<◌, ◌≤◌, ◌⊎◌, inl, inr, ⊎_elim, ℕ, zero, suc, ◌+◌, ◌-◌, ◌*◌, List, length, take, drop, refl, sym, ap, subst, ◌∙◌, arith, true, Some, option_map}
 use Rattle.std.specs.Option.{ForSome}
 use Rattle.std.proofs.lemmas.Bool.{cases_lt}
 use Rattle.std.proofs.lemmas.Nat.{mul-le}
@@ -17,7 +17,7 @@ use Rattle.fc_copies.proofs.PassLemmas.{keeps_told, some_is}
 use Rattle.fc_compact.specs.Laws.{Laws}
 use Rattle.fc_compact.specs.Ready.{IsReady}
 use Rattle.fc_compact.specs.Steps.{Preserves}
-use Rattle.fc_compact.specs.Copying.{ChangesHoles, ChangesRow, HasCopied, HasRow, IsCopied, TearsRow}
+use Rattle.fc_compact.specs.Copy.{ChangesHoles, ChangesRow, HasCopied, HasRow, IsCopied, TearsRow}
 use Rattle.fc_compact.proofs.ReadyLemmas.{hole_preserves, hole_ready, row_same}
 
 -- ---- images

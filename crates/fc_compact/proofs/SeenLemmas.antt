@@ -1,19 +1,15 @@
 -- Runs of identifiers, counted in a table.
-use Rattle.std.proofs.Common.{◌≡◌, ◌<◌, ◌≤◌, inl, inr, ℕ, ◌+◌, ◌-◌, ◌%◌, Bool, true, false, cond, List, [], ◌∷◌, ◌++◌, get_or, length, length-append, refl, sym, ap, ◌∙◌, arith}
-use Rattle.std.specs.Prelude.{◌==◌, filter}
+use Rattle.std.proofs.Common.{◌≡◌, ◌≤◌, ℕ, ◌+◌, ◌-◌, Bool, true, false, List, ◌++◌, length, length-append, refl, ap, ◌∙◌, arith}
+use Rattle.std.specs.Prelude.{filter}
 use Rattle.std.specs.List.{range_with_len}
-use Rattle.std.proofs.Math.ListN.{set}
-use Rattle.std.proofs.lemmas.Bool.{cases_eq, eqb-true}
-use Rattle.std.proofs.lemmas.List.{get_or-set_other, get_or-set_same}
 use Rattle.std.proofs.lemmas.List.Elements.{filter-append}
 use Rattle.std.proofs.lemmas.Grind.{flat_map-append}
-use Rattle.fc_zone.specs.declared.RunKind.TheVariants as kinds
-use Rattle.fc_newmap.specs.Map.{Map, ZoneRun, all_runs, has_id, home_zone, id_runs, runs_in, runs_of}
+use Rattle.fc_newmap.specs.Map.{Map, ZoneRun, all_runs, home_zone, id_runs, runs_in, runs_of}
 use Rattle.fc_newmap.specs.RunsLaw.{placed}
 use Rattle.fc_newmap.proofs.CoverLemmas.{range_cut}
 use Rattle.fc_newmap.proofs.PlaceLemmas.{home_low}
 use Rattle.fc_alloc.specs.declared.owner.Owner.{Owner}
-use Rattle.fc_compact.specs.Passing.{AreSeen, SeesFew, places}
+use Rattle.fc_compact.specs.Candidates.{AreSeen, SeesFew}
 use Rattle.fc_compact.specs.Ready.{is_movable_by}
 use Rattle.fc_compact.specs.Steps.{Packs}
 use Rattle.fc_newmap.proofs.WalkLemmas.{of_id as of}

@@ -1,7 +1,7 @@
 -- A hole and a run that change places in a zone: one edit after another.
 use Rattle.std.proofs.Common.{◌≡◌, ◌<◌, ◌≤◌, ℕ, ◌+◌, ◌-◌, ◌%◌, Bool, true, false, cond, List, [], ◌∷◌, ◌++◌, refl, sym, ap, subst, ◌∙◌, arith, append_assoc}
 use Rattle.std.specs.Prelude.{◌==◌}
-use Rattle.std.proofs.lemmas.Bool.{ne_eqb, eq-eqb}
+use Rattle.std.proofs.lemmas.Bool.{ne_eqb}
 use Rattle.fc_zone.specs.declared.Run.{Run}
 use Rattle.fc_zone.specs.declared.RunKind.TheVariants as kinds
 use Rattle.fc_zone.specs.Edits.{HasHoleAt, HasRunAt, HasRunToSplit, HasRunsToMerge}
@@ -10,7 +10,7 @@ use Rattle.fc_newmap.specs.Edits.{IsEdit, MergesIn, RelabelsIn, SplitsIn}
 use Rattle.fc_newmap.specs.Map.{Map, sector_of, shape}
 use Rattle.fc_newmap.specs.NewMap.{IsNewMap}
 use Rattle.fc_newmap.proofs.ComposeLemmas.{zone_cut}
-use Rattle.fc_compact.specs.Sliding.{HasRuns, hole_at, part, row, run_at}
+use Rattle.fc_compact.specs.Slides.{HasRuns, hole_at, part, row, run_at}
 
 -- ---- parts of a row
 

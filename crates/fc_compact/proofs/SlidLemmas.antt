@@ -10,9 +10,9 @@ use Rattle.fc_newmap.specs.NewMap.{IsNewMap}
 use Rattle.fc_newmap.proofs.ComposeLemmas.{zone_cut}
 use Rattle.fc_alloc.specs.declared.owner.Owner.{Owner}
 use Rattle.fc_image.specs.effects.Moves.{Slid}
-use Rattle.fc_compact.specs.Joining.{ids_in}
-use Rattle.fc_compact.specs.Settling.{run_weight, zone_weight}
-use Rattle.fc_compact.specs.Sliding.{HasRuns}
+use Rattle.fc_compact.specs.Joins.{ids_in}
+use Rattle.fc_compact.specs.Settlement.{run_weight, zone_weight}
+use Rattle.fc_compact.specs.Slides.{HasRuns}
 use Rattle.fc_compact.specs.Steps.{Leads, Packs, SamePart}
 use Rattle.fc_compact.proofs.FindLemmas.{run_follows, hole_room, fits_shape}
 use Rattle.fc_compact.proofs.MergeLemmas.{idz, idz_append, weight_append, weight_cons}

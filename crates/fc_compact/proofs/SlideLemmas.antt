@@ -28,7 +28,7 @@ use Rattle.fc_newmap.proofs.RunsLemmas.{place_sector, sectors_add}
 use Rattle.fc_image.specs.Layout.{Layout, disc_sectors, hole_sectors, is_among}
 use Rattle.fc_image.specs.Moves.{Carried}
 use Rattle.fc_compact.specs.Laws.{Laws}
-use Rattle.fc_compact.specs.Sliding.{HasRuns, hole_at, part, row, run_at}
+use Rattle.fc_compact.specs.Slides.{HasRuns, hole_at, part, row, run_at}
 use Rattle.fc_compact.proofs.PreservesLemmas.{geometry_is}
 use Rattle.fc_compact.proofs.ShiftLemmas.{front_with, part_some}
 

@@ -1,5 +1,5 @@
 -- A map that may be committed, and what a commit of it leaves.
-use Rattle.std.proofs.Common.{◌≡◌, ◌<◌, ◌≤◌, ◌⊎◌, inl, inr, ℕ, ◌+◌, ◌-◌, ◌*◌, ◌/◌, ◌%◌, true, false, List, ◌∷◌, ◌++◌, refl, sym, ap, subst, ◌∙◌, arith}
+use Rattle.std.proofs.Common.{◌≡◌, ◌<◌, ◌≤◌, ◌⊎◌, inl, inr, ℕ, ◌+◌, ◌-◌, ◌*◌, ◌/◌, ◌%◌, true, false, List, ◌++◌, refl, sym, ap, subst, ◌∙◌, arith}
 use Rattle.std.specs.Prelude.{filter}
 use Rattle.std.proofs.lemmas.Bool.{cases_eq, cases_lt}
 use Rattle.std.proofs.lemmas.List.FromFn.{length-range_with_len}
@@ -23,15 +23,15 @@ use Rattle.fc_copies.proofs.ReadingLemmas.{chooses_one}
 use Rattle.fc_image.specs.Layout.{Layout, hole_sectors, id_sectors, is_among}
 use Rattle.fc_image.specs.Objects.{objects_of, is_movable}
 use Rattle.fc_image.specs.Moves.{CanCommit, Carried, StaysBy, with_map}
-use Rattle.fc_compact.specs.Copying.{IsCopied}
+use Rattle.fc_compact.specs.Copy.{IsCopied}
 use Rattle.fc_compact.specs.Laws.{Laws}
 use Rattle.fc_compact.specs.Ready.{IsReady, is_movable_by}
-use Rattle.fc_compact.specs.Sliding.{HasRuns, hole_at, part, row, run_at}
+use Rattle.fc_compact.specs.Slides.{CanShift, HasRuns, HasShifted, row}
+use Rattle.fc_compact.specs.declared.shift.Slide.{Slide}
 use Rattle.fc_compact.specs.Steps.{Leads, Preserves}
 use Rattle.fc_compact.proofs.KeptLemmas.{committed_geometry, committed_record, committed_zone}
 use Rattle.fc_compact.proofs.OwnersLemmas.{same_movable}
 use Rattle.fc_compact.proofs.PreservesLemmas.{geometry_is}
-use Rattle.fc_compact.proofs.ShiftLemmas.{part_some}
 use Rattle.fc_compact.proofs.SlideLemmas.{around, carried_between, count, grown, hole_low, ids, ids_row_other, kept_back, kept_front, piece_in_hole, row_after, row_before, run_on, stretch, taken}
 
 pub map_is : (m : Map) → IsNewMap m → IsMap m
@@ -178,48 +178,52 @@ module _ (law : Laws) (m m' : Map) (owners : List Owner) (image : List ℕ) (rea
 
 -- ---- a step of a slide, from a map m over an edited map n to a committed map
 
-module _ (law : Laws) (m n m' : Map) (owners : List Owner) (is : IsNewMap m) (z : ℕ) (low : z < m.geometry.zones) (edit : IsEdit m n z) (runs : KeepsRuns n m') (contents : KeepsContents n m')
-    (start id d s r p : ℕ) (front rest : List Run) (zone : HasRuns m z (front ++ row start id d s r rest)) (some : 0 < p) (within : p ≤ r) (few : p ≤ s)
-    (d_whole : d % m.geometry.q ≡ 0) (p_whole : p % m.geometry.q ≡ 0)
-    (shifted : HasRuns n z (front ++ run_at start (d + p) id ∷ (hole_at (start + (d + p)) s ∷ part (start + (d + p) + s) (r - p) id rest)))
-    (may : is_movable_by owners id ≡ true) where
+module _ (law : Laws) (m n m' : Map) (owners : List Owner) (is : IsNewMap m) (s : Slide) (d p : ℕ) (can : CanShift m s d p) (edit : IsEdit m n s.zone) (shifted : HasShifted m n s d p)
+    (runs : KeepsRuns n m') (contents : KeepsContents n m') (few : p ≤ s.hole) (d_whole : d % m.geometry.q ≡ 0) (p_whole : p % m.geometry.q ≡ 0) (may : is_movable_by owners s.id ≡ true) where
+  abbrev left : ℕ
+  left = s.len - (d + p)
+
   edits : AreEdits m n
-  edits = edit_all m n z edit
+  edits = edit_all m n s.zone edit
 
   pub step_geometry : m'.geometry ≡ m.geometry
   step_geometry = committed_geometry m n m' edits runs contents
 
-  pub step_row : HasRuns m' z (front ++ row start id (d + p) s (r - p) rest)
-  step_row =
-      runs.runs z ∙ shifted
-      ∙ ap (λ (rs : List Run). front ++ rs) (sym (part_some start (d + p) id (hole_at (start + (d + p)) s ∷ part (start + (d + p) + s) (r - p) id rest) (omega (arith, some))))
+  pub step_shifted : HasShifted m m' s d p
+  step_shifted front rest zone = runs.runs s.zone ∙ shifted front rest zone
 
-  before_row : HasRuns m z (front ++ row start id d s (p + (r - p)) rest)
-  before_row = let e : r ≡ p + (r - p) = omega (arith, within) in zone ∙ ap (λ (k : ℕ). front ++ row start id d s k rest) e
+  before_row : HasRuns m s.zone (can.runs.0 ++ row s.start s.id d s.hole (p + left) can.runs.1)
+  before_row =
+      let within = can.within in
+      let e : s.len - d ≡ p + left = omega (arith, within) in
+      can.runs.2 ∙ ap (λ (k : ℕ). can.runs.0 ++ row s.start s.id d s.hole k can.runs.1) e
 
-  pub step_others : (y : ℕ) → (y ≡ z → ⊥) → runs_of m' y ≡ runs_of m y
-  step_others y other = runs.runs y ∙ runs_elsewhere m n z y edit other
+  pub step_others : (y : ℕ) → (y ≡ s.zone → ⊥) → runs_of m' y ≡ runs_of m y
+  step_others y other = runs.runs y ∙ runs_elsewhere m n s.zone y edit other
 
   step_record : map_record (sector_of m' 0) ≡ map_record (sector_of m 0)
   step_record = committed_record m n m' edits runs contents (let f = (geometry_facts m.geometry is.of_record).zones in omega (arith, f))
 
+  there : HasRuns m' s.zone (can.runs.0 ++ row s.start s.id (d + p) s.hole left can.runs.1)
+  there = step_shifted can.runs.0 can.runs.1 can.runs.2
+
   pub step_can : (image : List ℕ) (ready : IsReady m owners image)
-      → IsCopied m.geometry.sector (place_sector m.geometry z (start + d + s)) (place_sector m.geometry z (start + d)) (p * m.geometry.bit_bytes / m.geometry.sector) image
+      → IsCopied m.geometry.sector (place_sector m.geometry s.zone (s.start + d + s.hole)) (place_sector m.geometry s.zone (s.start + d)) (p * m.geometry.bit_bytes / m.geometry.sector) image
       → CanCommit m m' (objects_of ready.view.listings) image
   step_can image ready copied =
-      slide_can law m m' owners image ready is runs.map z low start id d s p (r - p) front rest before_row some few d_whole p_whole step_geometry step_row step_others step_record may copied
+      slide_can law m m' owners image ready is runs.map s.zone can.zone s.start s.id d s.hole p left can.runs.0 can.runs.1 before_row can.some few d_whole p_whole step_geometry there step_others step_record may copied
 
   pub step_leads : Leads owners m m'
-  step_leads = leads_one m n m' owners id edits runs contents may (moved_others law m m' is z low start id d s p (r - p) front rest before_row step_geometry step_row step_others)
+  step_leads = leads_one m n m' owners s.id edits runs contents may (moved_others law m m' is s.zone can.zone s.start s.id d s.hole p left can.runs.0 can.runs.1 before_row step_geometry there step_others)
 
   pub step_preserves : (was image : List ℕ) (ready : IsReady m owners was)
-      → IsCopied m.geometry.sector (place_sector m.geometry z (start + d + s)) (place_sector m.geometry z (start + d)) (p * m.geometry.bit_bytes / m.geometry.sector) was
+      → IsCopied m.geometry.sector (place_sector m.geometry s.zone (s.start + d + s.hole)) (place_sector m.geometry s.zone (s.start + d)) (p * m.geometry.bit_bytes / m.geometry.sector) was
       → CommitLeaves n.geometry was (copy_of n.geometry One was) m'.zones image → Preserves m owners was image
   step_preserves was image ready copied left =
       commit_preserves law m m' owners was ready step_geometry (step_can was ready copied) image (subst (λ (g : Geometry). CommitLeaves g was (copy_of g One was) m'.zones image) edit.geometry left)
 
   pub step_ready : (was image : List ℕ) (ready : IsReady m owners was)
-      → IsCopied m.geometry.sector (place_sector m.geometry z (start + d + s)) (place_sector m.geometry z (start + d)) (p * m.geometry.bit_bytes / m.geometry.sector) was
+      → IsCopied m.geometry.sector (place_sector m.geometry s.zone (s.start + d + s.hole)) (place_sector m.geometry s.zone (s.start + d)) (p * m.geometry.bit_bytes / m.geometry.sector) was
       → CommitEnds n.geometry was m'.zones image → IsReady m' owners image
   step_ready was image ready copied ends =
       commit_ready law m m' owners was ready step_geometry (step_can was ready copied) image (subst (λ (g : Geometry). CommitEnds g was m'.zones image) edit.geometry ends)

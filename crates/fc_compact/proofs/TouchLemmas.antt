@@ -7,7 +7,7 @@ use Rattle.fc_zone.specs.declared.RunKind.TheVariants as kinds
 use Rattle.fc_newmap.specs.Map.{ZoneRun, has_id, is_hole}
 use Rattle.fc_newmap.specs.RunsLaw.{placed}
 use Rattle.fc_image.specs.effects.Moves.{before_holes, with_holes_joined}
-use Rattle.fc_compact.specs.Joining.{are_holes, hole_or_next, joined, passed}
+use Rattle.fc_compact.specs.Joins.{are_holes, hole_or_next, joined, passed}
 use Rattle.fc_record.proofs.KindLemmas.{and_first as first_hole, and_second as second_hole}
 use Rattle.fc_compact.proofs.HoldLemmas.{hole_kind}
 

@@ -1,10 +1,10 @@
 pub mod Ready
-pub mod Compacting
-pub mod Copying
-pub mod Sliding
-pub mod Joining
+pub mod Compaction
+pub mod Copy
+pub mod Slides
+pub mod Joins
 pub mod Steps
 pub mod Laws
-pub mod Settling
-pub mod Passing
-pub mod Gathering
+pub mod Settlement
+pub mod Candidates
+pub mod Rounds

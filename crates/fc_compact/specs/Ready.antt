@@ -1,12 +1,14 @@
 -- What compaction needs of an image, and has again after each of its steps.
-use Rattle.std.specs.Prelude.{◌≡◌, ℕ, ◌==◌, ◌||◌, ◌&&◌, nat_le, Bool, List}
+use Rattle.std.specs.Prelude.{◌≡◌, ◌≤◌, ℕ, ◌+◌, ◌*◌, ◌==◌, ◌||◌, ◌&&◌, nat_le, Bool, List, IsTrue, IsFalse}
+use Rattle.std.specs.Option.{ForSome}
+use Rattle.fc_device.specs.declared.disk.Disk.{Ghosts}
 use Rattle.fc_record.specs.declared.DiscRecord.{DiscRecord}
 use Rattle.fc_record.specs.declared.Kind.{Kind}
 use Rattle.fc_newmap.specs.Map.{Map}
 use Rattle.fc_alloc.specs.declared.owner.Owner.{Owner}
 use Rattle.fc_alloc.specs.Owners.{is_id_owned}
 use Rattle.fc_copies.specs.Copies.{HoldsCopies}
-use Rattle.fc_image.specs.Layout.{Layout}
+use Rattle.fc_image.specs.Layout.{Layout, disc_sectors}
 use Rattle.fc_image.specs.Objects.{objects_of, is_owned}
 use Rattle.fc_image.specs.Walk.{Object}
 use Rattle.fc_image.specs.Opening.{Opened}
@@ -30,3 +32,13 @@ pub record IsReady (m : Map) (owners : List Owner) (image : List ℕ) : Type 0 w
   pub layout : view.layout ≡ Layout.New m
   pub copies : HoldsCopies m.geometry m.zones image
   pub owned : AreOwnersOf owners (objects_of view.listings)
+
+-- The map stands for the disk, with these owners: the disk is attached, has the geometry's sectors and holds the disc and both copies
+-- of the map, nothing is pending, and its bytes, if it tells them, are an image that is ready.
+pub record Stands {D : Type 0} (d : Ghosts D) (disk : D) (m : Map) (owners : List Owner) : Type 0 where
+  pub attached : IsTrue (d.attached disk)
+  pub settled : IsFalse (d.pending disk)
+  pub size : d.sector_size disk ≡ m.geometry.sector
+  pub on_disk : m.geometry.map_sector + 2 * m.geometry.zones ≤ d.sectors disk
+  pub disc : disc_sectors (Layout.New m) ≤ d.sectors disk
+  pub ready : ForSome (d.bytes disk) (IsReady m owners)

@@ -5,26 +5,26 @@
 //! the map that makes the copy current is committed.
 #![tactic(auto)]
 
-mod compacting;
-mod copying;
-mod finding;
-mod gathering;
-mod joinable;
-mod joining;
-mod releasing;
-mod seen;
-mod settling;
-mod shifting;
-mod sliding;
-mod touching;
+mod candidates;
+mod compaction;
+mod copy;
+mod counts;
+mod holes;
+mod joins;
+mod lookup;
+mod release;
+mod rounds;
+mod settlement;
+mod shift;
+mod slides;
 
 ghost use Rattle.fc_compact.specs.Laws.{Laws};
-ghost use Rattle.fc_compact.specs.Compacting.{ByOwnersLaw};
+ghost use Rattle.fc_compact.specs.Compaction.{ByOwnersLaw};
 
-pub use compacting::compact;
-pub use joining::join;
-pub use settling::settle_all;
-pub use sliding::slide;
+pub use compaction::compact;
+pub use joins::join;
+pub use settlement::settle_all;
+pub use slides::slide;
 
 // What fc_image and fc_newmap prove.
 fn laws()

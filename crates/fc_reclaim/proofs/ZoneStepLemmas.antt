@@ -28,7 +28,7 @@ use Rattle.fc_copies.specs.Copies.{CommitEnds, CommitLeaves, HoldsCopies, copy_o
 use Rattle.fc_image.specs.safe.Reclaim.{all_absorbed}
 use Rattle.fc_changes.proofs.CommittedLemmas.{kept_links, record_same, steady_zone}
 use Rattle.fc_plan.specs.Giving.{as_spaces, spaces_in}
-use Rattle.fc_compact.specs.Compacting.{ZoneStays}
+use Rattle.fc_compact.specs.Compaction.{ZoneStays}
 use Rattle.fc_reclaim.specs.Kept.{IsReadyBy, KeepsOwned}
 use Rattle.fc_reclaim.specs.Lost.{goes_back, is_used_run}
 use Rattle.fc_reclaim.specs.Map.{IsReclaimed, IsReclaimedAt, IsReclaimedBelow, bits_below}

@@ -4,7 +4,7 @@ use Rattle.fc_newmap.specs.Map.{Map, bits_in, runs_in, runs_of}
 use Rattle.std.specs.List.{range_with_len}
 use Rattle.fc_newmap.specs.NewMap.{IsNewMap}
 use Rattle.fc_alloc.specs.declared.owner.Owner.{Owner}
-use Rattle.fc_compact.specs.Compacting.{ZoneStays}
+use Rattle.fc_compact.specs.Compaction.{ZoneStays}
 use Rattle.fc_reclaim.specs.Lost.{goes_back}
 use Rattle.fc_reclaim.specs.Zone.{IsReclaimedIn}
 

@@ -36,7 +36,7 @@ use Rattle.fc_image.specs.effects.Effect.{Compacts}
 use Rattle.fc_image.specs.effects.Settled.{CompactedLayout, IdleStay, ObjectsStay}
 use Rattle.fc_image.specs.effects.Steady.{MapOutside, OutsideSteady, SameSectors, ZoneSteady, expected_zone, idle_sectors, is_idle}
 use Rattle.fc_compact.specs.Ready.{AreOwnersOf, IsReady}
-use Rattle.fc_compact.specs.Compacting.{ByOwnersLaw, ChangesLoose, is_loose, loose_sectors}
+use Rattle.fc_compact.specs.Compaction.{ByOwnersLaw, ChangesLoose, is_loose, loose_sectors}
 use Rattle.fc_volume.specs.Compacting.{IsCompacted}
 use Rattle.fc_volume.proofs.AgreeLemmas.{movable_same}
 use Rattle.fc_laws.proofs.lemmas.takeover.KindLemmas.{old_never}

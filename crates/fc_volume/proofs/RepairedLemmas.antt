@@ -22,7 +22,7 @@ use Rattle.fc_image.specs.Moves.{CanMerge, CommitLaw, KeepsObjects, KeepsObjects
 use Rattle.fc_image.specs.Stays.{OpensAs}
 use Rattle.fc_image.proofs.MoveLemmas.{open_by}
 use Rattle.fc_compact.specs.Ready.{IsReady}
-use Rattle.fc_compact.specs.Compacting.{ChangesLoose}
+use Rattle.fc_compact.specs.Compaction.{ChangesLoose}
 use Rattle.fc_volume.specs.Compacting.{CanCompact, KeepsDisc, KeepsMap}
 use Rattle.fc_volume.specs.Volume.{CountsAs, HasCopies}
 use Rattle.fc_volume.specs.declared.copies.Copies.{Copies}

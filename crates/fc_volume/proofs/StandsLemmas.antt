@@ -18,7 +18,7 @@ use Rattle.fc_image.specs.Stays.{HasEqualCopies, IsNewLayout, OpensAs}
 use Rattle.fc_image.proofs.MoveLemmas.{open_by}
 use Rattle.fc_image.specs.effects.Effect.{Compacts}
 use Rattle.fc_compact.specs.Ready.{AreOwnersOf}
-use Rattle.fc_compact.specs.Compacting.{ByOwnersLaw, ChangesLoose}
+use Rattle.fc_compact.specs.Compaction.{ByOwnersLaw, ChangesLoose}
 use Rattle.fc_space.specs.Space.{layout_of}
 use Rattle.fc_tree.specs.declared.node.Node.{Node}
 use Rattle.fc_tree.specs.Agree.{Agree}

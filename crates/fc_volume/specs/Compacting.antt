@@ -16,7 +16,7 @@ use Rattle.fc_image.specs.Moves.{KeepsObjects}
 use Rattle.fc_image.specs.Stays.{IsNewKind, OpensAs}
 use Rattle.fc_image.specs.effects.Effect.{Compacts}
 use Rattle.fc_compact.specs.Ready.{AreOwnersOf, IsReady, is_movable_by}
-use Rattle.fc_compact.specs.Compacting.{ChangesLoose, CompactedBy, IsSettledBy, ZoneStays}
+use Rattle.fc_compact.specs.Compaction.{ChangesLoose, CompactedBy, IsSettledBy, ZoneStays}
 use Rattle.fc_tree.specs.Parts.{Parts, ArePartsOf}
 use Rattle.fc_volume.specs.declared.copies.Copies.{Copies}
 use Rattle.fc_volume.specs.declared.lines.CommandError.{CommandError}

@@ -8,7 +8,7 @@ ghost use Rattle.fc_copies.specs.Copies.{HoldsCopies};
 ghost use Rattle.fc_image.specs.Layout.{Layout, dir_form, disc_sectors, sector_bytes};
 ghost use Rattle.fc_image.specs.Moves.{KeepsObjects};
 ghost use Rattle.fc_image.specs.Stays.{IsNewLayout};
-ghost use Rattle.fc_compact.specs.Compacting.{ChangesLoose};
+ghost use Rattle.fc_compact.specs.Compaction.{ChangesLoose};
 ghost use Rattle.fc_space.specs.Space.{layout_of};
 ghost use Rattle.fc_volume.specs.Compacting.{CanCompact, CompactsParts, IsDone, KeepsDisc, KeepsMap, UnlessFault};
 ghost use Rattle.fc_volume.specs.Volume.{HasCopies, HoldsMap, StandsFor, parts_of};
