@@ -12,7 +12,7 @@ use Rattle.fc_newmap.specs.Map.{Map}
 use Rattle.fc_newmap.specs.NewMap.{IsNewMap}
 use Rattle.fc_alloc.specs.declared.owner.Owner.{Owner}
 use Rattle.fc_compact.specs.Laws.{Laws}
-use Rattle.fc_compact.specs.Ready.{IsReady, Stands}
+use Rattle.fc_compact.specs.Ready.{HoldsDisc, IsReady, Stands}
 use Rattle.fc_compact.specs.Steps.{Leads, MoveKeeps, Packs, Preserves}
 use Rattle.fc_compact.proofs.PacksLemmas.{packs_none, packs_then}
 use Rattle.fc_compact.proofs.PreservesLemmas.{preserves_from, preserves_same, preserves_then}
@@ -47,19 +47,26 @@ cause_then d old mid new r le cause = record {
 pub still_zone : (m m' : Map) → m'.geometry ≡ m.geometry → (z : ℕ) → z < m.geometry.zones → z < m'.geometry.zones
 still_zone m m' geometry z low = subst (λ (g : Geometry). z < g.zones) (sym geometry) low
 
+-- what the next call asks
+pub disc_then : {D : Type 0} (d : Ghosts D) (old new : D) (m m' : Map) → SameForm d old new → m'.geometry ≡ m.geometry → HoldsDisc d old m → HoldsDisc d new m'
+disc_then d old new m m' form geometry was =
+    let s = form.sectors_stay in
+    let room = was.room in
+    record {
+      attached = form.attached_stays ∙ was.attached;
+      size = form.size_stays ∙ was.size ∙ ap (λ (g : Geometry). g.sector) (sym geometry);
+      room = subst (λ (g : Geometry). g.disc_bits * g.bit_bytes / g.sector ≤ d.sectors new) (sym geometry) (omega (arith, room, s));
+    }
+
 module _ {D : Type 0} {d : Ghosts D} (owners : List Owner) (old new : D) (m m' : Map) (was : Stands d old m owners) where
-  -- what the next call asks
   pub stands_then : SameForm d old new → m'.geometry ≡ m.geometry → IsFalse (d.pending new) → ForSome (d.bytes new) (IsReady m' owners) → Stands d new m' owners
   stands_then form geometry quiet ready =
       let s = form.sectors_stay in
-      let on_disk = was.on_disk in
-      let disc = was.disc in
+      let copies = was.copies in
       record {
-        attached = form.attached_stays ∙ was.attached;
+        disc = disc_then d old new m m' form geometry was.disc;
+        copies = subst (λ (g : Geometry). g.map_sector + 2 * g.zones ≤ d.sectors new) (sym geometry) (omega (arith, copies, s));
         settled = quiet;
-        size = form.size_stays ∙ was.size ∙ ap (λ (g : Geometry). g.sector) (sym geometry);
-        on_disk = subst (λ (g : Geometry). g.map_sector + 2 * g.zones ≤ d.sectors new) (sym geometry) (omega (arith, on_disk, s));
-        disc = subst (λ (g : Geometry). g.disc_bits * g.bit_bytes / g.sector ≤ d.sectors new) (sym geometry) (omega (arith, disc, s));
         ready = ready;
       }
 

@@ -33,12 +33,16 @@ pub record IsReady (m : Map) (owners : List Owner) (image : List ℕ) : Type 0 w
   pub copies : HoldsCopies m.geometry m.zones image
   pub owned : AreOwnersOf owners (objects_of view.listings)
 
--- The map stands for the disk, with these owners: the disk is attached, has the geometry's sectors and holds the disc and both copies
--- of the map, nothing is pending, and its bytes, if it tells them, are an image that is ready.
-pub record Stands {D : Type 0} (d : Ghosts D) (disk : D) (m : Map) (owners : List Owner) : Type 0 where
+-- The disk is attached, has sectors of the map's size, and holds the disc.
+pub record HoldsDisc {D : Type 0} (d : Ghosts D) (disk : D) (m : Map) : Type 0 where
   pub attached : IsTrue (d.attached disk)
-  pub settled : IsFalse (d.pending disk)
   pub size : d.sector_size disk ≡ m.geometry.sector
-  pub on_disk : m.geometry.map_sector + 2 * m.geometry.zones ≤ d.sectors disk
-  pub disc : disc_sectors (Layout.New m) ≤ d.sectors disk
+  pub room : disc_sectors (Layout.New m) ≤ d.sectors disk
+
+-- The map stands for the disk, with these owners: the disk holds the disc and both copies of the map, nothing is pending, and its
+-- bytes, if it tells them, are an image that is ready.
+pub record Stands {D : Type 0} (d : Ghosts D) (disk : D) (m : Map) (owners : List Owner) : Type 0 where
+  pub disc : HoldsDisc d disk m
+  pub copies : m.geometry.map_sector + 2 * m.geometry.zones ≤ d.sectors disk
+  pub settled : IsFalse (d.pending disk)
   pub ready : ForSome (d.bytes disk) (IsReady m owners)

@@ -6,7 +6,7 @@ ghost use Rattle.fc_zone.specs.declared.Run.{Run};
 ghost use Rattle.fc_newmap.specs.Map.{Map, first_sector, sector_count};
 ghost use Rattle.fc_image.specs.Layout.{Layout, disc_sectors};
 ghost use Rattle.fc_compact.specs.Copy.{ChangesHoles, IsCopied, TearsRow};
-ghost use Rattle.fc_compact.specs.Ready.{Stands, is_movable_by};
+ghost use Rattle.fc_compact.specs.Ready.{HoldsDisc, Stands, is_movable_by};
 ghost use Rattle.fc_compact.specs.Slides.{HasRuns};
 ghost use Rattle.fc_compact.specs.Settlement.{one_if};
 ghost use Rattle.fc_compact.specs.Steps.{MoveKeeps, Packs};
@@ -78,9 +78,7 @@ fn draw<D: Disk>(
     run: Run,
     id: u32,
 ) -> Result<(), DiskFault>
-    requires attached { IsTrue (D.attached disk.old) }
-    requires size { D.sector_size disk.old ≡ map.old.geometry.sector }
-    requires disc { disc_sectors (Layout.New map.old) ≤ D.sectors disk.old }
+    requires disc { HoldsDisc D.Disk disk.old map.old }
     requires zone { z < map.old.geometry.zones }
     requires runs { CanDraw map.old z hole run id }
     ensures tears { TearsRow D.Disk disk.old disk.new (first_sector map.old.geometry (z, hole)) (sector_count map.old.geometry (z, run)) }
@@ -124,9 +122,7 @@ fn gather_pair<D: Disk>(
     next: Run,
     fresh: u32,
 ) -> Result<Front, DiskFault>
-    requires attached { IsTrue (D.attached disk.old) }
-    requires size { D.sector_size disk.old ≡ map.old.geometry.sector }
-    requires disc { disc_sectors (Layout.New map.old) ≤ D.sectors disk.old }
+    requires disc { HoldsDisc D.Disk disk.old map.old }
     requires zone { z < map.old.geometry.zones }
     requires pair { (front rest : List Run) × HasRuns map.old z (front ++ run ∷ next ∷ rest) }
     requires fresh { fresh ≤ run.len }
@@ -168,9 +164,7 @@ fn gather_runs<D: Disk>(
     owners: &Owners,
     z: u16,
 ) -> Result<bool, DiskFault>
-    requires attached { IsTrue (D.attached disk.old) }
-    requires size { D.sector_size disk.old ≡ map.old.geometry.sector }
-    requires disc { disc_sectors (Layout.New map.old) ≤ D.sectors disk.old }
+    requires disc { HoldsDisc D.Disk disk.old map.old }
     requires zone { z < map.old.geometry.zones }
     ensures kept { (m : Map) → Spares m map.old owners.now z → StaysInHoles D.Disk disk.old disk.new m }
     ensures carrying { (m : Map) → Spares m map.old owners.now z → ForSome (D.bytes disk.old) (Carrying m map.old owners.now)
@@ -206,9 +200,7 @@ fn gather_zone<D: Disk>(
     owners: &Owners,
     z: u16,
 ) -> Result<bool, DiskFault>
-    requires attached { IsTrue (D.attached disk.old) }
-    requires size { D.sector_size disk.old ≡ map.old.geometry.sector }
-    requires disc { disc_sectors (Layout.New map.old) ≤ D.sectors disk.old }
+    requires disc { HoldsDisc D.Disk disk.old map.old }
     requires zone { z < map.old.geometry.zones }
     ensures kept { (m : Map) → Spares m map.old owners.now z → StaysInHoles D.Disk disk.old disk.new m }
     ensures carrying { (m : Map) → Spares m map.old owners.now z → ForSome (D.bytes disk.old) (Carrying m map.old owners.now)
@@ -239,10 +231,8 @@ fn gather_zones<D: Disk>(
     end: u16,
     changed: &mut ArrayVec<u16, 9>,
 ) -> Result<u16, DiskFault>
-    requires attached { IsTrue (D.attached disk.old) }
+    requires disc { HoldsDisc D.Disk disk.old map.old }
     requires settled { IsFalse (D.pending disk.old) }
-    requires size { D.sector_size disk.old ≡ map.old.geometry.sector }
-    requires disc { disc_sectors (Layout.New map.old) ≤ D.sectors disk.old }
     requires some { from < end }
     requires end { end ≤ map.old.geometry.zones }
     requires none { changed.old.items ≡ [] }

@@ -60,7 +60,7 @@ copy_row-requires-clause-on_disk g c =
     let within = within_id m is c.args.id was.passed r.0 p cut in
     let high = disc_high m is in
     let sectors = was.form.sectors_stay in
-    omega (arith, from_is, count_is, on_disc, c.requires.stands.disc, sectors)
+    omega (arith, from_is, count_is, on_disc, c.requires.stands.disc.room, sectors)
 
 pub copy_row-requires-clause-to_on_disk : goal.copy_row-requires-clause-to_on_disk
 copy_row-requires-clause-to_on_disk g c =
@@ -76,7 +76,7 @@ copy_row-requires-clause-to_on_disk g c =
     let within = within_id m is c.args.id was.passed r.0 p cut in
     let high = disc_high m is in
     let sectors = was.form.sectors_stay in
-    omega (arith, count_is, was.place, within, c.requires.to_on_disc, c.requires.stands.disc, sectors)
+    omega (arith, count_is, was.place, within, c.requires.to_on_disc, c.requires.stands.disc.room, sectors)
 
 pub copy_row-requires-clause-fits : goal.copy_row-requires-clause-fits
 copy_row-requires-clause-fits g c =
@@ -125,7 +125,7 @@ returns-in_err-copy_row-clause-keeps g c =
     let law = laws g.met.D.Disk in
     let torn = kept_torn m c.loop-z.at c.extent_of-from.result.sectors
     (λ i lt. subst (λ (k : ℕ). is_among (hole_sectors (Layout.New m)) (k + i) ≡ true) (sym was.place) (row_in_hole m is c.args.id was.passed r.0 p cut c.args.to c.requires.hole i (omega (arith, lt, count_is))))
-    law was.form (was.form.size_stays ∙ c.requires.stands.size) (omega (arith, count_is, was.place, within, c.requires.to_on_disc, c.requires.stands.disc)) was.kept c.copy_row.ensures.tears in
+    law was.form (was.form.size_stays ∙ c.requires.stands.disc.size) (omega (arith, count_is, was.place, within, c.requires.to_on_disc, c.requires.stands.disc.room)) was.kept c.copy_row.ensures.tears in
     kept_err c.args.owners.now c.args.disk.now c.copy_row.new.disk m m _ c.from_residual.result c.from_residual.ensures.0
     (kept c.args.owners.now c.args.disk.now c.copy_row.new.disk m m c.requires.stands _ (kept_preserves law c.laws.ensures m c.args.owners.now c.requires.stands.ready torn) tt tt refl
     (form_then g.D.Disk was.form c.copy_row.ensures.form) (cause_then g.D.Disk c.args.disk.now c.loop-z.disk c.copy_row.new.disk _ was.faults c.in_err-copy_row.ensures.cause))
@@ -145,7 +145,7 @@ returns-in_err-copy_row-clause-still_ready g c =
     let law = laws g.met.D.Disk in
     let torn = kept_torn m c.loop-z.at c.extent_of-from.result.sectors
     (λ i lt. subst (λ (k : ℕ). is_among (hole_sectors (Layout.New m)) (k + i) ≡ true) (sym was.place) (row_in_hole m is c.args.id was.passed r.0 p cut c.args.to c.requires.hole i (omega (arith, lt, count_is))))
-    law was.form (was.form.size_stays ∙ c.requires.stands.size) (omega (arith, count_is, was.place, within, c.requires.to_on_disc, c.requires.stands.disc)) was.kept c.copy_row.ensures.tears in
+    law was.form (was.form.size_stays ∙ c.requires.stands.disc.size) (omega (arith, count_is, was.place, within, c.requires.to_on_disc, c.requires.stands.disc.room)) was.kept c.copy_row.ensures.tears in
     kept_ready law c.laws.ensures m c.args.owners.now c.requires.stands.ready torn
 
 pub returns-in_err-sync-clause-keeps : goal.returns-in_err-sync-clause-keeps
@@ -215,7 +215,7 @@ loop-z-preserved g c =
     let law = laws g.met.D.Disk in
     let torn = kept_torn m c.loop-z.at c.extent_of-from.result.sectors
     (λ i lt. subst (λ (k : ℕ). is_among (hole_sectors (Layout.New m)) (k + i) ≡ true) (sym was.place) (row_in_hole m is c.args.id was.passed r.0 p cut c.args.to c.requires.hole i (omega (arith, lt, count_is))))
-    law was.form (was.form.size_stays ∙ c.requires.stands.size) (omega (arith, count_is, was.place, within, c.requires.to_on_disc, c.requires.stands.disc)) was.kept c.copy_row.ensures.tears in
+    law was.form (was.form.size_stays ∙ c.requires.stands.disc.size) (omega (arith, count_is, was.place, within, c.requires.to_on_disc, c.requires.stands.disc.room)) was.kept c.copy_row.ensures.tears in
     let size = m.geometry.sector in
     let count = sector_count m.geometry p in
     let copied_here : (image : List ℕ) → g.D.Disk.bytes c.copy_row.new.disk ≡ Some image → IsCopied size c.extent_of-from.result.first c.loop-z.at c.extent_of-from.result.sectors image =
@@ -230,7 +230,7 @@ loop-z-preserved g c =
       place = omega (arith, was.place, count_is, length_more m is c.args.id was.passed r.0 p cut);
       put = λ image told.
           (let before = torn_led c.copy_row.ensures.tears image told in
-          let now : ChangesRow size c.loop-z.at c.extent_of-from.result.sectors before.0 image = subst (λ (n : ℕ). ChangesRow n c.loop-z.at c.extent_of-from.result.sectors before.0 image) (was.form.size_stays ∙ c.requires.stands.size) before.2 in
+          let now : ChangesRow size c.loop-z.at c.extent_of-from.result.sectors before.0 image = subst (λ (n : ℕ). ChangesRow n c.loop-z.at c.extent_of-from.result.sectors before.0 image) (was.form.size_stays ∙ c.requires.stands.disc.size) before.2 in
           let row : ChangesRow size (c.args.to + length (sectors_of m.geometry was.passed)) count before.0 image =
           subst (λ (k : ℕ). ChangesRow size k count before.0 image) was.place (subst (λ (k : ℕ). ChangesRow size c.loop-z.at k before.0 image) count_is now) in
           let copied : IsCopied size (first_sector m.geometry p) (c.args.to + length (sectors_of m.geometry was.passed)) count image =

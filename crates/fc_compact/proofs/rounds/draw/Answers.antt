@@ -86,7 +86,7 @@ copy_row-requires-clause-on_disk g c =
     let to_is : c.extent_of-to.result.first ≡ place_sector m.geometry z (hole.start + 0) =
     ap (λ e. e.first) c.extent_of-to.ensures ∙ ap (λ (h : Geometry). first_sector h (z, hole)) geo ∙ ap (place_sector m.geometry z) (let e : hole.start ≡ hole.start + 0 = omega arith in e) in
     let count_is : c.extent_of-from.result.sectors ≡ run.len * m.geometry.bit_bytes / m.geometry.sector = ap (λ e. e.sectors) c.extent_of-from.ensures ∙ ap (λ (h : Geometry). sector_count h (z, run)) geo in
-    omega (arith, from_is, count_is, piece_on_disc m is z low hole.start id 0 hole.len run.len cs.front cs.rest zone some run.len (omega arith) cs.room whole, c.requires.disc)
+    omega (arith, from_is, count_is, piece_on_disc m is z low hole.start id 0 hole.len run.len cs.front cs.rest zone some run.len (omega arith) cs.room whole, c.requires.disc.room)
 
 pub copy_row-requires-clause-to_on_disk : goal.copy_row-requires-clause-to_on_disk
 copy_row-requires-clause-to_on_disk g c =
@@ -108,7 +108,7 @@ copy_row-requires-clause-to_on_disk g c =
     let to_is : c.extent_of-to.result.first ≡ place_sector m.geometry z (hole.start + 0) =
     ap (λ e. e.first) c.extent_of-to.ensures ∙ ap (λ (h : Geometry). first_sector h (z, hole)) geo ∙ ap (place_sector m.geometry z) (let e : hole.start ≡ hole.start + 0 = omega arith in e) in
     let count_is : c.extent_of-from.result.sectors ≡ run.len * m.geometry.bit_bytes / m.geometry.sector = ap (λ e. e.sectors) c.extent_of-from.ensures ∙ ap (λ (h : Geometry). sector_count h (z, run)) geo in
-    omega (arith, from_is, to_is, count_is, piece_apart m is z low hole.start id 0 hole.len run.len cs.front cs.rest zone some run.len (omega arith) cs.room whole, piece_on_disc m is z low hole.start id 0 hole.len run.len cs.front cs.rest zone some run.len (omega arith) cs.room whole, c.requires.disc)
+    omega (arith, from_is, to_is, count_is, piece_apart m is z low hole.start id 0 hole.len run.len cs.front cs.rest zone some run.len (omega arith) cs.room whole, piece_on_disc m is z low hole.start id 0 hole.len run.len cs.front cs.rest zone some run.len (omega arith) cs.room whole, c.requires.disc.room)
 
 pub copy_row-requires-clause-fits : goal.copy_row-requires-clause-fits
 copy_row-requires-clause-fits g c =

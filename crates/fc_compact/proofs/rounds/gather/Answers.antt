@@ -83,7 +83,7 @@ commit-requires-clause-attached g c =
     let geo = ok.gathers.packs.leads.geometry in
     let form = form_then g.D.Disk c.gather_zones.ensures.form c.sync.ensures.form in
     let kept = keeps_same law ok.kept c.sync.ensures.stops c.sync.ensures.bytes in
-    form.attached_stays ∙ c.requires.stands.attached
+    form.attached_stays ∙ c.requires.stands.disc.attached
 
 pub commit-requires-clause-size : goal.commit-requires-clause-size
 commit-requires-clause-size g c =
@@ -96,7 +96,7 @@ commit-requires-clause-size g c =
     let geo = ok.gathers.packs.leads.geometry in
     let form = form_then g.D.Disk c.gather_zones.ensures.form c.sync.ensures.form in
     let kept = keeps_same law ok.kept c.sync.ensures.stops c.sync.ensures.bytes in
-    form.size_stays ∙ c.requires.stands.size ∙ ap (λ (h : Geometry). h.sector) (sym geo)
+    form.size_stays ∙ c.requires.stands.disc.size ∙ ap (λ (h : Geometry). h.sector) (sym geo)
 
 pub commit-requires-clause-on_disk : goal.commit-requires-clause-on_disk
 commit-requires-clause-on_disk g c =
@@ -110,7 +110,7 @@ commit-requires-clause-on_disk g c =
     let form = form_then g.D.Disk c.gather_zones.ensures.form c.sync.ensures.form in
     let kept = keeps_same law ok.kept c.sync.ensures.stops c.sync.ensures.bytes in
     let sectors = form.sectors_stay in
-    subst (λ (h : Geometry). h.map_sector + 2 * h.zones ≤ g.D.Disk.sectors c.sync.new.self) (sym geo) (omega (arith, c.requires.stands.on_disk, sectors))
+    subst (λ (h : Geometry). h.map_sector + 2 * h.zones ≤ g.D.Disk.sectors c.sync.new.self) (sym geo) (omega (arith, c.requires.stands.copies, sectors))
 
 pub commit-requires-clause-rising : goal.commit-requires-clause-rising
 commit-requires-clause-rising g c =

@@ -8,6 +8,7 @@ use Rattle.fc_newmap.proofs.ComposeLemmas.{zone_cut}
 use Rattle.fc_compact.specs.Copy.{ChangesRow}
 use Rattle.fc_compact.specs.Slides.{HasRuns}
 use Rattle.fc_compact.proofs.GatherLemmas.{FrontIn, front_fits, front_kept, front_more, gathers_none, more_carrying, one_more, start_front, step_ends}
+use Rattle.fc_compact.proofs.GoneLemmas.{disc_then}
 use Rattle.fc_compact.proofs.HoldLemmas.{run_short, run_is_long, some_min}
 use Rattle.fc_compact.proofs.ReleaseLemmas.{first_of}
 use Rattle.fc_compact.proofs.RowLemmas.{told_still, torn_led}
@@ -52,19 +53,8 @@ next_in-requires-clause-run g c =
     let low = subst (λ (h : Geometry). c.args.z < h.zones) (sym was.gathers.edit.geometry) c.requires.zone in
     (was.front, (was.rest, zone_cut c.loop-next.map c.args.z (was.front ++ c.loop-next.run ∷ was.rest) was.gathers.edit.map low was.cut))
 
-pub gather_pair-requires-clause-attached : goal.gather_pair-requires-clause-attached
-gather_pair-requires-clause-attached g c = c.loop-next.invariant.form.attached_stays ∙ c.requires.attached
-
-pub gather_pair-requires-clause-size : goal.gather_pair-requires-clause-size
-gather_pair-requires-clause-size g c =
-    let was = c.loop-next.invariant in
-    was.form.size_stays ∙ c.requires.size ∙ ap (λ (h : Geometry). h.sector) (sym was.gathers.edit.geometry)
-
 pub gather_pair-requires-clause-disc : goal.gather_pair-requires-clause-disc
-gather_pair-requires-clause-disc g c =
-    let was = c.loop-next.invariant in
-    let sectors = was.form.sectors_stay in
-    subst (λ (h : Geometry). h.disc_bits * h.bit_bytes / h.sector ≤ g.D.Disk.sectors c.loop-next.disk) (sym was.gathers.edit.geometry) (omega (arith, c.requires.disc, sectors))
+gather_pair-requires-clause-disc g c = let was = c.loop-next.invariant in disc_then g.D.Disk c.args.disk.now c.loop-next.disk c.args.map.now c.loop-next.map was.form was.gathers.edit.geometry c.requires.disc
 
 pub gather_pair-requires-clause-zone : goal.gather_pair-requires-clause-zone
 gather_pair-requires-clause-zone g c = subst (λ (h : Geometry). c.args.z < h.zones) (sym c.loop-next.invariant.gathers.edit.geometry) c.requires.zone
@@ -83,7 +73,7 @@ pub returns-in_err-front-clause-kept : goal.returns-in_err-front-clause-kept
 returns-in_err-front-clause-kept g c = λ n spares.
     let was = c.loop-next.invariant in
     front_kept (laws g.met.D.Disk) n c.args.map.now c.loop-next.map c.args.owners.now c.args.z spares was.gathers.edit.map was.gathers.edit.geometry c.requires.zone was.front was.rest c.loop-next.run was.cut
-    c.loop-next.fresh was.few (was.in_holes n spares) was.form c.requires.size c.requires.disc c.gather_pair.ensures.tears (was.kept n spares)
+    c.loop-next.fresh was.few (was.in_holes n spares) was.form c.requires.disc.size c.requires.disc.room c.gather_pair.ensures.tears (was.kept n spares)
 
 pub loop-next-smaller : goal.loop-next-smaller
 loop-next-smaller g c =
@@ -121,13 +111,13 @@ loop-next-preserved g c =
       form = form_then g.D.Disk was.form c.gather_pair.ensures.form;
       kept = λ n spares.
           front_kept (laws g.met.D.Disk) n m w owners c.args.z spares edit.map edit.geometry c.requires.zone was.front was.rest c.loop-next.run was.cut
-          c.loop-next.fresh was.few (was.in_holes n spares) was.form c.requires.size c.requires.disc c.gather_pair.ensures.tears (was.kept n spares);
+          c.loop-next.fresh was.few (was.in_holes n spares) was.form c.requires.disc.size c.requires.disc.room c.gather_pair.ensures.tears (was.kept n spares);
       carrying = λ n spares first image told.
           (let before = torn_led c.gather_pair.ensures.tears image told in
           more_carrying c.laws.ensures n w c.gather_pair.new.map owners c.args.z spares.was edit.map (edit.geometry ∙ spares.geometry) (subst (λ (h : Geometry). c.args.z < h.zones) spares.geometry c.requires.zone)
           was.front ahead.0 c.loop-next.run next here c.loop-next.fresh was.few (was.in_holes n spares) c.in_ok-front.front ok.gathered (λ k stuck. was.gathers.fixed k stuck ∙ spares.fixed k stuck) before.0 image
           (subst (λ (k : ℕ). ChangesRow k (first_sector w.geometry (c.args.z, c.loop-next.run)) (sector_count w.geometry (c.args.z, fresh)) before.0 image)
-          (was.form.size_stays ∙ c.requires.size ∙ ap (λ (h : Geometry). h.sector) spares.geometry) before.2)
+          (was.form.size_stays ∙ c.requires.disc.size ∙ ap (λ (h : Geometry). h.sector) spares.geometry) before.2)
           (λ e. ok.copied e image told) (λ e. told_still g.D.Disk before.1 told (ok.still e)) (was.carrying n spares first before.0 before.1));
       gathers = step.gathers;
       still = λ e. (let both = neither c.loop-next.any c.in_ok-front.front.moved e in ok.still both.1 ∙ was.still both.0);

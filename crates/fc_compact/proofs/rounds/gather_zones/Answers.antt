@@ -6,6 +6,7 @@ use Rattle.fc_record.specs.declared.Geometry.{Geometry}
 use Rattle.fc_compact.specs.Rounds.{GathersZones}
 use Rattle.fc_compact.proofs.CarryLemmas.{carrying_none}
 use Rattle.fc_compact.proofs.DrawnLemmas.{zones_more, zones_none, zones_spare, zones_up_to}
+use Rattle.fc_compact.proofs.GoneLemmas.{disc_then}
 use Rattle.fc_compact.proofs.RowLemmas.{holes_none}
 use Rattle.fc_compact.proofs.rounds.gather_zones.Goals as goal
 
@@ -34,19 +35,8 @@ returns-then-is_full-clause-next g c =
     let high = was.high 0 0 (omega (arith, full)) in
     omega (arith, low, high)
 
-pub gather_zone-requires-clause-attached : goal.gather_zone-requires-clause-attached
-gather_zone-requires-clause-attached g c = c.loop-z.invariant.form.attached_stays ∙ c.requires.attached
-
-pub gather_zone-requires-clause-size : goal.gather_zone-requires-clause-size
-gather_zone-requires-clause-size g c =
-    let was = c.loop-z.invariant in
-    was.form.size_stays ∙ c.requires.size ∙ ap (λ (h : Geometry). h.sector) (sym was.gathers.packs.leads.geometry)
-
 pub gather_zone-requires-clause-disc : goal.gather_zone-requires-clause-disc
-gather_zone-requires-clause-disc g c =
-    let was = c.loop-z.invariant in
-    let sectors = was.form.sectors_stay in
-    subst (λ (h : Geometry). h.disc_bits * h.bit_bytes / h.sector ≤ g.D.Disk.sectors c.loop-z.disk) (sym was.gathers.packs.leads.geometry) (omega (arith, c.requires.disc, sectors))
+gather_zone-requires-clause-disc g c = let was = c.loop-z.invariant in disc_then g.D.Disk c.args.disk.now c.loop-z.disk c.args.map.now c.loop-z.map was.form was.gathers.packs.leads.geometry c.requires.disc
 
 pub gather_zone-requires-clause-zone : goal.gather_zone-requires-clause-zone
 gather_zone-requires-clause-zone g c =

@@ -36,14 +36,14 @@ copy_into-requires-clause-on_disk g c =
     let a = c.args in
     let first = ap (λ e. e.first) c.extent_at-from.ensures in
     let size = ap (λ e. e.sectors) c.extent_at-to.ensures in
-    omega (arith, first, size, c.requires.stands.disc, on_disc a.map.now c.is_map.ensures a.slide a.done a.n c.requires.shift c.requires.few c.requires.piece_whole)
+    omega (arith, first, size, c.requires.stands.disc.room, on_disc a.map.now c.is_map.ensures a.slide a.done a.n c.requires.shift c.requires.few c.requires.piece_whole)
 
 pub copy_into-requires-clause-to_on_disk : goal.copy_into-requires-clause-to_on_disk
 copy_into-requires-clause-to_on_disk g c =
     let a = c.args in
     let place = ap (λ e. e.first) c.extent_at-to.ensures in
     let size = ap (λ e. e.sectors) c.extent_at-to.ensures in
-    omega (arith, place, size, c.requires.stands.disc, on_disc a.map.now c.is_map.ensures a.slide a.done a.n c.requires.shift c.requires.few c.requires.piece_whole, apart a.map.now c.is_map.ensures a.slide a.done a.n c.requires.shift c.requires.few c.requires.piece_whole)
+    omega (arith, place, size, c.requires.stands.disc.room, on_disc a.map.now c.is_map.ensures a.slide a.done a.n c.requires.shift c.requires.few c.requires.piece_whole, apart a.map.now c.is_map.ensures a.slide a.done a.n c.requires.shift c.requires.few c.requires.piece_whole)
 
 pub copy_into-requires-clause-fits : goal.copy_into-requires-clause-fits
 copy_into-requires-clause-fits g c =

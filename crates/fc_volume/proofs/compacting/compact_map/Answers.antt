@@ -21,11 +21,9 @@ compact-compacted-requires g c =
     let disc = c.requires.disc in
     record {
       stands = record {
-        attached = form.attached_stays ∙ c.requires.attached;
+        disc = record { attached = form.attached_stays ∙ c.requires.attached; size = form.size_stays ∙ c.requires.size; room = omega (arith, disc, sectors) };
+        copies = omega (arith, on_disk, sectors);
         settled = c.in_ok-match_copies.ensures.durable;
-        size = form.size_stays ∙ c.requires.size;
-        on_disk = omega (arith, on_disk, sectors);
-        disc = omega (arith, disc, sectors);
         ready = λ image told.
             (let was = led (laws g.met.D.Disk) c.match_copies.ensures.keeps image told in
             let ready = c.requires.ready was.0 was.1 in
