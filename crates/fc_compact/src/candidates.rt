@@ -37,23 +37,24 @@ pub fn longest_again(map: &NewMap, best: Option<(u16, Run)>, changed: bool) -> O
     if changed { longest_hole(map) } else { best }
 }
 
-// Whether all runs of an identifier may have at most so many bits together, as far as the map's tally tells.
-fn may_fit(map: &NewMap, id: u32, most: u32) -> bool
-    ensures { result ≡ false → most < bits_in (id_runs map.now id) }
+// Whether an identifier has more than one run. Goes no further than to the second.
+fn has_two(map: &NewMap, id: u32) -> bool
+    ensures { result ≡ nat_lt 1 (length (id_runs map.now id)) }
 {
-    match map.bits_of(id) {
-        Some(bits) => bits <= u64::from(most),
-        None => true,
-    }
+    let mut cursor = RunCursor::start(map, id);
+    let Some(_) = cursor.next(map) else {
+        return false;
+    };
+    let Some(_) = cursor.next(map) else {
+        return false;
+    };
+    true
 }
 
-// Whether an identifier has more than one run, and all together have at most so many bits.
-pub fn has_several(map: &NewMap, id: u32, most: u32) -> bool
+// Whether an identifier has more than one run, and all together have at most so many bits, by a search for them.
+fn several_found(map: &NewMap, id: u32, most: u32) -> bool
     ensures { result ≡ (nat_lt 1 (length (id_runs map.now id)) && nat_le (bits_in (id_runs map.now id)) most) }
 {
-    if !may_fit(map, id, most) {
-        return false;
-    }
     let mut total = 0u64;
     let mut seen = false;
     let mut several = false;
@@ -67,6 +68,16 @@ pub fn has_several(map: &NewMap, id: u32, most: u32) -> bool
         }
     }
     several
+}
+
+// Whether an identifier has more than one run, and all together have at most so many bits.
+pub fn has_several(map: &NewMap, id: u32, most: u32) -> bool
+    ensures { result ≡ (nat_lt 1 (length (id_runs map.now id)) && nat_le (bits_in (id_runs map.now id)) most) }
+{
+    match map.bits_of(id) {
+        Some(bits) => bits <= u64::from(most) && has_two(map, id),
+        None => several_found(map, id, most),
+    }
 }
 
 fn count_if(count: u16, flag: bool) -> u16

@@ -1,7 +1,7 @@
 use Rattle.std.proofs.Common.{◌≡◌, ◌<◌, ◌≤◌, ◌++◌, List, length, true, false}
 use Rattle.fc_newmap.specs.Map.{ZoneRun, bits_in, id_runs}
 use Rattle.fc_newmap.specs.Walk.{StandsAt, bits_left}
-use Rattle.fc_compact.proofs.candidates.has_several.Given as goal
+use Rattle.fc_compact.proofs.candidates.several_found.Given as goal
 
 abbrev pub invariant-loop-run : goal.invariant-loop-run
 invariant-loop-run l = record {

@@ -3,12 +3,7 @@ use Rattle.std.specs.Prelude.{◌&&◌, nat_le, nat_lt}
 use Rattle.std.proofs.lemmas.Bool.{le-leb, le-ltb, lt-leb, lt-ltb}
 use Rattle.fc_newmap.specs.Map.{ZoneRun, bits_in, id_runs}
 use Rattle.fc_compact.proofs.PassLemmas.{bits_front, bits_more, long_more, not_second}
-use Rattle.fc_compact.proofs.candidates.has_several.Goals as goal
-
-pub returns-then-not-may_fit : goal.returns-then-not-may_fit
-returns-then-not-may_fit c =
-    let ids = id_runs c.args.map.now c.args.id in
-    not_second (nat_lt 1 (length ids)) (nat_le (bits_in ids) c.args.most) (lt-leb (bits_in ids) c.args.most (c.may_fit.ensures c.if-not-may_fit.true))
+use Rattle.fc_compact.proofs.candidates.several_found.Goals as goal
 
 pub returns-then-total-from : goal.returns-then-total-from
 returns-then-total-from c =
