@@ -1,4 +1,4 @@
-use Rattle.std.proofs.Common.{◌≡◌, ◌<◌, ◌≤◌, ◌*◌, ◌/◌, ◌∷◌, ◌++◌, [], ℕ, List, Bool, refl, ap, sym, subst, ◌∙◌, arith, append_assoc, true, false}
+use Rattle.std.proofs.Common.{◌≡◌, ◌<◌, ◌≤◌, ◌∷◌, ◌++◌, [], ℕ, List, Bool, refl, ap, sym, subst, ◌∙◌, arith, append_assoc, true, false}
 use Rattle.std.specs.Prelude.{◌||◌}
 use Rattle.fc_device.proofs.DiskLaws.{laws, form_same, form_then}
 use Rattle.fc_record.specs.declared.Geometry.{Geometry}
