@@ -29,7 +29,7 @@ use Rattle.fc_change.specs.declared.job.Wants.{Wants}
 use Rattle.fc_change.specs.Needs.{AreWants}
 use Rattle.fc_change.specs.Shortage.{shortage}
 use Rattle.fc_course.specs.declared.stages.Prepared.{Prepared}
-use Rattle.fc_course.specs.Holdings.{TellsVersion}
+use Rattle.fc_holdings.specs.Holdings.{TellsVersion}
 use Rattle.fc_course.specs.Jobs.{IsJobFor}
 use Rattle.fc_course.specs.Laws.{JobLaws}
 use Rattle.fc_course.specs.Promises.{ChangesParts, WritesPlacesOf}

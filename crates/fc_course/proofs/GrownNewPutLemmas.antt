@@ -37,7 +37,7 @@ use Rattle.fc_writing.specs.New.{CanWrite}
 use Rattle.fc_writing.specs.Ready.{CanPut, IsEnough, copied_place, from_of, place_of, source_place, to_of, written_place}
 use Rattle.fc_writing.specs.Steps.{CanStep, HasStepped}
 use Rattle.fc_course.specs.declared.stages.Prepared.{Prepared}
-use Rattle.fc_course.specs.Holdings.{TellsVersion}
+use Rattle.fc_holdings.specs.Holdings.{TellsVersion}
 use Rattle.fc_course.specs.Stages.{IsPreparedFor}
 use Rattle.fc_course.proofs.GrownAroundLemmas.{IsCutAround, cut_around}
 use Rattle.fc_course.proofs.GrownCanLemmas as can

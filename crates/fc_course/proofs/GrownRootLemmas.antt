@@ -24,7 +24,7 @@ use Rattle.fc_writing.specs.Steps.{CanRoot}
 use Rattle.fc_slack.proofs.LowLemmas.{or_true}
 use Rattle.fc_growths.proofs.RootLemmas.{no_difference, raw_of}
 use Rattle.fc_record.proofs.KindLemmas.{and_first, and_second}
-use Rattle.fc_course.specs.Holdings.{TellsVersion}
+use Rattle.fc_holdings.specs.Holdings.{TellsVersion}
 
 -- The map's own record has a version above 0, as it is on a disc with big directories.
 abbrev pub HasVersion : Map → Type 0

@@ -16,7 +16,7 @@ use Rattle.fc_tree.specs.Agree.{Agree}
 use Rattle.fc_change.specs.declared.job.FileWords.{FileWords}
 use Rattle.fc_change.specs.declared.job.Job.{Job}
 use Rattle.fc_change.specs.declared.job.Job.TheVariants as jobs
-use Rattle.fc_course.specs.Holdings.{TellsVersion}
+use Rattle.fc_holdings.specs.Holdings.{TellsVersion}
 use Rattle.fc_course.specs.Jobs.{HasLaws, IsJobFor, IsJudged, NoneGrows}
 use Rattle.fc_course.specs.Laws.{JobLaws}
 use Rattle.fc_course.specs.Run.{IsMapOf}

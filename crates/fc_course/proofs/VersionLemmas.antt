@@ -15,7 +15,7 @@ use Rattle.fc_writing.specs.declared.ready.Ready.{Ready}
 use Rattle.fc_writing.specs.declared.ready.RootPlace.{RootPlace}
 use Rattle.fc_writing.specs.Steps.{HasStepped, rooted_map}
 use Rattle.fc_writing.proofs.NewLemmas.{step_geometry}
-use Rattle.fc_course.specs.Holdings.{TellsVersion}
+use Rattle.fc_holdings.specs.Holdings.{TellsVersion}
 use Rattle.fc_course.specs.Run.{IsMapIn}
 use Rattle.fc_course.specs.Written.{IsGivenOn}
 use Rattle.fc_course.proofs.GrownMapLemmas.{fits, there}

@@ -5,6 +5,8 @@ use Rattle.fc_device.specs.declared.disk.Disk.{Ghosts}
 use Rattle.fc_record.specs.declared.Kind.{Kind}
 use Rattle.fc_record.specs.Kinds.{map_record}
 use Rattle.fc_newmap.specs.Map.{sector_of}
+use Rattle.fc_oldmap.specs.Holes.{AreHoles}
+use Rattle.fc_oldmap.specs.OldMap.{map_units}
 use Rattle.fc_image.specs.Layout.{Layout, disc_sectors, sector_bytes}
 use Rattle.fc_space.specs.Space.{layout_of}
 use Rattle.fc_tree.specs.Agree.{Agree}
@@ -14,8 +16,7 @@ use Rattle.fc_tree.specs.Stands.{StandsForImage}
 use Rattle.fc_writing.specs.declared.copies.Copies.{Copies}
 use Rattle.fc_writing.specs.declared.copies.Copies.TheVariants.{Equal}
 use Rattle.fc_writing.specs.Copies.{HasCopies}
-use Rattle.fc_change.specs.OldSpace.{LieBehind}
-use Rattle.fc_course.specs.declared.holdings.Holdings.{Holdings}
+use Rattle.fc_holdings.specs.declared.holdings.Holdings.{Holdings}
 
 abbrev pub parts_of : Holdings → Parts
 parts_of h = record { layout = layout_of h.places; nodes = nodes_of h.tree; owners = h.owners }
@@ -28,7 +29,7 @@ CopiesAre copies (Layout.Old space) image = copies ≡ Equal
 -- The map lies within so many sectors. The holes of an old map lie after it.
 abbrev pub HoldsMap : Layout → ℕ → Type 0
 HoldsMap (Layout.New m) sectors = m.geometry.map_sector + 2 * m.geometry.zones ≤ sectors
-HoldsMap (Layout.Old space) sectors = (2 ≤ sectors) × LieBehind space
+HoldsMap (Layout.Old space) sectors = (2 ≤ sectors) × AreHoles space.disc_units space.sector_units (map_units space.sector_units) space.holes
 
 -- The record in a new map tells the disc's version, by which its directories are big ones.
 abbrev pub TellsVersion : Layout → Type 0
