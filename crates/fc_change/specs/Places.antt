@@ -28,7 +28,7 @@ use Rattle.fc_writing.specs.declared.ready.MapStep.{MapStep}
 use Rattle.fc_writing.specs.declared.ready.MapStep.TheVariants as steps
 use Rattle.fc_change.specs.declared.spaces.Place.{Place}
 use Rattle.fc_change.specs.declared.spaces.Spaces.{Spaces}
-use Rattle.fc_change.specs.OldSpace.{CanFree, IsMapNow, LieBehind, map_given, map_taken}
+use Rattle.fc_change.specs.OldSpace.{CanFree, IsMapNow, LieBehind, map_given, map_taken, units_given}
 use Rattle.fc_change.specs.declared.placing.old.Taken.{Taken}
 use Rattle.fc_change.specs.GrownSpace.{IsGrown, freed, gone_at_once, kept_parts, place_of_plan, plans_of, root_of}
 use Rattle.fc_change.specs.Prepared.{HasPlace}
@@ -159,7 +159,7 @@ pub record IsTakenFor (space : OldMapContent) (w : Wants) (t : Taken) : Type 0 w
   pub none : w.bytes ≡ 0 → t.map ≡ None
   pub behind : (now : OldMapContent) → t.map ≡ Some now → LieBehind now
 
--- Where there is nothing to take, or nothing goes, nothing is done to the map.
+-- Where there is nothing to take, or nothing with space goes, nothing is done to the map.
 pub record ArePlacedOld (space : OldMapContent) (h : Parts) (w : Wants) (s : Spaces) : Type 0 where
   pub object : IsOldPlaced space w s.object
   pub copied : s.copied ≡ None
@@ -167,7 +167,7 @@ pub record ArePlacedOld (space : OldMapContent) (h : Parts) (w : Wants) (s : Spa
   pub take : IsOldStep space (map_taken space w.bytes) s.take
   pub give : IsOldStep (map_taken space w.bytes) (map_given space h.nodes w.goes (map_taken space w.bytes)) s.give
   pub takes_none : w.bytes ≡ 0 → s.take ≡ steps.Nothing
-  pub gives_none : w.goes ≡ None → s.give ≡ steps.Nothing
+  pub gives_none : units_given space h.nodes w.goes ≡ 0 → s.give ≡ steps.Nothing
 
 -- ---- on either
 
