@@ -37,6 +37,11 @@ still_old (Layout.New m) l' is same = absurd is
 still_old (Layout.Old space) (Layout.New m) is same = absurd same
 still_old (Layout.Old space) (Layout.Old now) is same = tt
 
+-- An old map has no record that could tell another version.
+old_tells : (l : Layout) → IsOldLayout l → held.TellsVersion l
+old_tells (Layout.New m) is = absurd is
+old_tells (Layout.Old space) is = tt
+
 -- ---- what is written
 
 neither : (xs ys : List ℕ) (s : ℕ) → is_among xs s ≡ false → is_among ys s ≡ false → is_among (xs ++ ys) s ≡ false
@@ -58,11 +63,15 @@ places_on layout kind view c was image space at written =
 pub was_old : (was : Volume) (h : Holdings) (read_only fit : Bool) (view : volume_of h read_only fit ≡ was) → IsOldLayout (parts_of was).layout → IsOldLayout (layout_of h.places)
 was_old was h read_only fit view is = subst (λ (v : Volume). IsOldLayout (parts_of v).layout) (sym view) is
 
+-- so that it stands for the disk,
+pub stand_old : {D : Type 0} (d : Ghosts D) (was : Volume) (h : Holdings) (read_only fit : Bool) (view : volume_of h read_only fit ≡ was) (old : D) → IsOldLayout (parts_of was).layout → StandsFor d was old → held.Stands d h old
+stand_old d was h read_only fit view old is stands = stand was h read_only fit view d old (old_tells (parts_of was).layout is) stands
+
 -- and no directory grows for a command.
 pub none_grows : {D : Type 0} (d : Ghosts D) (c : Command) (was : Volume) (h : Holdings) (read_only fit : Bool) (view : volume_of h read_only fit ≡ was) (old : D) → StandsFor d was old → IsOldLayout (parts_of was).layout
     → GrowsNone c (held.parts_of h)
 none_grows d c was h read_only fit view old stands is =
-    let agree = (stand was h read_only fit view d old stands).agree in
+    let agree = (stand_old d was h read_only fit view old is stands).agree in
     let o = old_layout (layout_of h.places) (was_old was h read_only fit view is) in
     old_grows_none (held.parts_of h) agree.0 agree.1 o.0 o.1 c
 

@@ -12,7 +12,7 @@ use Rattle.fc_holdings.specs.declared.error.CommandError.{CommandError}
 use Rattle.fc_holdings.specs.declared.error.CommandError.TheVariants.{Refused, NoMemory, DiskFault}
 use Rattle.fc_holdings.specs.declared.holdings.Holdings.{Holdings}
 use Rattle.fc_holdings.specs.Answers.{UnlessFault}
-use Rattle.fc_holdings.specs.Holdings.{CopiesAre, Stands}
+use Rattle.fc_holdings.specs.Holdings.{CopiesAre, Stands, TellsVersion}
 use Rattle.fc_volume.specs.Fitness.{fit_after}
 use Rattle.fc_volume.specs.Volume.{HasCopies, StandsFor, Volume, holdings_of}
 
@@ -36,9 +36,9 @@ has_copies (Chosen which) (Layout.Old space) image are = absurd (never_chosen wh
 -- ---- what stands for the disk
 
 module _ {D : Type 0} (d : Ghosts D) (v : Volume) (disk : D) where
-  -- What a volume holds does if the volume does,
-  pub holdings_stand : StandsFor d v disk → Stands d (holdings_of v) disk
-  holdings_stand s = record { size = s.size; room = s.room; map_room = s.map_room; agree = s.agree; image = s.image; copies = λ image told. copies_are v.copies (layout_of v.space) image (s.copies image told) }
+  -- What a volume holds does if the volume does, and its map tells the disc's version,
+  pub holdings_stand : TellsVersion (layout_of v.space) → StandsFor d v disk → Stands d (holdings_of v) disk
+  holdings_stand version s = record { size = s.size; room = s.room; map_room = s.map_room; version = version; agree = s.agree; image = s.image; copies = λ image told. copies_are v.copies (layout_of v.space) image (s.copies image told) }
 
   -- and the other way round.
   pub volume_stands : Stands d (holdings_of v) disk → StandsFor d v disk
@@ -68,8 +68,10 @@ fit_unless (Err DiskFault) = tt
 
 -- A volume holds this, and is changed to hold that.
 module _ (was : Volume) (h : Holdings) (read_only fit : Bool) (view : volume_of h read_only fit ≡ was) where
-  pub stand : {D : Type 0} (d : Ghosts D) (old : D) → StandsFor d was old → Stands d h old
-  stand d old stands = holdings_stand d (volume_of h read_only fit) old (subst (λ (v : Volume). StandsFor d v old) (sym view) stands)
+  pub stand : {D : Type 0} (d : Ghosts D) (old : D) → TellsVersion (layout_of was.space) → StandsFor d was old → Stands d h old
+  stand d old version stands =
+      holdings_stand d (volume_of h read_only fit) old (subst (λ (v : Volume). TellsVersion (layout_of v.space)) (sym view) version)
+      (subst (λ (v : Volume). StandsFor d v old) (sym view) stands)
 
   -- If what it holds is as before, and the disk didn't fail, so is the volume.
   pub unchanged : {D : Type 0} (h' : Holdings) (old new : D) (fit' : Bool) (r : Result (Unit {0}) CommandError) → fit' ≡ fit_after r → IsTrue was.fit → IfErr r (λ error. (error ≡ DiskFault → ⊥) → (h' ≡ h) × (new ≡ old))

@@ -13,7 +13,8 @@ use fc_volume::{CommandError, Volume, is_fit_after};
 use std::alloc::Global;
 
 /// Makes an empty directory. The disc has an old map, and nothing is pending. The new directory is written into the first hole that
-/// is long enough, then the map without its space, and then the directory that holds it. So a crash leaves lost space at worst.
+/// is long enough, then the map without its space, and then the directory that holds it. A crash between two of these writes leaves lost
+/// space at worst. One inside the directory's, or the map's, may tear it, and then the disc isn't accepted.
 ///
 /// Refused with the first reason that applies, and then nothing has changed: `DirFull` if the holder has no room for an entry,
 /// `DiscFull` if the holes have too little space, and `CompactionRequired` if no hole has enough. `NoMemory` leaves all as it was,

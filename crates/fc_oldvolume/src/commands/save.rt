@@ -15,7 +15,8 @@ use std::alloc::Global;
 
 /// Writes a file of these bytes, new or in the place of another, which keeps its name and its attributes. The disc has an old map,
 /// and nothing is pending. The bytes are written into the first hole that is long enough, then the map without their space, the
-/// directory, and the map with the space of the file that was there. So a crash leaves lost space at worst.
+/// directory, and the map with the space of the file that was there. A crash between two of these writes leaves lost space at worst.
+/// One inside the directory's, or the map's, may tear it, and then the disc isn't accepted.
 ///
 /// Refused with the first reason that applies, and then nothing has changed: `DirFull` if the holder has no room for an entry,
 /// `DiscFull` if the holes have too little space, `CompactionRequired` if no hole has enough, and `MapFull` if the map would have

@@ -5,13 +5,12 @@ use Rattle.fc_holdings.specs.Holdings as held
 use Rattle.fc_volume.specs.Volume.{Volume, parts_of}
 use Rattle.fc_oldvolume.specs.Sparing.{SparesMap}
 use Rattle.fc_oldvolume.proofs.ChangeLemmas.{old_layout}
-use Rattle.fc_volume.proofs.HoldingsLemmas.{stand}
-use Rattle.fc_oldvolume.proofs.CommandLemmas.{answers, changes, form, keeps_volume, places, was_old}
+use Rattle.fc_oldvolume.proofs.CommandLemmas.{answers, changes, form, keeps_volume, places, stand_old, was_old}
 use Rattle.fc_oldvolume.proofs.MapLemmas.{delete_spares}
 use Rattle.fc_oldvolume.proofs.commands.delete.delete.Goals as goal
 
 pub delete-answer-requires-clause-stands : goal.delete-answer-requires-clause-stands
-delete-answer-requires-clause-stands g c = stand c.args.volume.now c.volume.inside.holdings c.volume.inside.read_only c.volume.inside.fit c.volume.view_is g.D.Disk c.args.disk.now c.requires.stands
+delete-answer-requires-clause-stands g c = stand_old g.D.Disk c.args.volume.now c.volume.inside.holdings c.volume.inside.read_only c.volume.inside.fit c.volume.view_is c.args.disk.now c.requires.old_map c.requires.stands
 
 pub returns-clause-refused : goal.returns-clause-refused
 returns-clause-refused g c =
@@ -34,7 +33,7 @@ returns-clause-places g c =
 pub returns-clause-map : goal.returns-clause-map
 returns-clause-map g c =
     let h = held.parts_of c.volume.inside.holdings in
-    let agree = (stand c.args.volume.now c.volume.inside.holdings c.volume.inside.read_only c.volume.inside.fit c.volume.view_is g.D.Disk c.args.disk.now c.requires.stands).agree in
+    let agree = (stand_old g.D.Disk c.args.volume.now c.volume.inside.holdings c.volume.inside.read_only c.volume.inside.fit c.volume.view_is c.args.disk.now c.requires.old_map c.requires.stands).agree in
     let at = old_layout h.layout (was_old c.args.volume.now c.volume.inside.holdings c.volume.inside.read_only c.volume.inside.fit c.volume.view_is c.requires.old_map) in
     subst (λ (v : Volume). SparesMap g.D.Disk c.args.p.now (parts_of v) c.args.disk.now c.delete-answer.new.disk) c.volume.view_is
     (delete_spares h agree.0 agree.1 at.0 at.1 g.D.Disk c.args.p.now c.args.disk.now c.delete-answer.new.disk c.is_map.ensures c.delete-answer.ensures.leaves)

@@ -1,15 +1,11 @@
 use Rattle.std.proofs.Common.{ℕ, List, subst}
 use Rattle.fc_device.proofs.DiskLaws.{laws}
 use Rattle.fc_model.specs.Command.{Command}
-use Rattle.fc_volume.proofs.HoldingsLemmas.{stand}
-use Rattle.fc_oldvolume.proofs.CommandLemmas.{answers, changes, form, keeps_volume, none_grows, places}
+use Rattle.fc_oldvolume.proofs.CommandLemmas.{answers, changes, form, keeps_volume, places, stand_old}
 use Rattle.fc_oldvolume.proofs.commands.save.create.Goals as goal
 
 pub create-answer-requires-clause-stands : goal.create-answer-requires-clause-stands
-create-answer-requires-clause-stands g c = stand c.args.volume.now c.volume.inside.holdings c.volume.inside.read_only c.volume.inside.fit c.volume.view_is g.D.Disk c.args.disk.now c.requires.stands
-
-pub create-answer-requires-clause-grows : goal.create-answer-requires-clause-grows
-create-answer-requires-clause-grows g c = none_grows g.D.Disk (Command.Create c.args.p.now c.args.load c.args.exec c.args.len) c.args.volume.now c.volume.inside.holdings c.volume.inside.read_only c.volume.inside.fit c.volume.view_is c.args.disk.now c.requires.stands c.requires.old_map
+create-answer-requires-clause-stands g c = stand_old g.D.Disk c.args.volume.now c.volume.inside.holdings c.volume.inside.read_only c.volume.inside.fit c.volume.view_is c.args.disk.now c.requires.old_map c.requires.stands
 
 pub returns-clause-refused : goal.returns-clause-refused
 returns-clause-refused g c =

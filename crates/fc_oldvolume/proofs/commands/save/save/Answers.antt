@@ -1,15 +1,11 @@
 use Rattle.std.proofs.Common.{ℕ, List, subst}
 use Rattle.fc_device.proofs.DiskLaws.{laws}
 use Rattle.fc_model.specs.Command.{Command}
-use Rattle.fc_volume.proofs.HoldingsLemmas.{stand}
-use Rattle.fc_oldvolume.proofs.CommandLemmas.{answers, changes, form, keeps_volume, none_grows, places}
+use Rattle.fc_oldvolume.proofs.CommandLemmas.{answers, changes, form, keeps_volume, places, stand_old}
 use Rattle.fc_oldvolume.proofs.commands.save.save.Goals as goal
 
 pub save-answer-requires-clause-stands : goal.save-answer-requires-clause-stands
-save-answer-requires-clause-stands g c = stand c.args.volume.now c.volume.inside.holdings c.volume.inside.read_only c.volume.inside.fit c.volume.view_is g.D.Disk c.args.disk.now c.requires.stands
-
-pub save-answer-requires-clause-grows : goal.save-answer-requires-clause-grows
-save-answer-requires-clause-grows g c = none_grows g.D.Disk (Command.Save c.args.p.now c.args.load c.args.exec c.args.bytes.now) c.args.volume.now c.volume.inside.holdings c.volume.inside.read_only c.volume.inside.fit c.volume.view_is c.args.disk.now c.requires.stands c.requires.old_map
+save-answer-requires-clause-stands g c = stand_old g.D.Disk c.args.volume.now c.volume.inside.holdings c.volume.inside.read_only c.volume.inside.fit c.volume.view_is c.args.disk.now c.requires.old_map c.requires.stands
 
 pub returns-clause-refused : goal.returns-clause-refused
 returns-clause-refused g c =

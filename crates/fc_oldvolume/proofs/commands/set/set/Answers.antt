@@ -4,13 +4,12 @@ use Rattle.fc_model.specs.Command.{Command}
 use Rattle.fc_holdings.specs.Holdings as held
 use Rattle.fc_volume.specs.Volume.{Volume, parts_of}
 use Rattle.fc_oldvolume.specs.Changing.{WritesNoMap}
-use Rattle.fc_volume.proofs.HoldingsLemmas.{stand}
-use Rattle.fc_oldvolume.proofs.CommandLemmas.{answers, changes, form, keeps_volume, places}
+use Rattle.fc_oldvolume.proofs.CommandLemmas.{answers, changes, form, keeps_volume, places, stand_old}
 use Rattle.fc_oldvolume.proofs.MapLemmas.{unmapped}
 use Rattle.fc_oldvolume.proofs.commands.set.set.Goals as goal
 
 pub set-answer-requires-clause-stands : goal.set-answer-requires-clause-stands
-set-answer-requires-clause-stands g c = stand c.args.volume.now c.volume.inside.holdings c.volume.inside.read_only c.volume.inside.fit c.volume.view_is g.D.Disk c.args.disk.now c.requires.stands
+set-answer-requires-clause-stands g c = stand_old g.D.Disk c.args.volume.now c.volume.inside.holdings c.volume.inside.read_only c.volume.inside.fit c.volume.view_is c.args.disk.now c.requires.old_map c.requires.stands
 
 pub returns-clause-refused : goal.returns-clause-refused
 returns-clause-refused g c =
