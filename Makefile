@@ -68,6 +68,7 @@ papers:
 	tools/run checks/jobs --write
 	tools/run checks/licence --write
 	tools/run checks/bounds --write
+	tools/run checks/copies --write
 
 # Wrong bodies whose checks are too dear for the gate, or those of some crates, as by make edits EDITS=fc_growing
 edits:

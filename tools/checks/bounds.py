@@ -11,17 +11,16 @@ import re
 import sys
 from typing import Dict, Iterator, List, NamedTuple, Tuple
 
-from tools.checks import sources
+from tools.checks import exceptions, sources
 from tools.files import TOOLS
 
 BOUNDS: Dict[str, int] = {"clauses": 15, "parameters": 7, "law": 10}
 TOLD: Dict[str, str] = {"clauses": "clauses", "parameters": "parameters", "law": "parameters of a law"}
 EXCEPTIONS = os.path.join(TOOLS, "checks", "bounds.txt")
-Key = Tuple[str, str, str]  # what is counted, crate, name
 
 
 class Found(NamedTuple):
-    key: Key
+    key: exceptions.Key
     count: int
     place: str  # file and line
 
@@ -50,9 +49,9 @@ def named_parameters(kind: str) -> int:
         count += len(names.split())
 
 
-def measured(crates: List[str]) -> Dict[Key, Found]:
+def measured(crates: List[str]) -> Dict[exceptions.Key, Found]:
     """The most of each name of a crate, since files are moved oftener than functions get other names."""
-    most: Dict[Key, Found] = {}
+    most: Dict[exceptions.Key, Found] = {}
     for crate in crates:
         for found in counted(crate):
             if found.key not in most or found.count > most[found.key].count:
@@ -60,23 +59,10 @@ def measured(crates: List[str]) -> Dict[Key, Found]:
     return most
 
 
-def exceptions() -> Dict[Key, int]:
-    with open(EXCEPTIONS) as file:
-        rows = [line.split() for line in file if line.strip() and not line.startswith("#")]
-    return {(what, crate, name): int(count) for what, crate, name, count in rows}
-
-
-def write(listed: Dict[Key, int]) -> None:
-    with open(EXCEPTIONS) as file:
-        head = "".join(line for line in file if line.startswith("#"))
-    with open(EXCEPTIONS, "w") as file:
-        file.write(head + "".join("%s %s %s %d\n" % (*key, count) for key, count in sorted(listed.items())))
-
-
 def main(words: List[str]) -> bool:
     every = sources.crates()
     crates = [word for word in words if word in every] or every
-    found, listed = measured(crates), exceptions()
+    found, listed = measured(crates), exceptions.read(EXCEPTIONS)
     above = {key: one for key, one in found.items() if one.count > BOUNDS[key[0]]}
     wrong = [one for key, one in sorted(above.items()) if one.count > listed.get(key, 0)]
     for one in wrong:
@@ -84,7 +70,7 @@ def main(words: List[str]) -> bool:
         print("%s: %s has %d %s; the most is %d" % (one.place, name, one.count, TOLD[what], listed.get(one.key, BOUNDS[what])))
     wide = [key for key, count in sorted(listed.items()) if key[1] in crates and (key not in above or above[key].count < count)]
     if "--write" in words:
-        write({key: min(count, above[key].count) if key in above else count for key, count in listed.items()
+        exceptions.write(EXCEPTIONS, {key: min(count, above[key].count) if key in above else count for key, count in listed.items()
                if key in above or key[1] not in crates})
     for key in wide if "--write" not in words else []:
         print("%s %s: the exception is wider than it need be: tools/run checks/bounds --write" % (key[1], key[2]))

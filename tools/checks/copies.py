@@ -1,12 +1,13 @@
 #!/usr/bin/env python3
 # SPDX-License-Identifier: MIT
-"""Names lemmas and definitions of which one would do: copies of std's, copies of a lower crate's, and those that nothing uses.
+"""Sees that no new lemma or definition is one that std or a lower crate has already, or one that nothing uses.
 
-usage: tools/run checks/copies [--kit FOLDER] [CRATE...]        the kit's folder is /opt/rattle
+usage: tools/run checks/copies [--all] [--write] [--kit FOLDER] [CRATE...]     the kit's folder is /opt/rattle; without it std is left out
 Compared are statements, and for copies of another crate also bodies, up to the names of variables. It reads text and proves
 nothing: a copy that it names may still differ in an implicit argument, and the prover says so. What a crate has of std is used by
 `use Rattle.std.proofs.lemmas.MODULE.{..}`; what it has of a lower crate has to be `pub` there, in a module that proofs/Lib.antt
-exports by `pub mod`. One line a finding, in three tables; exit status 0.
+exports by `pub mod`. What stands twice or unused today is listed in copies.txt, by crate and name, with how often: a number may only
+fall. --all names these too; with --write numbers that are too high fall, and none is added.
 """
 from __future__ import annotations
 
@@ -16,9 +17,11 @@ import functools
 import glob
 import os
 import re
-from typing import Callable, Dict, Iterator, List, Set, Tuple
+import sys
+from typing import Callable, Dict, Iterator, List, NamedTuple, Set, Tuple
 
-from tools.files import TOP
+from tools.checks import exceptions
+from tools.files import TOOLS, TOP
 
 NAME = r"[^\W\d][\w'-]*"
 END = r"(?![\w'-])"
@@ -27,7 +30,11 @@ TOKEN = re.compile(rf"{NAME}(?:\.[\w'-]+)*|◌\S*◌|\S")
 HEAD = re.compile(rf"^(?:abbrev |unfoldable )?(?P<pub>pub )?(?P<name>{NAME}) : ")
 USE = re.compile(r"^(?:ghost )?(?:pub )?use ([\w.]+)\.\{(.*)\};?$")
 USING = re.compile(r"using\(([^)]*)\)")
+WHOLE_USE = re.compile(rf"^(?:ghost )?(?:pub )?use ([\w.+]+) as ({NAME});?$", re.MULTILINE)
+DOTTED = re.compile(rf"(?<![\w'.-])({NAME})((?:\.{NAME})+)")
 WRITTEN_BY_GOALS = ("Answers.antt", "Invariants.antt", "Proof.antt", "Lib.antt")
+EXCEPTIONS = os.path.join(TOOLS, "checks", "copies.txt")
+TOLD = {"std": "copies of std", "copy": "copies of a crate", "unused": "used by nothing"}
 
 
 def read(path: str) -> str:
@@ -154,14 +161,28 @@ def crates_in_order() -> Dict[str, List[str]]:
     return {row[0].strip(): row[1].split() for row in rows}
 
 
-def copies_of_std(files: List[File], std: Dict[str, Set[str]]) -> Iterator[str]:
+class Found(NamedTuple):
+    what: str
+    item: Item
+    other: str = ""  # what it is a copy of
+
+    @property
+    def key(self) -> exceptions.Key:
+        return self.what, self.item.file.crate, self.item.name
+
+    def told(self) -> str:
+        return "%s:%d %s %s" % (self.item.file.path, self.item.start + 1, self.item.name,
+                                "is " + self.other if self.other else "is used by nothing")
+
+
+def copies_of_std(files: List[File], std: Dict[str, Set[str]]) -> Iterator[Found]:
     """The lemmas of these files that std has. What only names types says too little to be one."""
     for item in (item for file in files if "/proofs/" in file.path for item in file.items if re.search("→.*[≡≤<⊥]", item.statement)):
         for name in sorted(std.get(statement_of(item), ()))[:1]:
-            yield f"{item.file.path}:{item.start + 1} {item.name} is {name}"
+            yield Found("std", item, name)
 
 
-def copies_of_crates(files: List[File], crates: Dict[str, List[str]]) -> Iterator[str]:
+def copies_of_crates(files: List[File], crates: Dict[str, List[str]]) -> Iterator[Found]:
     """The items that the same crate or one below has already, with the lowest that may be cited."""
     same, order = collections.defaultdict(list), list(crates)
     for item in (item for file in files if not file.path.endswith(WRITTEN_BY_GOALS) for item in file.items if item.body):
@@ -171,7 +192,7 @@ def copies_of_crates(files: List[File], crates: Dict[str, List[str]]) -> Iterato
         for at, item in enumerate(items):
             lower = [one for one in items[:at] if one.file.crate == item.file.crate or one.file.crate in crates[item.file.crate]]
             if lower:
-                yield f"{item.file.path}:{item.start + 1} {item.name} is {lower[0].file.module}.{lower[0].name}"
+                yield Found("copy", item, f"{lower[0].file.module}.{lower[0].name}")
 
 
 def words_of(lines: List[str]) -> Dict[str, int]:
@@ -179,18 +200,29 @@ def words_of(lines: List[str]) -> Dict[str, int]:
     return collections.Counter(word for line in lines if not line.startswith(("use ", "--")) for word in WORD.findall(line))
 
 
-def unused(files: List[File], asked: Set[str]) -> Iterator[str]:
+def unused(files: List[File], asked: Set[str]) -> Iterator[Found]:
     """Lemmas that no other line of their file names, no file imports, and no `using(..)` of the code gives to the prover."""
     for file in (file for file in files if "/proofs/" in file.path and not file.path.endswith(WRITTEN_BY_GOALS)):
         all_words = words_of(file.lines)
         for item in file.items:
             own = words_of(file.lines[item.start:item.end])
             if f"{file.module}.{item.name}" not in asked and all_words[item.name] == own[item.name]:
-                yield f"{file.path}:{item.start + 1} {item.name}"
+                yield Found("unused", item)
+
+
+def names_by_alias(text: str) -> Iterator[str]:
+    """What a file names by `other.NAME`, if it has `use MODULE as other`. A name may be followed by a field's."""
+    modules = {found[2]: found[1] for found in WHOLE_USE.finditer(text)}
+    for found in DOTTED.finditer(text):
+        if found[1] in modules:
+            name = modules[found[1]]
+            for word in found[2][1:].split("."):
+                name = f"{name}.{word}"
+                yield name
 
 
 def names_asked_for() -> Set[str]:
-    """What any file imports of another, or gives to the prover by `using(crate::proofs::MODULE::NAME)`."""
+    """What any file imports of another, names by its module, or gives to the prover by `using(crate::proofs::MODULE::NAME)`."""
     found = set()
     for path in glob.glob("crates/*/**/*.antt", recursive=True) + glob.glob("crates/*/**/*.rt", recursive=True):
         text = read(path)
@@ -200,25 +232,46 @@ def names_asked_for() -> Set[str]:
             found.add(f"Rattle.{path.split('/')[1]}{given[1].replace('::', '.')}")
         for qualified in re.finditer(rf"Rattle\.fc_\w+(?:\.{NAME})+", text):
             found.add(qualified[0])
+        found.update(names_by_alias(text))
     return found
 
 
-def main() -> None:
-    parser = argparse.ArgumentParser(description=__doc__.split("\n")[0], usage=__doc__.split("\n")[2][len("usage: "):])
-    parser.add_argument("--kit", default="/opt/rattle")
-    parser.add_argument("crates", nargs="*")
-    options = parser.parse_args()
-    os.chdir(TOP)
-    crates = crates_in_order()
+def every(crates: Dict[str, List[str]], kit: str) -> Iterator[Found]:
     paths = [path for part in ("specs", "proofs") for path in glob.glob(f"crates/*/{part}/**/*.antt", recursive=True)]
     files = [File(path) for path in sorted(paths) if path.split("/")[1] in crates]
-    tables = {"Copies of std": copies_of_std(files, lemmas_of_std(options.kit)),
-              "Copies of a crate": copies_of_crates(files, crates),
-              "Used by nothing": unused(files, names_asked_for())}
-    for title, every in tables.items():
-        rows = [row for row in every if not options.crates or row.split("/")[1] in options.crates]
-        print(f"{title}: {len(rows)}", *rows, sep="\n  ")
+    yield from copies_of_std(files, lemmas_of_std(kit))
+    yield from copies_of_crates(files, crates)
+    yield from unused(files, names_asked_for())
+
+
+def main(words: List[str]) -> bool:
+    parser = argparse.ArgumentParser(usage=__doc__, add_help=False)
+    parser.add_argument("--kit", default="/opt/rattle")
+    for name in ("--all", "--write"):
+        parser.add_argument(name, action="store_true")
+    parser.add_argument("crates", nargs="*")
+    options = parser.parse_args(words)
+    os.chdir(TOP)
+    crates = crates_in_order()
+    looked = set(options.crates or crates)
+    found = [one for one in every(crates, options.kit) if one.item.file.crate in looked]
+    counts = collections.Counter(one.key for one in found)
+    listed = exceptions.read(EXCEPTIONS)
+    # without the kit nothing is known of std
+    known = {key for key in listed if key[1] in looked and (key[0] != "std" or os.path.isdir(options.kit))}
+    new = [one for one in found if counts[one.key] > listed.get(one.key, 0)]
+    high = sorted(key for key in known if counts[key] < listed[key])
+    for one in found if options.all else new:
+        print(one.told())
+    if options.write:
+        exceptions.write(EXCEPTIONS, {key: counts[key] if key in high else count for key, count in listed.items()
+                                      if key not in high or counts[key]})
+    for _, crate, name in high if not options.write else []:
+        print("%s %s: the exception isn't needed any more: tools/run checks/copies --write" % (crate, name))
+    told = ", ".join("%d %s" % (sum(count for key, count in counts.items() if key[0] == what), TOLD[what]) for what in TOLD)
+    print("copies: %s; %d new, %d too many exceptions" % (told, len(new), len(high)))
+    return not new and (options.write or not high)
 
 
 if __name__ == "__main__":
-    main()
+    sys.exit(0 if main(sys.argv[1:]) else 1)

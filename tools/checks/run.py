@@ -23,13 +23,13 @@ MEMORY = "/dev/shm" if os.access("/dev/shm", os.W_OK) else os.environ.get("TMPDI
 
 PAGES = {  # case: the words of its tool
     "quotations": ["checks/quotations"], "rooms": ["checks/rooms"], "definitions": ["checks/definitions", "--check"],
-    "faults": ["checks/faults", "--check"], "bounds": ["checks/bounds"], "licence": ["checks/licence"], "imports": ["checks/imports"],
-    "annotations": ["checks/annotations"], "jobs": ["checks/jobs", "--check"],
+    "faults": ["checks/faults", "--check"], "bounds": ["checks/bounds"], "copies": ["checks/copies"], "licence": ["checks/licence"],
+    "imports": ["checks/imports"], "annotations": ["checks/annotations"], "jobs": ["checks/jobs", "--check"],
 }
 
 
 def pages(suite: Suite) -> None:
-    """What the pages say of the sources, the bounds of contracts, and that every part of fcdisc can be imported."""
+    """What the pages say of the sources, bounds of contracts, lemmas that stand twice, and that every part of fcdisc can be imported."""
     for case, words in PAGES.items():
         if suite.wants(case):
             ran = subprocess.run([RUN, *words], stdout=subprocess.PIPE, text=True, check=False)
