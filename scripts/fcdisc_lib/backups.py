@@ -15,6 +15,7 @@ from contextlib import ExitStack, suppress
 from typing import BinaryIO, Callable
 
 from .images import pieces_from
+from .leftovers import remove_leftovers
 from .locks import locked_file, unbroken
 from .messages import Trouble, reason, shown
 from .output import NO_LINKS, TAKEN, Folder, NewFile, TemporaryName, split_path
@@ -108,6 +109,7 @@ def undo(words: Namespace) -> int:
     first, undone = name + b"~", name + b"~" + UNDONE
     source, kept = (undone, first) if words.back else (first, undone)
     with locked_file(path, words.image) as file, Folder.at(folder) as holder:
+        remove_leftovers(holder.number)
         if not is_file(holder, source):
             raise Trouble("%s: there is no %s, so there is nothing to %s" % (
                 shown(words.image), shown(source), "bring back" if words.back else "undo"))

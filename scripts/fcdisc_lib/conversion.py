@@ -2,7 +2,6 @@
 """A disc of another format with the tree of a disc."""
 from __future__ import annotations
 
-import os
 from argparse import Namespace
 from typing import Dict, Iterator, List, Optional
 
@@ -15,9 +14,9 @@ from .fresh import fresh_disc
 from .hostfiles import NEW_FILE, TOO_LONG
 from .images import pieces_from
 from .jobs import refusal, write_new
-from .messages import FAILED, Progress, Trouble, counted, say, shown
+from .messages import FAILED, Progress, counted, say, shown
 from .names import spelled_path
-from .output import TAKEN
+from .output import refuse_if_taken
 from .program import Entry, Path, Refused, Run, batches, command, find_program, scripts
 from .tree import Tree, read_tree
 
@@ -99,8 +98,7 @@ class Conversion:
 
 def convert(words: Namespace) -> int:
     program = find_program()
-    if os.path.lexists(words.out):
-        raise Trouble("%s: %s" % (shown(words.out), TAKEN))
+    refuse_if_taken(words.out)
     words.path = "$"
     try:
         tree = read_tree(program, words.image, words.order, ())

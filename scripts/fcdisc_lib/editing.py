@@ -21,6 +21,7 @@ from .fitting import SHORT_NAME
 from .hostitems import FIT_HELP, NOT_ADDED
 from .images import (AS_IT_IS, L_SIZE, SIDES, Image, copy, has_doubtful_order, nameless_file, open_image,
                      pieces_from, read_at, size_of, to_interleaved)
+from .leftovers import remove_leftovers
 from .locks import is_same, locked_file, unbroken
 from .messages import FAILED, Trouble, counted, reason, shown
 from .output import Folder, NewFile, split_path
@@ -111,6 +112,8 @@ class Edit:
             self.before = os.fstat(self.original.fileno())
             if not self.before.st_mode & 0o222 or not os.access(self.path, os.W_OK):
                 raise self.trouble("it is write-protected on this host")
+            with suppress(OSError), Folder.at(self.folder) as holder:
+                remove_leftovers(holder.number)  # also if nothing comes of this job
             self.stack = self.stack.pop_all()
         return self
 

@@ -2,13 +2,20 @@
 """A fresh disc in memory, before it gets a name on the host."""
 from __future__ import annotations
 
+import fcntl
 import os
-from contextlib import contextmanager
-from typing import BinaryIO, Iterator
+import stat
+from contextlib import contextmanager, suppress
+from typing import BinaryIO, Iterator, Tuple
 
 from .images import copy, nameless_file, size_of
+from .leftovers import is_locked_here
+from .locks import unbroken
 from .messages import Trouble, reason, shown
+from .output import Folder
 from .program import Run
+
+BEGINNING, NEW = "fcdisc-", "new"
 
 
 @contextmanager
@@ -19,8 +26,8 @@ def fresh_disc(program: str, name: str, form: str) -> Iterator[BinaryIO]:
     """
     import tempfile  # here, since it takes long to load, and other jobs are beside those that need it
     try:
-        with tempfile.TemporaryDirectory(prefix="fcdisc-") as folder:
-            place = os.path.join(folder, "new")
+        with own_folder(tempfile.gettempdir()) as folder:
+            place = os.path.join(folder, NEW)
             with Run(program, name, ["--new", form, "--", place], b"", []):
                 pass
             with open(place, "rb") as made:
@@ -30,3 +37,57 @@ def fresh_disc(program: str, name: str, form: str) -> Iterator[BinaryIO]:
         raise Trouble("%s: it can't be made in %s: %s" % (shown(name), shown(tempfile.gettempdir()), reason(error))) from None
     with file:
         yield file
+
+
+@contextmanager
+def own_folder(place: str) -> Iterator[str]:
+    """A new folder there for one file. It is locked, so that the next job knows it from those that killed jobs left, and clears these."""
+    made = None
+    with Folder.at(place) as holder:
+        for name in os.listdir(place):
+            if name.startswith(BEGINNING):
+                clear_unlocked(holder, name)
+        try:
+            with unbroken():
+                made = locked_folder(place, holder)
+            yield made[0]
+        finally:
+            with unbroken():
+                if made:
+                    clear(*made)
+
+
+def locked_folder(place: str, holder: Folder) -> Tuple[str, int]:
+    """Makes it again if another fcdisc cleared it away before it was locked."""
+    from tempfile import mkdtemp
+    while True:
+        path = mkdtemp(prefix=BEGINNING, dir=place)
+        with suppress(FileNotFoundError):
+            number = os.open(path, os.O_RDONLY | os.O_DIRECTORY)
+            if is_locked_here(number, holder.number, os.fsencode(os.path.basename(path))):
+                return path, number
+            os.close(number)
+
+
+def clear_unlocked(holder: Folder, name: str) -> None:
+    """Clears the folder away if it is ours and nobody has it locked. A host without locks keeps it."""
+    with suppress(OSError):
+        found = os.stat(name, dir_fd=holder.number, follow_symlinks=False)
+        if not stat.S_ISDIR(found.st_mode) or found.st_uid != os.geteuid():
+            return
+        number = os.open(name, os.O_RDONLY | os.O_DIRECTORY | os.O_NOFOLLOW, dir_fd=holder.number)
+        try:
+            fcntl.flock(number, fcntl.LOCK_EX | fcntl.LOCK_NB)
+            with suppress(FileNotFoundError):
+                os.unlink(NEW, dir_fd=number)
+            os.rmdir(name, dir_fd=holder.number)
+        finally:
+            os.close(number)
+
+
+def clear(path: str, number: int) -> None:
+    with suppress(FileNotFoundError):
+        os.unlink(NEW, dir_fd=number)
+    with suppress(OSError):
+        os.rmdir(path)
+    os.close(number)

@@ -17,6 +17,7 @@ BEGINNING, ENDING = b".fcdisc-", b".tmp"
 OWN_WORD = os.urandom(8).hex().encode("ascii")
 NUMBERS = itertools.count(1)
 unfinished: Set[Tuple[int, bytes]] = set()  # the files that have a temporary name: a folder's descriptor, and the name
+held: Set[Tuple[int, int]] = set()  # images that this run has locked: a leftover can be another name of one
 looked_through: Set[Tuple[int, int]] = set()  # the folders in which leftovers were looked for
 
 
@@ -51,8 +52,10 @@ def remove_unlocked(folder: int, name: bytes) -> None:
     with suppress(OSError):
         number = os.open(name, os.O_RDONLY | os.O_NOFOLLOW | os.O_NONBLOCK, dir_fd=folder)
         try:
-            if stat.S_ISREG(os.fstat(number).st_mode):
-                fcntl.flock(number, fcntl.LOCK_EX | fcntl.LOCK_NB)
+            found = os.fstat(number)
+            if stat.S_ISREG(found.st_mode):
+                if (found.st_dev, found.st_ino) not in held:
+                    fcntl.flock(number, fcntl.LOCK_EX | fcntl.LOCK_NB)
                 os.unlink(name, dir_fd=folder)
         finally:
             os.close(number)

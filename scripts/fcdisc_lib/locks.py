@@ -9,6 +9,7 @@ from contextlib import contextmanager, suppress
 from typing import BinaryIO, Iterator
 
 from .images import open_file
+from .leftovers import held
 from .messages import Trouble, shown
 
 SIGNALS = (signal.SIGINT, signal.SIGTERM, signal.SIGHUP)
@@ -25,16 +26,28 @@ def locked_file(path: str, name: str) -> Iterator[BinaryIO]:
     """The open file, which no other fcdisc changes meanwhile."""
     while True:
         with open_file(path, name) as file:
+            found = os.fstat(file.fileno())
+            inode = found.st_dev, found.st_ino
             try:
                 fcntl.flock(file, fcntl.LOCK_EX | fcntl.LOCK_NB)
+                held.add(inode)
             except BlockingIOError:
                 raise Trouble("%s: another fcdisc is changing it: try again when that has ended" % shown(name)) from None
             except OSError:
                 pass  # a host without locks
-            with suppress(FileNotFoundError):
-                if os.path.samestat(os.fstat(file.fileno()), os.stat(path)):
+            try:
+                if names(path, found):
                     yield file
                     return
+            finally:
+                held.discard(inode)
+
+
+def names(path: str, found: os.stat_result) -> bool:
+    """Whether the path still leads to that file."""
+    with suppress(FileNotFoundError):
+        return os.path.samestat(found, os.stat(path))
+    return False
 
 
 @contextmanager

@@ -198,6 +198,14 @@ def published(path: str, make: Callable[[Folder], TemporaryName] = TemporaryName
         raise Trouble(place_text(folder, name, error)) from None
 
 
+def refuse_if_taken(path: str) -> None:
+    """Trouble if anything has the name already. What a killed job left beside it goes all the same."""
+    if os.path.lexists(path):
+        with suppress(OSError), Folder.at(split_path(path)[0]) as holder:
+            remove_leftovers(holder.number)
+        raise Trouble("%s: %s" % (shown(path), TAKEN))
+
+
 def place_text(folder: str, name: bytes, error: OSError) -> str:
     """Which file couldn't be made, and why."""
     text = TAKEN if isinstance(error, FileExistsError) else reason(error)

@@ -18,7 +18,7 @@ from .hostitems import is_archive
 from .images import nameless_file, pieces_from
 from .jobs import refusal, write_new
 from .messages import FAILED, WRONG_WORDS, Progress, Trouble, counted, reason, say, shown, tell
-from .output import Folder, NewFile, new_folder, place_text, split_path
+from .output import Folder, NewFile, new_folder, place_text, refuse_if_taken, split_path
 from .program import BadImage, Entry, Refused, batches, command, find_program
 from .selection import chosen_objects, meant_tree, path_of
 from .tree import Tree, find_entry
@@ -163,8 +163,7 @@ def extract_one(program: str, words: Namespace, image: str, folder: str, form: F
 
 
 def extract_to_archive(program: str, words: Namespace) -> int:
-    if os.path.lexists(words.folder):
-        raise Trouble("%s: there is something of this name already" % shown(words.folder))
+    refuse_if_taken(words.folder)
     from .archives import write_archive  # here, since zipfile takes long to load
     tree = wanted_tree(program, words, words.image)
     with tree.image.file, nameless_file(sum(entry.length for entry in tree.files())) as file:

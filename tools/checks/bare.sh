@@ -62,6 +62,8 @@ is undo 0 "$(cmp f-user.adf mine.adf && echo 0)"
 fcdisc extract f-user.adf user.zip > /dev/null
 is 'a zip archive' 0 "$(status fcdisc diff f-user.adf user.zip)"
 is rescue 'd-twin: 5' "d-twin: $(fcdisc rescue d-twin.adf rescued 2> /dev/null | cut -d ' ' -f 3)"
+is reclaim 'e-files.adf: 6144 bytes given back' "$(fcdisc reclaim e-files.adf)"
+is types 'tex   2a8' "$(fcdisc types | tail -n 1)"
 is mend 0 "$(status fcdisc mend d-word.adf mended.adf)"
 is 'no guess unasked' 1 "$(status fcdisc mend d-check.adf guessed.adf; ls guessed.adf 2> /dev/null || true)"
 is 'mend by a guess' '1 0' "$(status fcdisc mend --guess d-check.adf guessed.adf) $(status fcdisc check guessed.adf)"

@@ -19,7 +19,7 @@ from types import ModuleType
 from typing import TYPE_CHECKING, Callable, Collection, Dict, Iterable, Iterator, List, Optional, Sequence, Tuple, TypeVar, Union
 
 from tools.checks import (examples, fcdisc_backups, fcdisc_cases, fcdisc_changes, fcdisc_collections, fcdisc_everyday,
-                          fcdisc_exchange)
+                          fcdisc_exchange, fcdisc_table)
 from tools.checks.selection import Suite, shortened
 from tools.checks.work_folders import fill, snapshot, wait_for
 from tools.files import TOP
@@ -476,6 +476,12 @@ def keeping(suite: Suite, fcore: str) -> None:
         mounts = can_mount()
         for module in (fcdisc_backups, fcdisc_exchange, fcdisc_everyday):
             run_parts(checks, fcdisc_changes.Changes(checks), (*module.PARTS, *(module.MOUNTED if mounts else ())))
+
+
+def by_conditions(suite: Suite, fcore: str) -> None:
+    """Every job by every condition."""
+    with prepared(suite, fcore) as checks:
+        fcdisc_table.run(checks)
 
 
 def rounds(suite: Suite, fcore: str) -> None:

@@ -20,7 +20,7 @@ from fcdisc_lib.common_words import FORMATS  # noqa: E402
 
 COMPLETION = "scripts/completion/fcdisc.bash"
 # What has to stand in a page for each job; one is tried after the other name of the job
-PAGES = {"README.md": r"`fcdisc %s\b", "man/fcdisc.1": r"^\$ fcdisc %s\b"}
+PAGES = {"README.md": r"`fcdisc %s\b", "man/fcdisc.1": r"^\$ fcdisc %s\b", "tools/checks/bare.sh": r"\bfcdisc %s\b"}
 SYNOPSIS, LISTED = r"^\.Cm (\w+ \| )?%s\b", r"^\.It Cm %s\b"
 
 

@@ -269,7 +269,7 @@ def written(checks: Checks, rescue: Rescue, name: str, found: Reading, most: int
     """Writes all files, none of them outside of the folder, and no more than so many bytes; answers what is there then."""
     work = checks.fresh(b"work")
     with rescue.writing.empty_folder(os.fsdecode(os.path.join(work, b"out"))) as folder:
-        quietly(lambda: rescue.writing.write_all(found, "x", folder))
+        quietly(lambda: rescue.writing.write_all(found, "x", folder, "o"))
     left = snapshot(work)
     size = sum(len(data) for path, data in left.items() if data and not path.startswith(b"out/report"))
     checks.expect(name, outside=([b"out"], [path for path in left if b"/" not in path]), bounded=(True, size <= most),

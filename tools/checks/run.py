@@ -60,7 +60,8 @@ PLAIN: Dict[str, Callable[[Suite], None]] = {
 OVER_PROGRAM: Dict[str, Callable[[Suite, str], None]] = {
     "cases": program.cases, "streams": program.streams, "examples": program.readme, "install": program.installed,
     "fcdisc": fcdisc.reading, "fcdisc-discs": fcdisc.discs, "fcdisc-changes": fcdisc.changing,
-    "fcdisc-collections": fcdisc.collections, "fcdisc-keeping": fcdisc.keeping, "fcdisc-round": fcdisc.rounds}
+    "fcdisc-collections": fcdisc.collections, "fcdisc-keeping": fcdisc.keeping, "fcdisc-round": fcdisc.rounds,
+    "fcdisc-table": fcdisc.by_conditions}
 
 
 def run_long(suite: Suite, path: str) -> None:

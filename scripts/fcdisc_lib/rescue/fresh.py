@@ -2,7 +2,6 @@
 """The sound files of a disc that was read, straight onto a fresh disc."""
 from __future__ import annotations
 
-import os
 from argparse import Namespace
 from typing import Iterator
 
@@ -13,7 +12,7 @@ from ..fresh import fresh_disc
 from ..images import pieces_from
 from ..jobs import write_new
 from ..messages import FAILED, WRONG_WORDS, Progress, Trouble, counted, say, shown
-from ..output import TAKEN
+from ..output import refuse_if_taken
 from ..program import find_program
 from .discs import FORMATS
 from .reading import Reading, pieces_of
@@ -39,8 +38,7 @@ def put_onto_fresh(reading: Reading, words: Namespace) -> int:
     form, new = words.to[0].upper(), words.to[1]
     if form not in FORMATS:
         raise Trouble("--to takes one of %s, and the file to make" % ", ".join(FORMATS), WRONG_WORDS)
-    if os.path.lexists(new):
-        raise Trouble("%s: %s" % (shown(new), TAKEN))
+    refuse_if_taken(new)
     program = find_program()
     filling = Filling(program, reading, words.image, new)
     with fresh_disc(program, new, form) as file:

@@ -15,7 +15,7 @@ from ..program import BadImage, find_program
 from .fresh import put_onto_fresh
 from .reading import Options, Reading, packed, read_image
 from .report import counts, lines, summary
-from .writing import empty_folder, write_all
+from .writing import empty_folder, told_as, write_all
 
 
 def rescue(words: Namespace) -> int:
@@ -35,7 +35,7 @@ def rescue(words: Namespace) -> int:
         if words.to:
             return put_onto_fresh(reading, words)
         with empty_folder(words.folder) as folder:
-            complete = write_all(reading, words.image, folder)
+            complete = write_all(reading, words.image, folder, words.folder)
     tell_fault(words)
     say("%s: see %s" % (summary(reading), shown(os.path.join(words.folder, "report.txt"))))
     return status_of(reading) if complete else FAILED
@@ -81,10 +81,12 @@ def rescue_one(words: Namespace, options: Options, path: str, out: Folder) -> bo
     with open_file(path) as file:
         reading = read_image(file, path, words.order, options)
         name = free_name(out, os.path.relpath(path, words.image))
-        out.make(name)
+        place = os.path.join(words.folder, os.fsdecode(name))
+        with told_as(words.folder, name):
+            out.make(name)
         with out.below((name,)) as folder:
-            complete = write_all(reading, path, folder)
-    say("%s: %s: see %s" % (shown(path), summary(reading), shown(os.path.join(os.fsencode(words.folder), name, b"report.txt"))))
+            complete = write_all(reading, path, folder, place)
+    say("%s: %s: see %s" % (shown(path), summary(reading), shown(os.path.join(place, "report.txt"))))
     return bool(status_of(reading)) or not complete
 
 

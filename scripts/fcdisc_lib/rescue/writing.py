@@ -3,12 +3,13 @@
 from __future__ import annotations
 
 import os
+from contextlib import contextmanager
 from typing import Dict, Iterable, Iterator, List, Set
 
 from ..extraction import Extraction
 from ..images import Image
 from ..messages import Progress, Trouble, reason, shown
-from ..output import Folder, NewFile
+from ..output import Folder, NewFile, place_text
 from ..program import Entry, Path
 from ..tree import Tree
 from .reading import Reading, pieces_of
@@ -98,18 +99,31 @@ def empty_folder(path: str) -> Folder:
         raise Trouble("%s: %s" % (shown(path), reason(error))) from None
 
 
-def write_all(reading: Reading, image: str, folder: Folder) -> bool:
-    """Writes the files and both reports, and answers whether all that came out was written under its own name."""
+def write_all(reading: Reading, image: str, folder: Folder, place: str) -> bool:
+    """Writes the files and both reports, and answers whether all that came out was written under its own name.
+
+    `place` is the folder's path for people.
+    """
     complete = True
     for name, tree in ((SOUND, sound_tree(reading, image)), (DOUBTFUL, doubtful_tree(reading, image))):
         if name == DOUBTFUL and not tree.files():
             continue
-        folder.make(name)
+        with told_as(place, name):
+            folder.make(name)
         with folder.below((name,)) as inner:
             writing = Writing(reading, tree, inner)
             writing.run()
             complete = writing.is_complete() and complete
     for name, data in ((b"report.txt", text_of(reading)), (b"report.json", json_of(reading, shown(image)))):
-        with NewFile(folder, [data]) as temporary:
+        with told_as(place, name), NewFile(folder, [data]) as temporary:
             folder.publish(temporary, name)
     return complete
+
+
+@contextmanager
+def told_as(place: str, name: bytes) -> Iterator[None]:
+    """An error of the host is one of the file or folder of that name there."""
+    try:
+        yield
+    except OSError as error:
+        raise Trouble(place_text(place, name, error)) from None
