@@ -17,12 +17,6 @@ old_layout (Layout.Old space) is = (space, refl)
 pub is_old : (l : Layout) (space : OldMapContent) → l ≡ Layout.Old space → IsOldLayout l
 is_old l space is = subst IsOldLayout (sym is) tt
 
-pub one_space : (l : Layout) (a b : OldMapContent) → l ≡ Layout.Old a → l ≡ Layout.Old b → a ≡ b
-one_space l a b first second = same a b (sym first ∙ second)
-  where
-    same : (x y : OldMapContent) → (let p : Layout = Layout.Old x in p) ≡ Layout.Old y → x ≡ y
-    same x y e = cc
-
 -- ---- what is known of a volume with an old map
 
 -- A map that a volume has is one.
@@ -32,9 +26,6 @@ HasMap v = (space : OldMapContent) → layout_of v.space ≡ Layout.Old space �
 -- the holes of the map of a volume that stands for a disk
 pub lie_behind : {D : Type 0} (d : Ghosts D) (v : Volume) (disk : D) (space : OldMapContent) → layout_of v.space ≡ Layout.Old space → StandsFor d v disk → LieBehind space
 lie_behind d v disk space layout stands = (subst (λ (l : Layout). HoldsMap l (d.sectors disk)) layout stands.map_room).1
-
-pub two_sectors : {D : Type 0} (d : Ghosts D) (v : Volume) (disk : D) (space : OldMapContent) → layout_of v.space ≡ Layout.Old space → StandsFor d v disk → 2 ≤ d.sectors disk
-two_sectors d v disk space layout stands = (subst (λ (l : Layout). HoldsMap l (d.sectors disk)) layout stands.map_room).0
 
 -- ---- writes
 

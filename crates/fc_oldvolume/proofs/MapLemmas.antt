@@ -47,6 +47,7 @@ use Rattle.fc_course.proofs.OwnerLemmas.{object_as}
 use Rattle.fc_course.proofs.RemovalStageLemmas.{removal_wants, view_of}
 use Rattle.fc_course.proofs.StillLemmas.{old_still}
 use Rattle.fc_course.proofs.TargetLemmas as target_of
+use Rattle.fc_device.proofs.StopLemmas.{one_told}
 use Rattle.fc_commands.specs.Judgments.{CommandLeaves}
 use Rattle.fc_commands.proofs.GrowthLemmas.{old_grows_none}
 use Rattle.fc_volume.specs.Volume.{Volume, parts_of}
@@ -54,9 +55,6 @@ use Rattle.fc_oldvolume.specs.Changing.{WritesNoMap}
 use Rattle.fc_oldvolume.specs.Sparing.{SparesMap}
 
 -- ---- the sectors of the map
-
-same_image : {x y : List ℕ} → Some x ≡ Some y → x ≡ y
-same_image e = cc
 
 -- Its first bytes are as before, and so are its sectors.
 map_stays : (space : OldMapContent) → HasUnits space → (was image : List ℕ) → front_in space image ≡ front_in space was → MapStays space was image
@@ -74,7 +72,7 @@ stays_on layout space was image is at same =
 pub unmapped : {D : Type 0} (d : Ghosts D) (h : Parts) (old new : D) → IsMapIn h.layout → StopsAndExitsLeave d old new (SameMap h.layout) → WritesNoMap d h old new
 unmapped d h old new is leaves was told image now space at =
     let exit = leaves.exit was told in
-    subst (MapStays space was) (same_image (sym exit.1 ∙ now)) (stays_on h.layout space was exit.0 is at exit.2)
+    subst (MapStays space was) (one_told (sym exit.1 ∙ now)) (stays_on h.layout space was exit.0 is at exit.2)
 
 -- ---- `rename`
 
@@ -93,7 +91,7 @@ module _ (h : Parts) (kind : Kind) (a : Agree kind h) (space : OldMapContent) (a
   rename_unmapped d from to old new is leaves was told image now other there =
       let exit = leaves.exit was told in
       let same : SameMap h.layout was exit.0 = ⊎_elim (λ before. before.map) (λ way. moved from to way.job way.name way.bytes was exit.0 way.of_command way.moment) exit.2 in
-      subst (MapStays other was) (same_image (sym exit.1 ∙ now)) (stays_on h.layout other was exit.0 is there same)
+      subst (MapStays other was) (one_told (sym exit.1 ∙ now)) (stays_on h.layout other was exit.0 is there same)
 
   -- ---- `delete`
 
@@ -128,4 +126,4 @@ module _ (h : Parts) (kind : Kind) (a : Agree kind h) (space : OldMapContent) (a
       let sound = sound_law was seen view opens in
       let map : SameMap h.layout was exit.0 =
       ⊎_elim (λ before. before.map) (λ way. removed path way.job way.name way.bytes was exit.0 view sound held o among same none way.of_command way.moment) exit.2 in
-      subst (MapStays other was) (same_image (sym exit.1 ∙ now)) (stays_on h.layout other was exit.0 is (held.layout ∙ there) map)
+      subst (MapStays other was) (one_told (sym exit.1 ∙ now)) (stays_on h.layout other was exit.0 is (held.layout ∙ there) map)

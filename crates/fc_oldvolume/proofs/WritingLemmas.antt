@@ -22,17 +22,7 @@ use Rattle.fc_oldmap.specs.OldMap.{OldMapContent, map_units, with_holes}
 use Rattle.fc_oldchanges.specs.Owed.{IsWritten, holding}
 use Rattle.fc_oldvolume.specs.Writing.{ChangesFront, IsFrontWritten, IsMapWritten}
 use Rattle.fc_tree.proofs.ReadingLemmas.{all_on_disk as all_low}
-
-pub row_is : (row : Extent) → row.first ≡ 0 → sectors_in (row ∷ []) ≡ range_with_len 0 row.sectors
-row_is row first = append-nil (range_with_len row.first row.sectors) ∙ ap (λ (n : ℕ). range_with_len n row.sectors) first
-
--- no sector of a row is there twice
-pub row_apart : (n : ℕ) → AreApart (range_with_len 0 n)
-row_apart n = λ i j before high same.
-    let long = length-range_with_len 0 n in
-    let a = get_or-range_with_len 0 n i 0 (omega (arith, before, high, long)) in
-    let b = get_or-range_with_len 0 n j 0 (omega (arith, high, long)) in
-    omega (arith, a, b, same, before)
+use Rattle.fc_writing.proofs.FrontLemmas.{row_apart, row_is}
 
 -- the first bytes of the first sectors
 pub row_front : (size : ℕ) (image : List ℕ) (n : ℕ) → row_at size image 0 n ≡ take (n * size) image
@@ -147,9 +137,3 @@ kept_to d {R = R} keeps was image told now = let there = keeps.exit was told in 
   where
     same : (a b : List ℕ) → (let x : Option (List ℕ) = Some a in x) ≡ Some b → a ≡ b
     same a b e = cc
-
--- a map of the same disc has its sectors in the same place
-pub edited_written : (space now : OldMapContent) → now ≡ holding space now.holes → (was image : List ℕ) → IsWritten now [] was image → IsWritten space [] was image
-edited_written space now is was image w =
-    let x : IsWritten (holding space now.holes) [] was image = subst (λ (s : OldMapContent). IsWritten s [] was image) is w in
-    record { length_stays = x.length_stays; writes = x.writes }

@@ -4,7 +4,8 @@ use Rattle.fc_objects.specs.Written.{AreApart}
 use Rattle.fc_volume.proofs.ChangeLemmas.{ok_then}
 use Rattle.fc_device.proofs.DiskLaws.{laws}
 use Rattle.fc_device.proofs.StopLemmas.{keeps_same, keeps_start, keeps_then, keeps_weaker}
-use Rattle.fc_oldvolume.proofs.WritingLemmas.{front_part, front_same, front_then, front_written, row_apart, row_is, row_long, row_low}
+use Rattle.fc_oldvolume.proofs.WritingLemmas.{front_part, front_same, front_then, front_written, row_long, row_low}
+use Rattle.fc_writing.proofs.FrontLemmas.{row_apart, row_is}
 use Rattle.fc_oldvolume.proofs.writing.write_front.Goals as goal
 
 pub returns-clause-keeps : goal.returns-clause-keeps
