@@ -37,7 +37,10 @@ use Rattle.fc_course.proofs.HolderLemmas as holder
 use Rattle.fc_course.proofs.MoveStageLemmas.{renamer}
 use Rattle.fc_course.proofs.RemovalStageLemmas.{view_of}
 use Rattle.fc_course.proofs.TargetLemmas as target_of
-use Rattle.fc_commands.specs.Growth.{GrowsNone}
+
+-- No directory has to grow for the command.
+abbrev pub GrowsNone : Command → Parts → Type 0
+GrowsNone c h = (job : Job) (name bytes : List ℕ) → IsJobFor c h job name bytes → NoneGrows h job name
 
 -- ---- a small directory
 

@@ -41,7 +41,7 @@ module _ (m m' : Map) (same : m'.geometry ≡ m.geometry) (nodes : Nodes) (listi
     first_is : owner_if (Layout.New m) r.target.node r.holder copy.entry ≡ cond (has_sectors it) (Some new) None
     first_is = owner_if_is (Layout.New m) (Layout.New m') (new_alike m m' same) r.target.node r.holder copy lies ∙ by_length
 
-    last_is : owner_if (Layout.New m') r.target.node r.holder copy.entry ≡ cond (has_sectors it) (Some new) None
+    pub last_is : owner_if (Layout.New m') r.target.node r.holder copy.entry ≡ cond (has_sectors (o (Layout.New m) nodes listings from to r name x)) (Some (owner_with (Layout.New m') r.holder r.target.node copy)) None
     last_is = owner_if_is (Layout.New m') (Layout.New m') (new_alike m' m' refl) r.target.node r.holder copy lies ∙ by_length
 
     -- It needs no memory,

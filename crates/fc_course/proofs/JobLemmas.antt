@@ -41,6 +41,11 @@ use Rattle.fc_change.specs.declared.job.Wants.{Wants}
 use Rattle.fc_change.specs.Needs.{AreWants, is_copied, len_at}
 use Rattle.fc_course.proofs.CopyingRunLemmas.{copy_laws}
 use Rattle.fc_course.proofs.MoveRunLemmas.{move_laws}
+use Rattle.fc_course.proofs.GrownMoveBigLemmas.{growth_to}
+use Rattle.fc_course.proofs.GrownMoveLawsLemmas.{grown_move_laws}
+use Rattle.fc_course.proofs.GrownMoveNeedLemmas.{grows_by as move_grows_by, never_old}
+use Rattle.fc_newmap.specs.Map.{Map}
+use Rattle.fc_image.specs.effects.Short.{Growth as Grown}
 use Rattle.fc_course.proofs.MoveStageLemmas.{IsRenamer, renamer}
 
 -- of what comes, where no directory grows by it
@@ -67,16 +72,43 @@ over_of : AdditionLaw → (layout : Layout) (nodes : Nodes) (owners : List Owner
 over_of law (Layout.New m) nodes owners t words name bytes kind few is suffice a c j = new_over.over_laws law m nodes owners is kind a t words few name bytes c j
 over_of law (Layout.Old space) nodes owners t words name bytes kind few is suffice a c j = old_over.over_laws law space nodes owners is.0 is.1 suffice kind a t words few name bytes c j
 
--- of `rename`, whether it copies its file or not
-move_of : MovingLaw → CopyingLaw → (layout : Layout) (nodes : Nodes) (owners : List Owner) (r : Renaming) (from to : Path) (name bytes : List ℕ) (kind : Kind) → IsMapOf layout → PlacesSuffice layout
-    → Agree kind (parts layout nodes owners) → IsRenamer (parts layout nodes owners) from to r name → len_at nodes r.target.node < 2 ^ 32 → NoneGrows (parts layout nodes owners) (jobs.Move r) name
-    → JobLaws kind (parts layout nodes owners) (jobs.Move r) name bytes
-move_of moves copies (Layout.Old space) nodes owners r from to name bytes kind is suffice a it few grows = move_laws moves (Layout.Old space) nodes owners r from to name bytes kind is suffice a it grows refl
-move_of moves copies (Layout.New m) nodes owners r from to name bytes kind is suffice a it few grows = by (is_copied (parts (Layout.New m) nodes owners) r) refl
+-- of `rename`, where no directory grows by it, whether it copies its file or not
+still_move_of : MovingLaw → CopyingLaw → (m : Map) (nodes : Nodes) (owners : List Owner) (r : Renaming) (from to : Path) (name bytes : List ℕ) (kind : Kind) → IsMapOf (Layout.New m) → PlacesSuffice (Layout.New m)
+    → Agree kind (parts (Layout.New m) nodes owners) → IsRenamer (parts (Layout.New m) nodes owners) from to r name → len_at nodes r.target.node < 2 ^ 32 → NoneGrows (parts (Layout.New m) nodes owners) (jobs.Move r) name
+    → JobLaws kind (parts (Layout.New m) nodes owners) (jobs.Move r) name bytes
+still_move_of moves copies m nodes owners r from to name bytes kind is suffice a it few grows = by (is_copied (parts (Layout.New m) nodes owners) r) refl
   where
     by : (b : Bool) → is_copied (parts (Layout.New m) nodes owners) r ≡ b → JobLaws kind (parts (Layout.New m) nodes owners) (jobs.Move r) name bytes
     by true e = copy_laws copies m nodes owners r from to name bytes kind is suffice a it few grows e
     by false e = move_laws moves (Layout.New m) nodes owners r from to name bytes kind is suffice a it grows e
+
+-- whether one grows or not
+move_of : MovingLaw → CopyingLaw → (layout : Layout) (nodes : Nodes) (owners : List Owner) (r : Renaming) (from to : Path) (name bytes : List ℕ) (kind : Kind) → IsMapOf layout → TellsVersion layout → PlacesSuffice layout
+    → Agree kind (parts layout nodes owners) → IsRenamer (parts layout nodes owners) from to r name → len_at nodes r.target.node < 2 ^ 32 → JobLaws kind (parts layout nodes owners) (jobs.Move r) name bytes
+move_of moves copies (Layout.Old space) nodes owners r from to name bytes kind is tells suffice a it few =
+    move_laws moves (Layout.Old space) nodes owners r from to name bytes kind is suffice a it (never_old space nodes owners r from to name kind is a it) refl
+move_of moves copies (Layout.New m) nodes owners r from to name bytes kind is tells suffice a it few = let grows = move_grows_by m nodes owners r from to name kind is a it in by grows.0 grows.1
+  where
+    by : (o : Option Grown) → ((w : Wants) → AreWants (parts (Layout.New m) nodes owners) (jobs.Move r) name w → w.grows ≡ option_map (growth_to r) o) → JobLaws kind (parts (Layout.New m) nodes owners) (jobs.Move r) name bytes
+    by None none = still_move_of moves copies m nodes owners r from to name bytes kind is suffice a it few none
+    by (Some g) some =
+        grown_move_laws
+        (record {
+          m = m;
+          nodes = nodes;
+          owners = owners;
+          kind = kind;
+          r = r;
+          name = name;
+          growth = growth_to r g;
+          is_map = is;
+          tells = tells;
+          suffice = suffice;
+          agree = a;
+          few = few;
+          grows = some;
+        })
+        from to bytes it
 
 pub laws_of : DeletionLaw → RewordingLaw → AdditionLaw → MovingLaw → CopyingLaw → (layout : Layout) (nodes : Nodes) (owners : List Owner) (job : Job) (name bytes : List ℕ) (kind : Kind) → HasLaws (parts layout nodes owners) job name → IsMapOf layout
     → TellsVersion layout → PlacesSuffice layout → Agree kind (parts layout nodes owners) → IsJudged (parts layout nodes owners) job name bytes → JobLaws kind (parts layout nodes owners) job name bytes
@@ -96,4 +128,4 @@ laws_of deletes rewords adds moves copies layout nodes owners (jobs.File (slots.
     over_of adds layout nodes owners target words name bytes kind has is suffice a judged.0 judged.1
 laws_of deletes rewords adds moves copies layout nodes owners (jobs.Move r) name bytes kind has is tells suffice a judged =
     let mine = renamer (parts layout nodes owners) kind a judged.0 r name bytes judged.1 in
-    move_of moves copies layout nodes owners r mine.0 mine.1 name bytes kind is suffice a mine.3 has.0 has.1
+    move_of moves copies layout nodes owners r mine.0 mine.1 name bytes kind is tells suffice a mine.3 has

@@ -79,7 +79,7 @@ new_seen m nodes owners kind root listings from to r name agreed is = record {
   good = is.good;
 }
 
-old_seen : (space : OldMapContent) (nodes : Nodes) (owners : List Owner) (kind : Kind) (root : Node) (listings : List Listing) (from to : Path) (r : Renaming) (name : List ℕ) → IsOldMap space
+pub old_seen : (space : OldMapContent) (nodes : Nodes) (owners : List Owner) (kind : Kind) (root : Node) (listings : List Listing) (from to : Path) (r : Renaming) (name : List ℕ) → IsOldMap space
     → OldAgreeOn kind space nodes owners root listings → IsRenamer (parts (Layout.Old space) nodes owners) from to r name → IsSeen (Layout.Old space) nodes listings from to r name
 old_seen space nodes owners kind root listings from to r name is_map agreed is = record {
   is_map = is_map;

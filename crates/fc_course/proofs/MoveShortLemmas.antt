@@ -93,7 +93,7 @@ module _ (layout : Layout) (nodes : Nodes) (listings : List Listing) (sound : Ar
 
 -- ---- the name that the directory gets
 
-abbrev asked : Option Gain → Bool
+abbrev pub asked : Option Gain → Bool
 asked o = option_map_or (λ (gain : Gain). is_full_with gain.listing.content gain) o false
 
 module _ (v : Opened) (nodes : Nodes) (sound : AreSound v.layout v.listings) (held : HoldObjects nodes v.listings) (from to : Path) (r : Renaming) (known : IsRenaming nodes v.listings from to r) (name : List ℕ)
@@ -122,14 +122,14 @@ module _ (v : Opened) (nodes : Nodes) (sound : AreSound v.layout v.listings) (he
         let folds = sym (folds_alike (holder to) aim.object.path known.destination.above) ∙ sym (folds_alike (holder from) (holder to) alike) ∙ folds_alike (holder from) home.object.path known.target.above in
         absurd (away (same_some r.holder r.target.holder (sym known.destination.holder_is ∙ same_number nodes aim.object.path home.object.path folds ∙ known.target.holder_is))))
 
-    gain_across : gain_in v c ≡ Some (gain_of to aim)
+    pub gain_across : gain_in v c ≡ Some (gain_of to aim)
     gain_across =
         ap (λ (x : Option Object). option_and_then (gain_by_rename v from to) x) there
         ∙ ap₂ (λ (b : Bool) (x : Option Listing).
         if not b then option_map (gain_of to) x
         else if bytes_eq o.entry.name (last_name to) then None else option_map (gain_by_new_name o.entry.name (last_name to)) (listing_at v.listings (holder to))) holders_apart aim_found
 
-    gets_more : GetsName aim.content name (gain_of to aim)
+    pub gets_more : GetsName aim.content name (gain_of to aim)
     gets_more = record { name_is = sym name_is; names_are = ap (λ (n : List ℕ). map (λ (e : Entry). e.name) (entries_of aim.content) ++ n ∷ []) (sym name_is) }
 
   module _ (here : r.holder ≡ r.target.holder) where
@@ -142,23 +142,23 @@ module _ (v : Opened) (nodes : Nodes) (sound : AreSound v.layout v.listings) (he
     holders_same : is_same_path (holder from) (holder to) ≡ true
     holders_same = same_by_folds (holder from) (holder to) (folds_alike (holder from) home.object.path known.target.above ∙ sym (folds_alike (holder to) home.object.path above_to))
 
-    abbrev gain : Gain
+    abbrev pub gain : Gain
     gain = gain_by_new_name o.entry.name (last_name to) home
 
-    gain_within : gain_in v c ≡ cond (bytes_eq o.entry.name (last_name to)) None (Some gain)
+    pub gain_within : gain_in v c ≡ cond (bytes_eq o.entry.name (last_name to)) None (Some gain)
     gain_within =
         ap (λ (x : Option Object). option_and_then (gain_by_rename v from to) x) there
         ∙ ap₂ (λ (b : Bool) (x : Option Listing).
         if not b then gain_at v to
         else if bytes_eq o.entry.name (last_name to) then None else option_map (gain_by_new_name o.entry.name (last_name to)) x) holders_same home_found
 
-    gets_other : GetsNameFor home.content o.entry.name name gain
+    pub gets_other : GetsNameFor home.content o.entry.name name gain
     gets_other = record {
       name_is = sym name_is;
       names_are = ap (λ (n : List ℕ). filter (λ (m : List ℕ). not (is_same_name m o.entry.name)) (map (λ (e : Entry). e.name) (entries_of home.content)) ++ n ∷ []) (sym name_is);
     }
 
-    other : bytes_eq o.entry.name (last_name to) ≡ false → o.entry.name ≡ name → ⊥
+    pub other : bytes_eq o.entry.name (last_name to) ≡ false → o.entry.name ≡ name → ⊥
     other differ same = unlike o.entry.name (last_name to) differ (same ∙ name_is)
 
   -- ---- if it fits, none grows, and none is full

@@ -205,14 +205,14 @@ module _ (layout : Layout) (nodes : Nodes) (listings : List Listing) (from to : 
 
   -- ---- what its directories can be told
 
-  it_held : CanHold home.content it.entry
+  pub it_held : CanHold home.content it.entry
   it_held = held_in home.content r.target.at it.entry (sayable home.content (x.bodies home x.known.target.listed)) (entry_there layout nodes listings from to r name x)
     where
       sayable : (dir : Directory) → IsDirectory dir → IsSayable dir
       sayable (Directory.Small dir) is = is
       sayable (Directory.Big dir) is = is
 
-  at_low : r.target.at < length (entries_of home.content)
+  pub at_low : r.target.at < length (entries_of home.content)
   at_low = slice_get_within (entries_of home.content) r.target.at it.entry (entry_there layout nodes listings from to r name x)
 
   can_rename : r.holder ≡ r.target.holder → CanTell None nodes r.holder (Rewriting.Renames r.target.at entry_now)
@@ -224,7 +224,7 @@ module _ (layout : Layout) (nodes : Nodes) (listings : List Listing) (from to : 
         absent_beside layout nodes listings from to r name x here,
       ) x.forms x.is_map
 
-  aim_held : CanHold aim.content it.entry
+  pub aim_held : CanHold aim.content it.entry
   aim_held = alike_held (dir_form layout) home.object.entry.len aim.object.entry.len home.content aim.content it.entry (x.forms home x.known.target.listed) (x.forms aim x.known.destination.listed) it_held
 
   -- the other directory, at an address that it can hold

@@ -66,11 +66,11 @@ CopiesNone from.Nothing = Unit {0}
 CopiesNone (from.Bytes place) = Unit {0}
 CopiesNone (from.Sectors t) = ⊥
 
-flat_app : (size : ℕ) (xs ys : List Put) → contents_of size (xs ++ ys) ≡ contents_of size xs ++ contents_of size ys
+pub flat_app : (size : ℕ) (xs ys : List Put) → contents_of size (xs ++ ys) ≡ contents_of size xs ++ contents_of size ys
 flat_app size [] ys = refl
 flat_app size (x ∷ xs) ys = ap (λ (c : Content). stored size x.sectors x.bytes ++ c) (flat_app size xs ys) ∙ sym (append_assoc (stored size x.sectors x.bytes) (contents_of size xs) (contents_of size ys))
 
-flat_pieces : (size : ℕ) (ps : List Piece) → contents_of size (map put_of ps) ≡ flat_map (content_of size) ps
+pub flat_pieces : (size : ℕ) (ps : List Piece) → contents_of size (map put_of ps) ≡ flat_map (content_of size) ps
 flat_pieces size [] = refl
 flat_pieces size (p ∷ ps) = ap (λ (c : Content). content_of size p ++ c) (flat_pieces size ps)
 

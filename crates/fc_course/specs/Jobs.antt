@@ -41,12 +41,11 @@ FitAttributes forms.Long attrs = Unit {0}
 abbrev pub NoneGrows : Parts → Job → List ℕ → Type 0
 NoneGrows h job name = (w : Wants) → AreWants h job name w → w.grows ≡ None
 
--- The laws of these jobs stand, if an entry can hold the access bits, the attributes and the length that they give, and no directory
--- grows by `rename`.
+-- The laws of these jobs stand, if an entry can hold the access bits, the attributes and the length that they give.
 abbrev pub HasLaws : Parts → Job → List ℕ → Type 0
 HasLaws h (jobs.Removal target) name = Unit {0}
 HasLaws h (jobs.Words target words) name = words.access < 8
 HasLaws h (jobs.Marks target attrs) name = FitAttributes (dir_form h.layout) attrs
 HasLaws h (jobs.Directory dir) name = Unit {0}
 HasLaws h (jobs.File slot words) name = words.len < 2 ^ 32
-HasLaws h (jobs.Move renaming) name = (len_at h.nodes renaming.target.node < 2 ^ 32) × NoneGrows h (jobs.Move renaming) name
+HasLaws h (jobs.Move renaming) name = len_at h.nodes renaming.target.node < 2 ^ 32

@@ -21,14 +21,11 @@ use Rattle.fc_holdings.specs.Answers.{UnlessFault}
 use Rattle.fc_holdings.specs.Holdings as held
 use Rattle.fc_course.specs.Promises as course
 use Rattle.fc_commands.specs.Answers as commands
-use Rattle.fc_commands.specs.Growth.{GrowsNone}
-use Rattle.fc_commands.proofs.GrowthLemmas.{old_grows_none}
 use Rattle.fc_volume.specs.Changing.{AnswersOver, HasChanged}
 use Rattle.fc_volume.specs.Fitness.{fit_after}
 use Rattle.fc_volume.specs.Volume.{StandsFor, Volume, holdings_of, parts_of}
 use Rattle.fc_volume.proofs.HoldingsLemmas.{fit_unless, stand, unchanged, unless, volume_of, volume_stands}
 use Rattle.fc_oldvolume.specs.Changing.{ChangeKeeps, IsOldLayout, WritesOnlyPlaces, WritesPlaces}
-use Rattle.fc_oldvolume.proofs.ChangeLemmas.{old_layout}
 
 -- ---- the layout
 
@@ -63,17 +60,9 @@ places_on layout kind view c was image space at written =
 pub was_old : (was : Volume) (h : Holdings) (read_only fit : Bool) (view : volume_of h read_only fit ≡ was) → IsOldLayout (parts_of was).layout → IsOldLayout (layout_of h.places)
 was_old was h read_only fit view is = subst (λ (v : Volume). IsOldLayout (parts_of v).layout) (sym view) is
 
--- so that it stands for the disk,
+-- so that it stands for the disk.
 pub stand_old : {D : Type 0} (d : Ghosts D) (was : Volume) (h : Holdings) (read_only fit : Bool) (view : volume_of h read_only fit ≡ was) (old : D) → IsOldLayout (parts_of was).layout → StandsFor d was old → held.Stands d h old
 stand_old d was h read_only fit view old is stands = stand was h read_only fit view d old (old_tells (parts_of was).layout is) stands
-
--- and no directory grows for a command.
-pub none_grows : {D : Type 0} (d : Ghosts D) (c : Command) (was : Volume) (h : Holdings) (read_only fit : Bool) (view : volume_of h read_only fit ≡ was) (old : D) → StandsFor d was old → IsOldLayout (parts_of was).layout
-    → GrowsNone c (held.parts_of h)
-none_grows d c was h read_only fit view old stands is =
-    let agree = (stand_old d was h read_only fit view old is stands).agree in
-    let o = old_layout (layout_of h.places) (was_old was h read_only fit view is) in
-    old_grows_none (held.parts_of h) agree.0 agree.1 o.0 o.1 c
 
 module _ {D : Type 0} (d : Ghosts D) (law : Laws d) (c : Command) (was : Volume) (h h' : Holdings) (read_only fit : Bool) (view : volume_of h read_only fit ≡ was) (old new : D)
     (result : Result (Unit {0}) CommandError) (fit' : Bool) (fit_is : fit' ≡ fit_after result) where

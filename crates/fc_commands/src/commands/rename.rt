@@ -8,7 +8,6 @@ ghost use Rattle.fc_holdings.specs.Holdings.{Stands, parts_of};
 ghost use Rattle.fc_course.specs.Jobs.{HasLaws};
 ghost use Rattle.fc_course.specs.Promises.{ChangeKeeps, HasChanged, WritesPlacesOf};
 ghost use Rattle.fc_commands.specs.Answers.{AnswersOver};
-ghost use Rattle.fc_commands.specs.Growth.{GrowsNone};
 ghost use Rattle.fc_commands.specs.Judgments.{CommandLeaves, IsJudgment};
 
 use crate::judged::{Judged, carry_out};
@@ -46,7 +45,7 @@ pub fn rename_job(
     to: &Path,
 ) -> Result<Judged, CommandError>
     ensures judged { IsJudgment read_only (Command.Rename from.now to.now) (parts_of holdings.now) [] result }
-    ensures covered { GrowsNone (Command.Rename from.now to.now) (parts_of holdings.now) → IfOk result (λ judged. HasLaws (parts_of holdings.now) judged.job judged.name) }
+    ensures covered { IfOk result (λ judged. HasLaws (parts_of holdings.now) judged.job judged.name) }
 {
     let form = holdings.places.dir_form();
     let renaming = judge_rename(&holdings.tree, form, read_only, from, to)?;
@@ -61,7 +60,7 @@ pub fn rename_job(
 /// Gives an object another name, another directory, or both. Copies of a new map that may differ are made equal first. The directory that
 /// gets the entry is written, then the object's own, if it is a directory, and last the directory that loses the entry. The object
 /// stays where it is, and so does the map; but a file that shares its identifier and leaves its directory is copied first, and gives
-/// its space back last.
+/// its space back last. If the directory that gets the entry has to grow, it is written to its new place first.
 ///
 /// Refused with the first reason that applies, and then nothing has changed; `NoMemory` leaves all as it was, too. `DiskFault` only if
 /// the disk's count of faults rose; the holdings stand for nothing afterwards.
@@ -76,7 +75,6 @@ pub fn rename<D: Disk>(
     requires attached { IsTrue (D.attached disk.old) }
     requires settled { IsFalse (D.pending disk.old) }
     requires stands { Stands D.Disk holdings.old disk.old }
-    requires grows { GrowsNone (Command.Rename from.now to.now) (parts_of holdings.old) }
     ensures refused { AnswersOver read_only (Command.Rename from.now to.now) (parts_of holdings.old) result }
     ensures changed { OnOk result (HasChanged D.Disk (Command.Rename from.now to.now) (parts_of holdings.old) (parts_of holdings.new) disk.old disk.new) }
     ensures places { StopsAndExitsLeave D.Disk disk.old disk.new (WritesPlacesOf (Command.Rename from.now to.now) (parts_of holdings.old)) }

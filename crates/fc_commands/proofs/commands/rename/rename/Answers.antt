@@ -8,7 +8,7 @@ pub carry_out-requires-clause-judged : goal.carry_out-requires-clause-judged
 carry_out-requires-clause-judged g c = (Command.Rename c.args.from.now c.args.to.now, c.args.read_only, c.rename_job-judged.ensures.judged)
 
 pub carry_out-requires-clause-covered : goal.carry_out-requires-clause-covered
-carry_out-requires-clause-covered g c = c.rename_job-judged.ensures.covered c.requires.grows
+carry_out-requires-clause-covered g c = c.rename_job-judged.ensures.covered
 
 pub returns-clause-refused : goal.returns-clause-refused
 returns-clause-refused g c = c.carry_out.ensures.refused (Command.Rename c.args.from.now c.args.to.now) c.args.read_only c.rename_job-judged.ensures.judged

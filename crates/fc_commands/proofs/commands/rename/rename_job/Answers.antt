@@ -17,12 +17,4 @@ returns-clause-judged c =
     (λ v image sound held. by_form c.dir_form-form.result h.layout image v c.args.read_only cmd _ c.dir_form-form.ensures held.layout (c.in_ok-renaming.ensures.refusal image v.layout v.listings sound held.nodes)) refl
 
 pub returns-clause-covered : goal.returns-clause-covered
-returns-clause-covered c = λ grows.
-    let h = parts_of c.args.holdings.now in
-    let cmd = Command.Rename c.args.from.now c.args.to.now in (
-      c.few_bytes.ensures,
-      grows (jobs.Move c.in_ok-renaming.renaming) c.in_ok-name.name []
-          (judged_job c.args.read_only cmd h (jobs.Move c.in_ok-renaming.renaming) c.in_ok-name.name []
-          (λ v sound held. let renaming = c.in_ok-renaming.ensures.renaming v.layout v.listings sound held.nodes in (renaming, c.in_ok-name.ensures renaming.destination.no_root))
-          (λ v image sound held. by_form c.dir_form-form.result h.layout image v c.args.read_only cmd _ c.dir_form-form.ensures held.layout (c.in_ok-renaming.ensures.refusal image v.layout v.listings sound held.nodes)) refl).0,
-    )
+returns-clause-covered c = c.few_bytes.ensures

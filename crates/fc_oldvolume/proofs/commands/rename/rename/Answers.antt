@@ -5,15 +5,12 @@ use Rattle.fc_holdings.specs.Holdings as held
 use Rattle.fc_volume.specs.Volume.{Volume, parts_of}
 use Rattle.fc_oldvolume.specs.Changing.{WritesNoMap}
 use Rattle.fc_oldvolume.proofs.ChangeLemmas.{old_layout}
-use Rattle.fc_oldvolume.proofs.CommandLemmas.{answers, changes, form, keeps_volume, none_grows, places, stand_old, was_old}
+use Rattle.fc_oldvolume.proofs.CommandLemmas.{answers, changes, form, keeps_volume, places, stand_old, was_old}
 use Rattle.fc_oldvolume.proofs.MapLemmas.{rename_unmapped}
 use Rattle.fc_oldvolume.proofs.commands.rename.rename.Goals as goal
 
 pub rename-answer-requires-clause-stands : goal.rename-answer-requires-clause-stands
 rename-answer-requires-clause-stands g c = stand_old g.D.Disk c.args.volume.now c.volume.inside.holdings c.volume.inside.read_only c.volume.inside.fit c.volume.view_is c.args.disk.now c.requires.old_map c.requires.stands
-
-pub rename-answer-requires-clause-grows : goal.rename-answer-requires-clause-grows
-rename-answer-requires-clause-grows g c = none_grows g.D.Disk (Command.Rename c.args.from.now c.args.to.now) c.args.volume.now c.volume.inside.holdings c.volume.inside.read_only c.volume.inside.fit c.volume.view_is c.args.disk.now c.requires.stands c.requires.old_map
 
 pub returns-clause-refused : goal.returns-clause-refused
 returns-clause-refused g c =
