@@ -11,7 +11,7 @@ use Rattle.fc_runs.specs.Run.{commands_in, script_for}
 use Rattle.fc_runs.specs.Stops.{MayHaveLeft}
 use Rattle.fc_words.specs.CommandLine.{Request}
 use Rattle.fc_shell.specs.declared.ending.End.{End}
-use Rattle.fc_shell.specs.declared.ending.End.TheVariants.{Done, Refused, BadWords, BadImage, DiskFault, ScriptFault, OutFault, NoMemory, ScriptTooLong, NotBuilt, NoImage}
+use Rattle.fc_shell.specs.declared.ending.End.TheVariants.{Done, Refused, BadWords, BadImage, DiskFault, ScriptFault, OutFault, NoMemory, ScriptTooLong, NotBuilt, HostFault, NoImage}
 use Rattle.fc_shell.specs.Headline.{IsAnsweredByMap, start_of}
 use Rattle.fc_shell.specs.Modes.{plain_mode}
 use Rattle.fc_shell.specs.Promise.{EndsBefore, EndsByGiving, EndsByLength, EndsByOpening, EndsByWords, EndsOnFault, EndsOver, EndsWithout, Promise}
@@ -55,6 +55,7 @@ module _ {D : Type 0} (d : Ghosts D) (old new : D) (headline : HeadlineLaw) (acc
   over v fresh NoMemory o w x = absurd w
   over v fresh ScriptTooLong o w x = absurd w
   over v fresh NotBuilt o w x = absurd w
+  over v fresh HostFault o w x = absurd w
   over v fresh NoImage o w x = absurd w
 
   on_fault : (fault : ImageFault) (end : End) → IsWhole end → EndsOnFault d old new fault text end → ⊥
@@ -68,6 +69,7 @@ module _ {D : Type 0} (d : Ghosts D) (old new : D) (headline : HeadlineLaw) (acc
   on_fault fault NoMemory w x = w
   on_fault fault ScriptTooLong w x = w
   on_fault fault NotBuilt w x = w
+  on_fault fault HostFault w x = w
   on_fault fault NoImage w x = w
 
   without : (fresh : Bool) (end : End) → IsWhole end → EndsWithout d old new fresh text end → ⊥
@@ -81,6 +83,7 @@ module _ {D : Type 0} (d : Ghosts D) (old new : D) (headline : HeadlineLaw) (acc
   without fresh NoMemory w x = w
   without fresh ScriptTooLong w x = w
   without fresh NotBuilt w x = w
+  without fresh HostFault w x = w
   without fresh NoImage w x = w
 
   early : (reason end : End) → (IsWhole reason → ⊥) → IsWhole end → EndsBefore d old new reason text end → ⊥

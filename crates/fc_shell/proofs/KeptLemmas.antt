@@ -16,7 +16,7 @@ use Rattle.fc_image.specs.Opening.{Opened, open_image}
 use Rattle.fc_words.specs.CommandLine.{Request}
 use Rattle.fc_words.specs.declared.Format.{Format as Word}
 use Rattle.fc_shell.specs.declared.ending.End.{End}
-use Rattle.fc_shell.specs.declared.ending.End.TheVariants.{Done, Refused, BadWords, BadImage, DiskFault, ScriptFault, OutFault, NoMemory, ScriptTooLong, NotBuilt, NoImage}
+use Rattle.fc_shell.specs.declared.ending.End.TheVariants.{Done, Refused, BadWords, BadImage, DiskFault, ScriptFault, OutFault, NoMemory, ScriptTooLong, NotBuilt, HostFault, NoImage}
 use Rattle.fc_shell.specs.Reads.{Spares, only_reads}
 use Rattle.fc_shell.specs.Ends.{AsksFor, is_late, is_over_image}
 use Rattle.fc_shell.specs.Kept.{RunKeeps, RunSpares, SessionKeeps}
@@ -57,6 +57,7 @@ late_asks image OutFault old new late is = is
 late_asks image NoMemory old new late is = inr is
 late_asks image NotBuilt old new late is = absurd (no_fresh late)
 late_asks image NoImage old new late is = is
+late_asks image HostFault old new late is = is
 late_asks image BadWords old new late is = absurd (no_fresh late)
 late_asks image ScriptFault old new late is = absurd (no_fresh late)
 late_asks image ScriptTooLong old new late is = absurd (no_fresh late)

@@ -17,7 +17,6 @@ mod ScriptLemmas
 mod ServingLemmas
 mod StepLemmas
 pub mod AnsweredLemmas
-pub mod ErrorLemmas
 pub mod HashLemmas
 pub mod BlockLemmas
 pub mod DigitLemmas
@@ -25,3 +24,10 @@ pub mod ReplyLemmas
 pub mod ShortageLemmas
 pub mod ToldLemmas
 pub mod WritingLemmas
+pub mod MovingLemmas
+pub mod GettingLemmas
+mod HostLineLemmas
+mod HostServingLemmas
+mod HostPromiseLemmas
+mod HostKeptLemmas
+mod HostHeadlineLemmas

@@ -20,7 +20,7 @@ use Rattle.fc_runs.specs.Stops.{MayHaveLeft}
 use Rattle.fc_runs.proofs.ReadLemmas.{read_law}
 use Rattle.fc_words.specs.CommandLine.{Request}
 use Rattle.fc_shell.specs.declared.ending.End.{End}
-use Rattle.fc_shell.specs.declared.ending.End.TheVariants.{Done, Refused, BadWords, BadImage, DiskFault, ScriptFault, OutFault, NoMemory, ScriptTooLong, NotBuilt, NoImage}
+use Rattle.fc_shell.specs.declared.ending.End.TheVariants.{Done, Refused, BadWords, BadImage, DiskFault, ScriptFault, OutFault, NoMemory, ScriptTooLong, NotBuilt, HostFault, NoImage}
 use Rattle.fc_shell.specs.Reads.{all_read, is_reading_line, only_reads}
 use Rattle.fc_shell.specs.Modes.{plain_mode}
 use Rattle.fc_shell.specs.Promise.{EndsBefore, EndsByGiving, EndsByLength, EndsByOpening, EndsByWords, EndsOnFault, EndsOver, EndsWithout, Promise}
@@ -108,6 +108,7 @@ module _ {D : Type 0} (d : Ghosts D) (old new : D) (before after : Option (List 
     over_as (BadImage fault) x = absurd x
     over_as ScriptTooLong x = absurd x
     over_as NotBuilt x = absurd x
+    over_as HostFault x = absurd x
     over_as NoImage x = absurd x
 
   fault_as : (fault : ImageFault) (end : End) → EndsOnFault d old new fault text end → EndsAs (record { end = BadImage fault; text = bad_image_line fault }) end before after
@@ -121,6 +122,7 @@ module _ {D : Type 0} (d : Ghosts D) (old new : D) (before after : Option (List 
   fault_as fault BadWords x = absurd x
   fault_as fault ScriptTooLong x = absurd x
   fault_as fault NotBuilt x = absurd x
+  fault_as fault HostFault x = absurd x
   fault_as fault NoImage x = absurd x
 
   without_as : (fresh : Bool) (end : End) → EndsWithout d old new fresh text end → EndsAs (silent NoImage) end before after
@@ -136,6 +138,7 @@ module _ {D : Type 0} (d : Ghosts D) (old new : D) (before after : Option (List 
   without_as fresh BadWords x = absurd x
   without_as fresh ScriptTooLong x = absurd x
   without_as fresh NotBuilt x = absurd x
+  without_as fresh HostFault x = absurd x
 
   before_as : (reason end : End) → (Wrote before after [] → EndsAs (silent reason) reason before after) → EndsBefore d old new reason text end → EndsAs (silent reason) end before after
   before_as reason end at (inl is, x) = subst (λ (e : End). EndsAs (silent reason) e before after) (sym is) (at (subst (Wrote before after) x.told wrote))

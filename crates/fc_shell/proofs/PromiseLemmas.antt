@@ -18,7 +18,7 @@ use Rattle.fc_runs.specs.Run.{Mode}
 use Rattle.fc_runs.specs.Stops.{MayHaveLeft, Stops}
 use Rattle.fc_words.specs.CommandLine.{Request}
 use Rattle.fc_shell.specs.declared.ending.End.{End}
-use Rattle.fc_shell.specs.declared.ending.End.TheVariants.{Done, Refused, BadWords, BadImage, DiskFault, ScriptFault, OutFault, NoMemory, ScriptTooLong, NotBuilt, NoImage}
+use Rattle.fc_shell.specs.declared.ending.End.TheVariants.{Done, Refused, BadWords, BadImage, DiskFault, ScriptFault, OutFault, NoMemory, ScriptTooLong, NotBuilt, HostFault, NoImage}
 use Rattle.fc_shell.specs.declared.answer.LineFault.{LineFault}
 use Rattle.fc_shell.specs.declared.answer.LineFault.TheVariants as lines
 use Rattle.fc_shell.specs.declared.tally.Tally.{Tally}
@@ -52,7 +52,7 @@ is_last end = false
 
 module _ {D : Type 0} {d : Ghosts D} (law : Laws d) (old mid new : D) (first : LeavesOnly d.moment d.left_since old mid (λ image. Unit {0}))
     (second : LeavesOnly d.moment d.left_since mid new (λ image. Unit {0})) (tells : d.tells_stops mid ≡ d.tells_stops old) (quiet : d.pending mid ≡ false) where
-  may_from : (image : List ℕ) → MayHaveLeft d mid new image → MayHaveLeft d old new image
+  pub may_from : (image : List ℕ) → MayHaveLeft d mid new image → MayHaveLeft d old new image
   may_from image may told = law.earlier new (d.moment old) (d.moment mid) image first.later (may (tells ∙ told))
 
   -- nothing was written
@@ -131,9 +131,10 @@ module _ {D : Type 0} {d : Ghosts D} (law : Laws d) (old mid new : D) (first : L
     over_from (BadImage fault) late x = absurd x
     over_from ScriptTooLong late x = absurd x
     over_from NotBuilt late x = absurd x
+    over_from HostFault late x = absurd x
     over_from NoImage late x = absurd x
 
-  fault_from : (fault : ImageFault) (text : List ℕ) (end : End) → IsUnwritten d old mid → EndsOnFault d mid new fault text end → EndsOnFault d old new fault text end
+  pub fault_from : (fault : ImageFault) (text : List ℕ) (end : End) → IsUnwritten d old mid → EndsOnFault d mid new fault text end → EndsOnFault d old new fault text end
   fault_from fault text (BadImage found) same x = (x.0, none_from _ text same x.1)
   fault_from fault text ScriptFault same x = none_from [] text same x
   fault_from fault text DiskFault same x = none_from [] text same x
@@ -144,6 +145,7 @@ module _ {D : Type 0} {d : Ghosts D} (law : Laws d) (old mid new : D) (first : L
   fault_from fault text BadWords same x = absurd x
   fault_from fault text ScriptTooLong same x = absurd x
   fault_from fault text NotBuilt same x = absurd x
+  fault_from fault text HostFault same x = absurd x
   fault_from fault text NoImage same x = absurd x
 
   pub ends_from : Accepts → (read_only fresh : Bool) (demo : Option ℕ) (image script text : List ℕ) (end : End) → d.bytes mid ≡ Some image → (fresh ≡ false → IsUnwritten d old mid)
@@ -228,7 +230,7 @@ served_ends d old new kind read_only s script before after (Err lines.NoMemory) 
 -- ---- the disk as it was
 
 module _ {D : Type 0} {d : Ghosts D} (law : Laws d) (disk : D) where
-  same_unwritten : IsUnwritten d disk disk
+  pub same_unwritten : IsUnwritten d disk disk
   same_unwritten = record { bytes_stay = refl; stops = started law disk (d.left_since disk (d.moment disk)) (λ image left. left); faults = omega arith }
 
   pub none : HasNoRun d disk disk [] []

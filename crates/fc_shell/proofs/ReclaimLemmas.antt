@@ -36,7 +36,8 @@ use Rattle.fc_lost.specs.Reclaiming.{ReclaimKeeps, reclaim_refusal}
 use Rattle.fc_shell.specs.declared.answer.LineFault.{LineFault}
 use Rattle.fc_shell.specs.Answered.{Answered}
 use Rattle.fc_shell.specs.Changing.{IsReclaiming, KeepsVolume, TellsBy, reclaimed_reply}
-use Rattle.fc_shell.specs.Line.{IsDone, KeepsGoing, LeavesTree, LineEnds}
+use Rattle.fc_runs.specs.Meanwhile.{LeavesTree}
+use Rattle.fc_shell.specs.Line.{IsDone, KeepsGoing, LineEnds}
 use Rattle.fc_shell.specs.Modes.{plain_mode}
 use Rattle.fc_shell.specs.Reads.{is_reading_line}
 use Rattle.fc_shell.specs.Writing.{Wrote, WrotePart}

@@ -28,7 +28,6 @@ use Rattle.fc_shell.specs.declared.reply.Reply.{Reply}
 use Rattle.fc_shell.proofs.ShortageLemmas.{shortage_none}
 use Rattle.fc_runs.specs.Run.{is_error, keeps_tree}
 use Rattle.fc_runs.proofs.ErrorLemmas.{ok_no_error}
-use Rattle.fc_tree.proofs.PathLemmas.{some_same as same_node}
 
 -- ---- replies in memory
 

@@ -8,7 +8,7 @@ use Rattle.std.proofs.lemmas.List.Sums.{sum_by-cons, sum_by_push}
 use Rattle.std.proofs.lemmas.Grind.{common_steps, flat_map-append}
 use Rattle.std.proofs.Math.Seq.{take-append-add}
 use Rattle.fc_device.specs.declared.disk.Disk.{Ghosts}
-use Rattle.fc_device.proofs.DiskLaws.{Laws, form_same, form_then}
+use Rattle.fc_device.proofs.DiskLaws.{Laws}
 use Rattle.fc_device.proofs.StopLemmas.{goes_on, started}
 use Rattle.fc_record.specs.declared.Kind.{Kind}
 use Rattle.fc_image.specs.Stays.{IsNewLayout, OpensAs}
@@ -16,10 +16,14 @@ use Rattle.fc_image.specs.effects.Effect.{State, tree_in}
 use Rattle.fc_image.specs.safe.SafeEffect.{HasTree}
 use Rattle.fc_script.specs.Lines.{command_of}
 use Rattle.fc_runs.specs.Early.{reply_begun, text_begun}
+use Rattle.fc_runs.specs.Meanwhile.{GoesOn}
 use Rattle.fc_runs.specs.Promises.{spares_disk}
 use Rattle.fc_runs.specs.Run.{Mode, Step, Steps, all_keep_tree, commands_in, each_line, is_error, keeps_tree_or, text_of, whole_replies}
 use Rattle.fc_runs.specs.Stops.{MayHaveLeft, all_leave_image, is_kept_by_next, leaves_image_or}
+use Rattle.fc_runs.proofs.MeanwhileLemmas.{goes_then}
 use Rattle.fc_runs.proofs.RepliesLemmas.{taken_kept}
+use Rattle.fc_runs.proofs.StepLemmas.{has_tree, step_keeps, step_leaves}
+use Rattle.fc_runs.proofs.TextLemmas.{begun_front, front_part, get_next, one_more, whole_all}
 use Rattle.fc_tree.specs.Parts.{ArePartsOf}
 use Rattle.fc_volume.specs.Volume.{Volume, parts_of}
 use Rattle.fc_shell.specs.declared.answer.LineFault.{LineFault}
@@ -27,15 +31,12 @@ use Rattle.fc_shell.specs.declared.answer.LineFault.TheVariants as lines
 use Rattle.fc_shell.specs.declared.tally.Tally.{Tally}
 use Rattle.fc_shell.specs.Reads.{Spares, all_read, is_reading_line}
 use Rattle.fc_shell.specs.Counted.{AreCounted, has_refused}
-use Rattle.fc_shell.specs.Line.{BreaksOff, GoesOn, IsAnswered, IsCutOff, IsDone, LineEnds}
+use Rattle.fc_shell.specs.Line.{BreaksOff, IsAnswered, IsCutOff, IsDone, LineEnds}
 use Rattle.fc_shell.specs.Modes.{plain_mode}
 use Rattle.fc_shell.specs.Serving.{AreDone, HasServed, ServesAs, cause_of}
 use Rattle.fc_shell.specs.Writing.{Wrote}
-use Rattle.fc_shell.proofs.StepLemmas.{step_keeps, step_leaves}
 use Rattle.fc_shell.proofs.WritingLemmas.{wrote_nothing, wrote_both}
 use Rattle.std.proofs.lemmas.Bool.{and_parts as both_true, and_from as true_both}
-use Rattle.fc_runs.proofs.TextLemmas.{one_more, whole_all, get_next, front_part, begun_front}
-use Rattle.fc_runs.proofs.StepLemmas.{has_tree}
 
 -- ---- tests
 
@@ -147,11 +148,11 @@ module _ (May : List ℕ → Type 0) (mode : Mode) where
 
 -- ---- counts
 
-none_counted : (tally : Tally) → tally.replies ≡ 0 → tally.refused ≡ 0 → AreCounted [] tally
+pub none_counted : (tally : Tally) → tally.replies ≡ 0 → tally.refused ≡ 0 → AreCounted [] tally
 none_counted tally replies refused = record { replies_are = replies; refused_are = refused }
 
 -- a reply more
-one_counted : (replies : List (List ℕ)) (reply : List ℕ) (refused : Bool) (was now : Tally) → AreCounted replies was → refused ≡ is_error reply
+pub one_counted : (replies : List (List ℕ)) (reply : List ℕ) (refused : Bool) (was now : Tally) → AreCounted replies was → refused ≡ is_error reply
     → now.replies ≡ was.replies + 1 → now.refused ≡ was.refused + cond refused 1 0 → AreCounted (replies ++ reply ∷ []) now
 one_counted replies reply refused was now are is more errors = record {
   replies_are = more ∙ ap (λ (n : ℕ). n + 1) are.replies_are ∙ sym (length-append replies (reply ∷ []));
@@ -187,16 +188,6 @@ is_disk lines.NoMemory h = absurd (cc)
 -- ---- lines that were done
 
 module _ {D : Type 0} {d : Ghosts D} (law : Laws d) where
-  pub goes_same : (s : D) → GoesOn d s s
-  goes_same s = record { form = form_same d s; stops = started law s (λ image. Unit {0}) (λ image left. tt); faults = omega arith }
-
-  pub goes_then : {old mid new : D} → GoesOn d old mid → GoesOn d mid new → GoesOn d old new
-  goes_then first second = record {
-    form = form_then d first.form second.form;
-    stops = goes_on law first.stops second.stops (λ image left. tt);
-    faults = omega (arith, first.faults, second.faults);
-  }
-
   module _ (kind : Kind) (read_only : Bool) (s : State) (script : List ℕ) (old : D) (told : d.bytes old ≡ Some s.image) (quiet : d.pending old ≡ false) (opens : OpensAs s.image kind s.view) where
     abbrev mode : Mode
     mode = plain_mode kind read_only
@@ -317,7 +308,7 @@ module _ {D : Type 0} {d : Ghosts D} (law : Laws d) where
           record {
             end = are.state;
             ended = record {
-              start = start_left new (goes_then first second);
+              start = start_left new (goes_then law first second);
               replies = are.replies;
               steps = subst (λ (lines : List (List ℕ)). Steps (MayHaveLeft d old new) mode s lines are.replies are.state) (sym front) are.steps;
               told = (length (text_of was.replies) + part.0, is);
@@ -365,7 +356,7 @@ module _ {D : Type 0} {d : Ghosts D} (law : Laws d) where
           record {
             end = are.state;
             ended = record {
-              start = start_left new (goes_then first second);
+              start = start_left new (goes_then law first second);
               replies = are.replies;
               steps = subst (λ (lines : List (List ℕ)). Steps (MayHaveLeft d old new) mode s lines are.replies are.state) (sym front)
                   (steps_weaker May (MayHaveLeft d old new) (λ image may tells. second.stops.keeps (d.moment old) image first.stops.later (may tells)) mode s are.state are.done are.replies are.steps);

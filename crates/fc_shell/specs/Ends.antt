@@ -3,9 +3,11 @@ use Rattle.std.specs.Prelude.{◌≡◌, ◌⊎◌, ℕ, Bool, true, false, List
 use Rattle.fc_device.specs.Asked.{Asked}
 use Rattle.fc_shell.specs.declared.answer.LineFault.{LineFault}
 use Rattle.fc_shell.specs.declared.answer.LineFault.TheVariants as lines
+use Rattle.fc_shell.specs.declared.moving.MoveFault.{MoveFault}
+use Rattle.fc_shell.specs.declared.moving.MoveFault.TheVariants as moves
 use Rattle.fc_shell.specs.declared.tally.Tally.{Tally}
 use Rattle.fc_shell.specs.declared.ending.End.{End}
-use Rattle.fc_shell.specs.declared.ending.End.TheVariants.{Done, Refused, BadWords, BadImage, DiskFault, ScriptFault, OutFault, NoMemory, ScriptTooLong, NotBuilt, NoImage}
+use Rattle.fc_shell.specs.declared.ending.End.TheVariants.{Done, Refused, BadWords, BadImage, DiskFault, ScriptFault, OutFault, NoMemory, ScriptTooLong, NotBuilt, HostFault, NoImage}
 use Rattle.fc_shell.specs.Counted.{has_refused}
 
 -- the exit statuses
@@ -20,6 +22,7 @@ status_of OutFault = 6
 status_of NoMemory = 7
 status_of ScriptTooLong = 8
 status_of NotBuilt = 9
+status_of HostFault = 11
 status_of NoImage = 12
 
 -- ---- when a run ends so
@@ -36,6 +39,14 @@ end_of (Err lines.Disk) = DiskFault
 end_of (Err lines.Out) = OutFault
 end_of (Err lines.NoMemory) = NoMemory
 
+-- the same of lines that may move files of the host
+abbrev pub move_end : Result Tally MoveFault → End
+move_end (Ok tally) = end_after (has_refused tally)
+move_end (Err moves.Disk) = DiskFault
+move_end (Err moves.Out) = OutFault
+move_end (Err moves.Host) = HostFault
+move_end (Err moves.NoMemory) = NoMemory
+
 -- a run ends so only when an image is attached
 abbrev pub is_late : End → Bool
 is_late BadWords = false
@@ -51,6 +62,7 @@ is_over_image Done = true
 is_over_image Refused = true
 is_over_image (BadImage fault) = true
 is_over_image OutFault = true
+is_over_image HostFault = true
 is_over_image end = false
 
 -- If the disk gives the name, the run doesn't end without an image; if it doesn't, the run doesn't end over one.

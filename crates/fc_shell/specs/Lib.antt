@@ -18,3 +18,8 @@ pub mod Script
 pub mod Serving
 pub mod Told
 pub mod Writing
+pub mod Moving
+pub mod MoveFaults
+pub mod Getting
+pub mod HostPromise
+pub mod HostHeadline

@@ -2,14 +2,13 @@
 use Rattle.std.specs.Prelude.{◌≡◌, ◌≤◌, ◌⊎◌, ℕ, Bool, true, false, List, Option, Some, Result, Ok, Err, IfOk}
 use Rattle.fc_device.specs.declared.disk.Disk.{Ghosts}
 use Rattle.fc_device.specs.declared.streams.Sink.{Ghosts as Sinks}
-use Rattle.fc_device.specs.Calls.{OnlyReads, SameForm}
-use Rattle.fc_device.specs.Stops.{LeavesOnly}
+use Rattle.fc_device.specs.Calls.{OnlyReads}
 use Rattle.fc_record.specs.declared.Kind.{Kind}
-use Rattle.fc_image.specs.Stays.{IsNewLayout, OpensAs}
-use Rattle.fc_image.specs.effects.Effect.{State, tree_in}
-use Rattle.fc_image.specs.safe.SafeEffect.{HasTree}
+use Rattle.fc_image.specs.Stays.{OpensAs}
+use Rattle.fc_image.specs.effects.Effect.{State}
 use Rattle.fc_script.specs.Lines.{command_of}
 use Rattle.fc_runs.specs.Early.{reply_begun}
+use Rattle.fc_runs.specs.Meanwhile.{GoesOn, LeavesImage, LeavesTree}
 use Rattle.fc_runs.specs.Run.{Step, is_error, keeps_tree_or}
 use Rattle.fc_runs.specs.Stops.{leaves_image_or}
 use Rattle.fc_tree.specs.Parts.{ArePartsOf}
@@ -21,14 +20,6 @@ use Rattle.fc_shell.specs.Modes.{plain_mode}
 use Rattle.fc_shell.specs.Writing.{Wrote, WrotePart}
 
 -- ---- what a line does
-
--- A crash since then leaves the tree of the state, on a new map.
-abbrev pub LeavesTree : {D : Type 0} → Ghosts D → D → D → Kind → State → Type 0
-LeavesTree d old new kind s = IsNewLayout s.view.layout → (image : List ℕ) → d.left_since new (d.moment old) image → HasTree kind (tree_in s) image
-
--- A crash since then leaves the image of the state, on any map.
-abbrev pub LeavesImage : {D : Type 0} → Ghosts D → D → D → State → Type 0
-LeavesImage d old new s = (image : List ℕ) → d.left_since new (d.moment old) image → image ≡ s.image
 
 -- The line was done: a step with this reply leads from s to the state that the disk has now. A crash meanwhile leaves the tree, if the
 -- line keeps it, and the image, if the line is refused or reads.
@@ -70,12 +61,6 @@ LineEnds d old new kind read_only s v line before after (Err fault) =
     IsCutOff d old new kind read_only s line before after fault ⊎ BreaksOff d old new kind read_only s line before after fault
 
 -- ---- what it keeps, whatever is known of the disk's bytes
-
--- The disk's form stays, time goes on, and its count of faults doesn't fall.
-pub record GoesOn {D : Type 0} (d : Ghosts D) (old new : D) : Type 0 where
-  pub form : SameForm d old new
-  pub stops : LeavesOnly d.moment d.left_since old new (λ image. Unit {0})
-  pub faults : d.faults old ≤ d.faults new
 
 -- The volume takes the next line: it stands for the disk, and nothing is pending.
 pub record IsReady {D : Type 0} (d : Ghosts D) (new : D) (was v : Volume) : Type 0 where

@@ -13,7 +13,7 @@ use Rattle.fc_shell.specs.declared.answer.LineFault.{LineFault}
 use Rattle.fc_shell.specs.declared.answer.LineFault.TheVariants as lines
 use Rattle.fc_shell.specs.declared.tally.Tally.{Tally}
 use Rattle.fc_shell.specs.Counted.{AreCounted, has_refused}
-use Rattle.fc_shell.specs.Line.{LeavesImage, LeavesTree}
+use Rattle.fc_runs.specs.Meanwhile.{LeavesImage, LeavesTree}
 use Rattle.fc_shell.specs.Modes.{plain_mode}
 use Rattle.fc_shell.specs.Writing.{Wrote}
 

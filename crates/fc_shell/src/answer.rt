@@ -122,8 +122,8 @@ fn renew_index(alloc: Global, volume: &mut Volume, asked: &Command)
     }
 }
 
-// Answers a command. `line` of the clauses is each line that spells it.
-fn answer_command<D: Disk, K: Sink>(
+/// Answers a command. `line` of the clauses is each line that spells it.
+pub fn answer_command<D: Disk, K: Sink>(
     alloc: Global,
     volume: &mut Volume,
     disk: &mut D,

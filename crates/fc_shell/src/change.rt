@@ -21,8 +21,8 @@ use fc_space::Space;
 use fc_volume::{CommandError, Volume};
 use std::alloc::Global;
 
-// Writes the reply to a command that was done. No memory is needed.
-fn tell_done<K: Sink>(out: &mut K) -> Result<bool, LineFault>
+/// Writes the reply to a command that was done. No memory is needed.
+pub fn tell_done<K: Sink>(out: &mut K) -> Result<bool, LineFault>
     ensures answered { Answered ok_line (K.taken out.old) (K.taken out.new) result }
     ensures only { OnlyTells K.Sink out.old out.new result }
 {

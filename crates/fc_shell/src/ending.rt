@@ -27,6 +27,8 @@ pub enum End {
     ScriptTooLong,
     /// 9: the words or a line of the script ask for what isn't built.
     NotBuilt,
+    /// 11: a call of the host failed.
+    HostFault,
     /// 12: the disk doesn't give the image.
     NoImage,
 }
@@ -47,6 +49,7 @@ impl End {
             End::NoMemory => 7,
             End::ScriptTooLong => 8,
             End::NotBuilt => 9,
+            End::HostFault => 11,
             End::NoImage => 12,
         }
     }

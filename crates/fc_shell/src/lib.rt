@@ -1,7 +1,7 @@
 //! The top of the filing system: a run of a script over an image.
 //!
-//! Every command is served, over images of every kind and over fresh volumes. The option `--safe` isn't implemented: a run that
-//! asks for it ends as `End::NotBuilt`, before the script is read.
+//! Every command is served, over images of every kind and over fresh volumes, and `get` with a host's files; `put` isn't yet. The
+//! option `--safe` isn't implemented: a run that asks for it ends as `End::NotBuilt`, before the script is read.
 #![tactic(auto)]
 
 mod answer;
@@ -15,12 +15,17 @@ mod digits;
 mod ending;
 mod files;
 mod free;
+mod get;
+mod host_line;
+mod hosted;
 mod image;
 mod lines;
 mod load;
+mod moving;
 mod reclaim;
 mod reply;
 mod script;
+mod serving;
 mod session;
 mod sink;
 mod tally;
@@ -50,6 +55,7 @@ use fc_demo::demo_script;
 use fc_device::{Disk, NoMemory, Sink, Source};
 pub use fc_image::ImageFault;
 use fc_words::{Words, WordsError, read_words};
+pub use hosted::run_with;
 use script::{ScriptError, read_script};
 use session::answer_script;
 use std::alloc::Global;

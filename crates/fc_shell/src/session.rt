@@ -13,7 +13,7 @@ ghost use Rattle.fc_shell.specs.Answered.{ForState, IsCaused};
 ghost use Rattle.fc_shell.specs.Reads.{Spares};
 ghost use Rattle.fc_shell.specs.Ends.{end_of, is_late};
 ghost use Rattle.fc_shell.specs.Kept.{RunKeeps, SessionKeeps};
-ghost use Rattle.fc_shell.specs.Line.{GoesOn};
+ghost use Rattle.fc_runs.specs.Meanwhile.{GoesOn};
 ghost use Rattle.fc_shell.specs.Modes.{plain_mode};
 ghost use Rattle.fc_shell.specs.Promise.{EndsByGiving, EndsByOpening, EndsOver};
 ghost use Rattle.fc_shell.specs.Replies.{blank_size, script_limit};
@@ -76,8 +76,8 @@ fn end_of(served: Result<Tally, LineFault>) -> End
     }
 }
 
-// Ends a run over an image that isn't accepted: writes its line.
-fn tell_fault<K: Sink>(alloc: Global, out: &mut K, fault: ImageFault) -> End
+/// Ends a run over an image that isn't accepted: writes its line.
+pub fn tell_fault<K: Sink>(alloc: Global, out: &mut K, fault: ImageFault) -> End
     ensures bad { result ≡ End.BadImage fault → Wrote (K.taken out.old) (K.taken out.new) (bad_image_line fault) }
     ensures part { WrotePart (K.taken out.old) (K.taken out.new) (bad_image_line fault) }
     ensures no_memory { result ≡ End.NoMemory → out.new ≡ out.old }

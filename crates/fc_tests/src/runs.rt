@@ -4,6 +4,7 @@ mod big_directories;
 mod changes;
 mod crashes;
 mod failing;
+mod host_files;
 mod identifiers;
 mod lost;
 mod old_maps;

@@ -1,9 +1,11 @@
-//! `fcore IMAGE < script`: runs a script over an image of an Acorn FileCore disc, and writes the replies.
+//! `fcore IMAGE < script`: runs a script over an image of an Acorn FileCore disc, and writes the replies. `get` makes files in the
+//! current folder.
 #![tactic(auto)]
 
 use fc_cache::CachedDisk;
-use fc_files::{FileDisk, StdSink, StdSource};
-use fc_shell::{End, run};
+use fc_files::{FileDisk, FileHost, StdSink, StdSource};
+use fc_shell::{End, run_with};
+use fc_words::read_words;
 use std::alloc::Global;
 use std::fs::{self, File};
 use std::io::ErrorKind;
@@ -51,6 +53,14 @@ fn hold_streams(rt: &HostRuntime) -> io::Result<[Option<File>; 3]> {
     Ok([input, output, errors])
 }
 
+// The name of the image that the words ask for, and none if they are bad.
+fn image_of(alloc: Global, words: &Vec<String>) -> String {
+    match read_words(alloc, words) {
+        Ok(asked) => asked.image,
+        Err(_) => String::new(alloc),
+    }
+}
+
 fn main(rt: HostRuntime) -> ExitCode {
     let alloc = rt.alloc();
     let Ok(_held) = hold_streams(&rt) else {
@@ -60,12 +70,14 @@ fn main(rt: HostRuntime) -> ExitCode {
         Ok(words) => words,
         Err(error) => return ExitCode::from(end_of_words(&error).status()),
     };
-    let Ok(files) = rt.clone() else {
+    let (Ok(files), Ok(folder)) = (rt.clone(), rt.clone()) else {
         return ExitCode::from(End::NoMemory.status());
     };
+    let image = image_of(alloc, &words);
     let mut disk = CachedDisk::new(alloc, FileDisk::new(files));
     let mut script = StdSource::new(rt.reader());
     let mut out = StdSink::new(io::writer(&rt));
-    let end = run(alloc, &words, &mut disk, &mut script, &mut out);
+    let mut host = FileHost::new(folder, image.as_str());
+    let end = run_with(alloc, &words, &mut disk, &mut script, &mut out, &mut host);
     ExitCode::from(end.status())
 }

@@ -11,7 +11,8 @@ use Rattle.fc_shell.specs.Line.{IsReady, LineEnds}
 use Rattle.fc_shell.specs.Serving.{HasServed, ServesAs}
 use Rattle.fc_shell.specs.Replies.{script_limit}
 use Rattle.fc_shell.proofs.LengthLemmas.{AreUpTo, commands_few, commands_up_to}
-use Rattle.fc_shell.proofs.ServingLemmas.{goes_same, goes_then, served_all, served_more, served_part, served_start, spares_first, spares_rest}
+use Rattle.fc_runs.proofs.MeanwhileLemmas.{goes_same, goes_then}
+use Rattle.fc_shell.proofs.ServingLemmas.{served_all, served_more, served_part, served_start, spares_first, spares_rest}
 use Rattle.fc_shell.proofs.StepLemmas.{caused_later, caused_ok, one_fault}
 use Rattle.fc_shell.proofs.session.serve.Goals as goal
 

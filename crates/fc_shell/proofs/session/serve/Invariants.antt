@@ -4,7 +4,8 @@ use Rattle.fc_runs.specs.Run.{commands_in}
 use Rattle.fc_shell.specs.Answered.{ForState}
 use Rattle.fc_shell.specs.Reads.{Spares}
 use Rattle.fc_shell.specs.Left.{commands_left}
-use Rattle.fc_shell.specs.Line.{GoesOn, IsReady}
+use Rattle.fc_runs.specs.Meanwhile.{GoesOn}
+use Rattle.fc_shell.specs.Line.{IsReady}
 use Rattle.fc_shell.specs.Serving.{HasServed}
 use Rattle.fc_shell.specs.Replies.{script_limit}
 use Rattle.fc_shell.proofs.LengthLemmas.{AreUpTo}

@@ -1,0 +1,242 @@
+use Rattle.std.proofs.Common.{◌≡◌, ◌<◌, ◌≤◌, ◌+◌, ◌++◌, ◌∷◌, List, ℕ, Bool, true, false, Option, Ok, Err, Result, IfOk, cond, length, refl, sym, ap, subst, ◌∙◌, [], arith, append_assoc}
+use Rattle.std.proofs.lemmas.List.{append-nil}
+use Rattle.std.proofs.lemmas.Result.{err_from_is_err_and}
+use Rattle.fc_device.proofs.DiskLaws.{laws}
+use Rattle.fc_device.proofs.StopLemmas.{reads_start, reads_then}
+use Rattle.fc_host.specs.Answers.{all_asked}
+use Rattle.fc_host.specs.Asked.{Asked}
+use Rattle.fc_image.specs.effects.Effect.{State}
+use Rattle.fc_runs.specs.HostAsks.{LinesAsk}
+use Rattle.fc_runs.specs.HostRun.{served_line_of}
+use Rattle.fc_runs.specs.Run.{commands_in}
+use Rattle.fc_runs.proofs.MeanwhileLemmas.{goes_same, goes_then}
+use Rattle.fc_shell.specs.declared.moving.MoveFault.{MoveFault}
+use Rattle.fc_shell.specs.declared.tally.Tally.{Tally}
+use Rattle.fc_shell.specs.Left.{commands_left}
+use Rattle.fc_shell.specs.Line.{IsReady}
+use Rattle.fc_shell.specs.Moving.{AsksMore, HasMoved, HostSpares, LineMoves, LinesMove}
+use Rattle.fc_shell.specs.Replies.{script_limit}
+use Rattle.fc_shell.proofs.HostServingLemmas.{all_ask_lines, all_ask_more, all_asked_more, asked_then, caused_all, caused_on, host_all, host_more, host_part, host_spares_first, host_spares_rest, host_start, one_move}
+use Rattle.fc_shell.proofs.LengthLemmas.{AreUpTo, commands_few, commands_up_to}
+use Rattle.fc_shell.proofs.serving.serve_with.Goals as goal
+
+-- The error that comes through is that of the line.
+same_result : (r : Result Tally MoveFault) (fault : MoveFault) → (e : MoveFault) × (r ≡ Err e) × (e ≡ fault) → r ≡ Err fault
+same_result r fault p = p.1 ∙ ap Err p.2
+
+-- no more error lines than replies
+within_then : (refused : Bool) (was now : Tally) → was.refused ≤ was.replies → now.replies ≡ was.replies + 1 → now.refused ≡ was.refused + cond refused 1 0 → now.refused ≤ now.replies
+within_then true was now within more errors = omega (arith, within, more, errors)
+within_then false was now within more errors = omega (arith, within, more, errors)
+
+pub count-requires-clause-few : goal.count-requires-clause-few
+count-requires-clause-few g c =
+    let so_far = c.loop-line.invariant.counted in
+    let bound = commands_few script_limit c.args.script.now c.requires.short in
+    omega (arith, so_far, bound, ap length c.in-Some.ensures)
+
+pub count-requires-clause-within : goal.count-requires-clause-within
+count-requires-clause-within g c = c.loop-line.invariant.within
+
+pub loop-line-init : goal.loop-line-init
+loop-line-init g c = record {
+  short = subst (AreUpTo script_limit) (sym c.new-lines.ensures) (commands_up_to script_limit c.args.script.now c.requires.short);
+  goes = goes_same (laws g.met.D.Disk) c.args.disk.now;
+  ready = record { fit = c.requires.fit; stands = c.requires.stands; settled = c.requires.settled; read_only = refl };
+  reads = λ reads. (subst (λ (lines : List (List ℕ)). HostSpares c.args.volume.now.read_only lines) (sym c.new-lines.ensures) reads, reads_start (laws g.met.D.Disk) c.args.disk.now);
+  out_faults = omega arith;
+  host_faults = omega arith;
+  counted = let none = c.new-tally.ensures.replies in let same = ap length c.new-lines.ensures in omega (arith, none, same);
+  within = let none = c.new-tally.ensures.refused in omega (arith, none);
+  asks = ([], [], sym c.new-lines.ensures, sym (append-nil (g.H.Host.asked c.args.host.now)), tt);
+  served = λ image told kind view opens parts. (
+    [],
+    sym (append-nil (g.H.Host.asked c.args.host.now)),
+    host_start (laws g.met.D.Disk) kind c.args.volume.now.read_only (record { image = image; view = view }) (g.H.Host.files c.args.host.now) c.args.script.now c.args.disk.now told c.requires.settled opens
+        (commands_left c.new-lines.result) c.args.volume.now c.new-tally.result (g.K.Sink.taken c.args.out.now) c.new-lines.ensures parts c.new-tally.ensures.replies c.new-tally.ensures.refused,
+  );
+}
+
+pub answer_host_line-requires-clause-attached : goal.answer_host_line-requires-clause-attached
+answer_host_line-requires-clause-attached g c = c.loop-line.invariant.goes.form.attached_stays ∙ c.requires.attached
+
+pub answer_host_line-requires-clause-fit : goal.answer_host_line-requires-clause-fit
+answer_host_line-requires-clause-fit g c = c.loop-line.invariant.ready.fit
+
+pub answer_host_line-requires-clause-stands : goal.answer_host_line-requires-clause-stands
+answer_host_line-requires-clause-stands g c = c.loop-line.invariant.ready.stands
+
+pub answer_host_line-requires-clause-settled : goal.answer_host_line-requires-clause-settled
+answer_host_line-requires-clause-settled g c = c.loop-line.invariant.ready.settled
+
+pub answer_host_line-requires-clause-short : goal.answer_host_line-requires-clause-short
+answer_host_line-requires-clause-short g c = (subst (AreUpTo script_limit) c.in-Some.ensures c.loop-line.invariant.short).0
+
+pub loop-line-preserved : goal.loop-line-preserved
+loop-line-preserved g c =
+    let so_far = c.loop-line.invariant in
+    let line = c.in-Some.line.now in
+    let left = commands_left c.next.new.self in
+    let cut : commands_left c.loop-line.lines ≡ line ∷ left = c.in-Some.ensures in
+    let taken = g.K.Sink.taken in
+    let asked = g.H.Host.asked in
+    let files = g.H.Host.files in
+    let keeps = c.answer_host_line.ensures.keeps in
+    let caused = c.answer_host_line.ensures.caused in
+    let is : c.answer_host_line.result ≡ Ok c.in_ok-refused.refused = c.in_ok-refused.was in
+    let ready = subst (λ r. IfOk r (λ refused. IsReady g.D.Disk c.answer_host_line.new.disk c.loop-line.volume c.answer_host_line.new.volume)) is keeps.ready in
+    let asks = so_far.asks in
+    let mine = c.answer_host_line.ensures.asks in
+    record {
+      short = (subst (AreUpTo script_limit) cut so_far.short).1;
+      goes = goes_then (laws g.met.D.Disk) so_far.goes keeps.goes;
+      ready = record { fit = ready.fit; stands = ready.stands; settled = ready.settled; read_only = ready.read_only ∙ so_far.ready.read_only };
+      reads = λ reads.
+          let was = so_far.reads reads in
+          let spares : HostSpares c.args.volume.now.read_only (line ∷ left) = subst (λ (lines : List (List ℕ)). HostSpares c.args.volume.now.read_only lines) cut was.0 in (
+            host_spares_rest c.args.volume.now.read_only line left spares,
+            reads_then (laws g.met.D.Disk) was.1 (keeps.reads (host_spares_first c.args.volume.now.read_only c.loop-line.volume.read_only line left so_far.ready.read_only spares)).0,
+          );
+      out_faults = omega (arith, so_far.out_faults, caused.later);
+      host_faults = omega (arith, so_far.host_faults, caused.host_later);
+      counted = let more = c.count.ensures.replies in let was = so_far.counted in let here = ap length cut in omega (arith, more, was, here);
+      within = within_then c.in_ok-refused.refused c.loop-line.tally c.count.new.self so_far.within c.count.ensures.replies c.count.ensures.refused;
+      asks = (
+        asks.0 ++ line ∷ [],
+        asks.1 ++ mine.0 ∷ [],
+        asks.2 ∙ ap (λ (lines : List (List ℕ)). asks.0 ++ lines) cut ∙ sym (append_assoc asks.0 (line ∷ []) left),
+        all_asked_more (asked c.args.host.now) (asked c.loop-line.host) (asked c.answer_host_line.new.host) asks.1 mine.0 asks.3 mine.1,
+        all_ask_more served_line_of asks.0 asks.1 line mine.0 asks.4 mine.2,
+      );
+      served = λ image told kind view opens parts.
+          let s : State = record { image = image; view = view } in
+          let v = c.args.volume.now in
+          let was = so_far.served image told kind view opens parts in
+          let has : HasMoved g.D.Disk c.args.disk.now c.loop-line.disk kind v.read_only s c.args.script.now (line ∷ left) c.loop-line.volume c.loop-line.tally (taken c.args.out.now) (taken c.loop-line.out) was.0 (files c.args.host.now) (files c.loop-line.host) =
+          subst (λ (lines : List (List ℕ)). HasMoved g.D.Disk c.args.disk.now c.loop-line.disk kind v.read_only s c.args.script.now lines c.loop-line.volume c.loop-line.tally (taken c.args.out.now) (taken c.loop-line.out) was.0 (files c.args.host.now) (files c.loop-line.host)) cut was.2 in
+          let at = has.lines.state in
+          let step = c.answer_host_line.ensures.step at.image has.lines.holds kind at.view has.lines.opens has.parts in
+          let ends = subst (λ (ro : Bool). LineMoves g.D.Disk c.loop-line.disk c.answer_host_line.new.disk kind ro at c.answer_host_line.new.volume (served_line_of line) (taken c.loop-line.out) (taken c.answer_host_line.new.out) step.0 (files c.loop-line.host) (files c.answer_host_line.new.host) c.answer_host_line.result)
+          so_far.ready.read_only step.2 in (
+            was.0 ++ step.0,
+            asked_then (asked c.args.host.now) (asked c.loop-line.host) (asked c.answer_host_line.new.host) was.0 step.0 was.1 step.1,
+            host_more (laws g.met.D.Disk) kind v.read_only s (files c.args.host.now) c.args.script.now c.args.disk.now told c.requires.settled opens line left c.loop-line.volume c.answer_host_line.new.volume
+                c.in_ok-refused.refused c.loop-line.tally c.count.new.self (taken c.args.out.now) (taken c.loop-line.out) (taken c.answer_host_line.new.out) c.loop-line.disk c.answer_host_line.new.disk
+                was.0 step.0 (files c.loop-line.host) (files c.answer_host_line.new.host) has so_far.goes keeps.goes
+                (subst (λ (r : Result Bool MoveFault). LineMoves g.D.Disk c.loop-line.disk c.answer_host_line.new.disk kind v.read_only at c.answer_host_line.new.volume (served_line_of line) (taken c.loop-line.out) (taken c.answer_host_line.new.out) step.0 (files c.loop-line.host) (files c.answer_host_line.new.host) r) is ends)
+                c.count.ensures.replies c.count.ensures.refused,
+          );
+    }
+
+pub returns-in_err-refused-clause-served : goal.returns-in_err-refused-clause-served
+returns-in_err-refused-clause-served g c image told kind view opens parts =
+    let so_far = c.loop-line.invariant in
+    let line = c.in-Some.line.now in
+    let left = commands_left c.next.new.self in
+    let taken = g.K.Sink.taken in
+    let asked = g.H.Host.asked in
+    let files = g.H.Host.files in
+    let keeps = c.answer_host_line.ensures.keeps in
+    let s : State = record { image = image; view = view } in
+    let v = c.args.volume.now in
+    let fault : MoveFault = c.in_err-refused.field-0.0 in
+    let was : c.answer_host_line.result ≡ Err fault = c.in_err-refused.was in
+    let before = so_far.served image told kind view opens parts in
+    let has : HasMoved g.D.Disk c.args.disk.now c.loop-line.disk kind v.read_only s c.args.script.now (line ∷ left) c.loop-line.volume c.loop-line.tally (taken c.args.out.now) (taken c.loop-line.out) before.0 (files c.args.host.now) (files c.loop-line.host) =
+    subst (λ (lines : List (List ℕ)). HasMoved g.D.Disk c.args.disk.now c.loop-line.disk kind v.read_only s c.args.script.now lines c.loop-line.volume c.loop-line.tally (taken c.args.out.now) (taken c.loop-line.out) before.0 (files c.args.host.now) (files c.loop-line.host)) c.in-Some.ensures before.2 in
+    let at = has.lines.state in
+    let step = c.answer_host_line.ensures.step at.image has.lines.holds kind at.view has.lines.opens has.parts in
+    let ends = subst (λ (ro : Bool). LineMoves g.D.Disk c.loop-line.disk c.answer_host_line.new.disk kind ro at c.answer_host_line.new.volume (served_line_of line) (taken c.loop-line.out) (taken c.answer_host_line.new.out) step.0 (files c.loop-line.host) (files c.answer_host_line.new.host) c.answer_host_line.result)
+    so_far.ready.read_only step.2 in (
+      before.0 ++ step.0,
+      asked_then (asked c.args.host.now) (asked c.loop-line.host) (asked c.answer_host_line.new.host) before.0 step.0 before.1 step.1,
+      subst (λ (r : Result Tally MoveFault). LinesMove g.D.Disk c.args.disk.now c.answer_host_line.new.disk kind v.read_only s c.args.script.now (taken c.args.out.now) (taken c.answer_host_line.new.out) (before.0 ++ step.0) (files c.args.host.now) (files c.answer_host_line.new.host) r)
+          (sym (same_result c.from_residual.result fault (err_from_is_err_and c.from_residual.result c.from_residual.ensures.1)))
+          (host_part (laws g.met.D.Disk) kind v.read_only s (files c.args.host.now) c.args.script.now c.args.disk.now told c.requires.settled opens line left c.loop-line.volume c.answer_host_line.new.volume
+          c.loop-line.tally (taken c.args.out.now) (taken c.loop-line.out) (taken c.answer_host_line.new.out) c.loop-line.disk c.answer_host_line.new.disk fault
+          before.0 step.0 (files c.loop-line.host) (files c.answer_host_line.new.host) has so_far.goes keeps.goes
+          (λ never. keeps.settled (λ is. never (one_move c.answer_host_line.result fault MoveFault.Disk was is)))
+          (subst (λ (r : Result Bool MoveFault). LineMoves g.D.Disk c.loop-line.disk c.answer_host_line.new.disk kind v.read_only at c.answer_host_line.new.volume (served_line_of line) (taken c.loop-line.out) (taken c.answer_host_line.new.out) step.0 (files c.loop-line.host) (files c.answer_host_line.new.host) r) was ends)),
+    )
+
+pub returns-in_err-refused-clause-asks : goal.returns-in_err-refused-clause-asks
+returns-in_err-refused-clause-asks g c =
+    let asks = c.loop-line.invariant.asks in
+    let mine = c.answer_host_line.ensures.asks in
+    let line = c.in-Some.line.now in
+    let left = commands_left c.next.new.self in
+    let cut : commands_in c.args.script.now ≡ (asks.0 ++ line ∷ []) ++ left =
+    asks.2 ∙ ap (λ (lines : List (List ℕ)). asks.0 ++ lines) c.in-Some.ensures ∙ sym (append_assoc asks.0 (line ∷ []) left) in (
+      all_asked (asks.1 ++ mine.0 ∷ []),
+      all_asked_more (g.H.Host.asked c.args.host.now) (g.H.Host.asked c.loop-line.host) (g.H.Host.asked c.answer_host_line.new.host) asks.1 mine.0 asks.3 mine.1,
+      (
+        asks.1 ++ mine.0 ∷ [],
+        refl,
+        subst (λ (lines : List (List ℕ)). LinesAsk served_line_of lines (asks.1 ++ mine.0 ∷ [])) (sym cut)
+            (all_ask_lines served_line_of (asks.0 ++ line ∷ []) left (asks.1 ++ mine.0 ∷ []) (all_ask_more served_line_of asks.0 asks.1 line mine.0 asks.4 mine.2)),
+      ),
+    )
+
+pub returns-in_err-refused-clause-goes : goal.returns-in_err-refused-clause-goes
+returns-in_err-refused-clause-goes g c = goes_then (laws g.met.D.Disk) c.loop-line.invariant.goes c.answer_host_line.ensures.keeps.goes
+
+pub returns-in_err-refused-clause-settled : goal.returns-in_err-refused-clause-settled
+returns-in_err-refused-clause-settled g c never =
+    let fault : MoveFault = c.in_err-refused.field-0.0 in
+    let was : c.answer_host_line.result ≡ Err fault = c.in_err-refused.was in
+    let same = same_result c.from_residual.result fault (err_from_is_err_and c.from_residual.result c.from_residual.ensures.1) in
+    c.answer_host_line.ensures.keeps.settled (λ is. never (same ∙ ap Err (one_move c.answer_host_line.result fault MoveFault.Disk was is)))
+
+pub returns-in_err-refused-clause-reads : goal.returns-in_err-refused-clause-reads
+returns-in_err-refused-clause-reads g c reads =
+    let line = c.in-Some.line.now in
+    let left = commands_left c.next.new.self in
+    let was = c.loop-line.invariant.reads reads in
+    let spares : HostSpares c.args.volume.now.read_only (line ∷ left) = subst (λ (lines : List (List ℕ)). HostSpares c.args.volume.now.read_only lines) c.in-Some.ensures was.0 in
+    reads_then (laws g.met.D.Disk) was.1
+    (c.answer_host_line.ensures.keeps.reads (host_spares_first c.args.volume.now.read_only c.loop-line.volume.read_only line left c.loop-line.invariant.ready.read_only spares)).0
+
+pub returns-in_err-refused-clause-caused : goal.returns-in_err-refused-clause-caused
+returns-in_err-refused-clause-caused g c =
+    let fault : MoveFault = c.in_err-refused.field-0.0 in
+    let was : c.answer_host_line.result ≡ Err fault = c.in_err-refused.was in
+    let same = same_result c.from_residual.result fault (err_from_is_err_and c.from_residual.result c.from_residual.ensures.1) in
+    let inv = c.loop-line.invariant in
+    caused_on g.D.Disk g.K.Sink g.H.Host c.args.disk.now c.loop-line.disk c.answer_host_line.new.disk c.args.out.now c.loop-line.out c.answer_host_line.new.out
+    c.args.host.now c.loop-line.host c.answer_host_line.new.host fault c.answer_host_line.result c.from_residual.result inv.goes.faults inv.out_faults inv.host_faults was same c.answer_host_line.ensures.caused
+
+pub returns-clause-served : goal.returns-clause-served
+returns-clause-served g c image told kind view opens parts =
+    let taken = g.K.Sink.taken in
+    let files = g.H.Host.files in
+    let s : State = record { image = image; view = view } in
+    let v = c.args.volume.now in
+    let was = c.loop-line.invariant.served image told kind view opens parts in (
+      was.0,
+      was.1,
+      host_all (laws g.met.D.Disk) kind v.read_only s (files c.args.host.now) c.args.script.now c.args.disk.now told c.requires.settled opens c.loop-line.volume c.loop-line.tally (taken c.args.out.now) (taken c.loop-line.out) c.loop-line.disk was.0 (files c.loop-line.host)
+          (subst (λ (lines : List (List ℕ)). HasMoved g.D.Disk c.args.disk.now c.loop-line.disk kind v.read_only s c.args.script.now lines c.loop-line.volume c.loop-line.tally (taken c.args.out.now) (taken c.loop-line.out) was.0 (files c.args.host.now) (files c.loop-line.host)) c.in_default.ensures was.2)
+          c.loop-line.invariant.goes c.loop-line.invariant.ready.settled,
+    )
+
+pub returns-clause-asks : goal.returns-clause-asks
+returns-clause-asks g c =
+    let asks = c.loop-line.invariant.asks in (
+      all_asked asks.1,
+      asks.3,
+      (asks.1, refl, subst (λ (lines : List (List ℕ)). LinesAsk served_line_of lines asks.1) (sym asks.2) (all_ask_lines served_line_of asks.0 (commands_left c.loop-line.lines) asks.1 asks.4)),
+    )
+
+pub returns-clause-goes : goal.returns-clause-goes
+returns-clause-goes g c = c.loop-line.invariant.goes
+
+pub returns-clause-settled : goal.returns-clause-settled
+returns-clause-settled g c never = c.loop-line.invariant.ready.settled
+
+pub returns-clause-reads : goal.returns-clause-reads
+returns-clause-reads g c reads = (c.loop-line.invariant.reads reads).1
+
+pub returns-clause-caused : goal.returns-clause-caused
+returns-clause-caused g c =
+    let inv = c.loop-line.invariant in
+    caused_all g.D.Disk g.K.Sink g.H.Host c.args.disk.now c.loop-line.disk c.args.out.now c.loop-line.out c.args.host.now c.loop-line.host c.loop-line.tally inv.out_faults inv.host_faults

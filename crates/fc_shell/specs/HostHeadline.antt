@@ -1,0 +1,22 @@
+-- The headline of a run whose lines may move files, over a host that tells its files.
+use Rattle.std.specs.Prelude.{◌≡◌, ◌⊎◌, ℕ, List, Option, is_some, Ok}
+use Rattle.fc_device.specs.declared.disk.Disk.{Ghosts}
+use Rattle.fc_host.specs.Files.{Files}
+use Rattle.fc_image.specs.Opening.{Opened, open_image}
+use Rattle.fc_words.specs.CommandLine.{Request}
+use Rattle.fc_shell.specs.declared.ending.End.{End}
+use Rattle.fc_shell.specs.declared.ending.End.TheVariants.{Done, Refused, HostFault}
+use Rattle.fc_shell.specs.Headline.{start_of}
+use Rattle.fc_shell.specs.HostPromise.{ToldOver}
+use Rattle.fc_shell.specs.Modes.{plain_mode}
+use Rattle.fc_shell.specs.Replies.{image_for}
+
+-- The run ended in its lines or after them.
+abbrev pub IsInLines : End → Type 0
+IsInLines end = (end ≡ Done) ⊎ ((end ≡ Refused) ⊎ (end ≡ HostFault))
+
+-- The image opens, and the lines are steps from it on, with the files of the host.
+pub record IsServedWithHost {D : Type 0} (d : Ghosts D) (old new : D) (r : Request) (image script text : List ℕ) (files left : Option Files) (end : End) : Type 0 where
+  pub view : Opened
+  pub opens : open_image (image_for r.new image) ≡ Ok view
+  pub over : ToldOver d old new (plain_mode view.kind r.read_only) (is_some r.new) (start_of r image view) files left script text end

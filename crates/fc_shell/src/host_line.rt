@@ -1,0 +1,53 @@
+// The answer to a line that may move a file of the host.
+ghost use Rattle.std.specs.Prelude.{◌≡◌, ◌≤◌, length, IsFalse, IsTrue};
+ghost use Rattle.fc_runs.specs.HostAsks.{LineAsks};
+ghost use Rattle.fc_runs.specs.HostRun.{served_line_of};
+ghost use Rattle.fc_volume.specs.Volume.{StandsFor};
+ghost use Rattle.fc_shell.specs.Answered.{ForState};
+ghost use Rattle.fc_shell.specs.Moving.{AreCaused, AsksMore, KeepsServing, LineMoves};
+ghost use Rattle.fc_shell.specs.Replies.{script_limit};
+
+use crate::answer::answer_command;
+use crate::get::get;
+use crate::moving::{MoveFault, moved};
+use crate::reply::{refusal, tell};
+use fc_device::{Disk, Sink};
+use fc_host::Host;
+use fc_names::Refusal;
+use fc_script::{HostLine, LineError, read_host_line};
+use fc_volume::Volume;
+use std::alloc::Global;
+
+/// Answers a command line of the script, which may move a file between the volume and the host: does it, and writes its whole reply.
+/// Answers whether the reply is an error line. A `put` isn't served yet: its line is refused.
+pub fn answer_host_line<D: Disk, K: Sink, H: Host>(
+    alloc: Global,
+    volume: &mut Volume,
+    disk: &mut D,
+    out: &mut K,
+    host: &mut H,
+    line: &[u8],
+) -> Result<bool, MoveFault>
+    requires attached { IsTrue (D.attached disk.old) }
+    requires fit { IsTrue volume.old.fit }
+    requires stands { StandsFor D.Disk volume.old disk.old }
+    requires settled { IsFalse (D.pending disk.old) }
+    requires short { length line.now ≤ script_limit }
+    ensures step { ForState (D.bytes disk.old) volume.old (λ kind s. AsksMore H.Host host.old host.new (λ asked.
+        LineMoves D.Disk disk.old disk.new kind volume.old.read_only s volume.new (served_line_of line.now) (K.taken out.old) (K.taken out.new) asked (H.files host.old) (H.files host.new) result)) }
+    ensures asks { AsksMore H.Host host.old host.new (LineAsks (served_line_of line.now)) }
+    ensures keeps { KeepsServing D.Disk disk.old disk.new volume.old volume.new (served_line_of line.now) result }
+    ensures caused { AreCaused D.Disk K.Sink H.Host disk.old disk.new out.old out.new host.old host.new result }
+{
+    match read_host_line(alloc, line) {
+        Ok(HostLine::Get { path, host: name }) => {
+            volume.renew_index(alloc);
+            get(alloc, volume, disk, out, host, &path, name.bytes())
+        }
+        Ok(HostLine::Put { .. }) => moved(tell(out, refusal(alloc, Refusal::BadCommand))),
+        Ok(HostLine::Other(asked)) => moved(answer_command(alloc, volume, disk, out, &asked)),
+        Err(LineError::BadCommand) => moved(tell(out, refusal(alloc, Refusal::BadCommand))),
+        Err(LineError::BadName) => moved(tell(out, refusal(alloc, Refusal::BadName))),
+        Err(LineError::NoMemory) => Err(MoveFault::NoMemory),
+    }
+}
