@@ -14,7 +14,7 @@ import sys
 import time
 from typing import Callable, Dict, List, NamedTuple, Tuple
 
-from tools.checks import fcdisc, program, readers
+from tools.checks import fcdisc, host_files, program, readers
 from tools.checks.selection import Selection, Suite
 from tools.files import PROGRAM, TOP
 
@@ -58,7 +58,7 @@ LONG: Dict[str, Long] = {
 PLAIN: Dict[str, Callable[[Suite], None]] = {
     "pages": pages, "man": program.man_pages, "embedded": program.embedded, "images": readers.images, "readers": readers.readers}
 OVER_PROGRAM: Dict[str, Callable[[Suite, str], None]] = {
-    "cases": program.cases, "streams": program.streams, "examples": program.readme, "install": program.installed,
+    "cases": program.cases, "streams": program.streams, "host-files": host_files.host_files, "examples": program.readme, "install": program.installed,
     "fcdisc": fcdisc.reading, "fcdisc-discs": fcdisc.discs, "fcdisc-changes": fcdisc.changing,
     "fcdisc-collections": fcdisc.collections, "fcdisc-keeping": fcdisc.keeping, "fcdisc-round": fcdisc.rounds,
     "fcdisc-table": fcdisc.by_conditions}

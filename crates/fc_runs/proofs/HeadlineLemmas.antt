@@ -17,10 +17,10 @@ use Rattle.fc_runs.proofs.TreeLemmas.{answer_ok, effect_tree}
 
 -- ---- the image opens after each step
 
-abbrev Opens : Mode → State → Type 0
+abbrev pub Opens : Mode → State → Type 0
 Opens mode s = OpensAs s.image mode.kind s.view
 
-same_opens : (mode : Mode) (s s' : State) → Opens mode s → s' ≡ s → Opens mode s'
+pub same_opens : (mode : Mode) (s s' : State) → Opens mode s → s' ≡ s → Opens mode s'
 same_opens mode s s' o e = subst (Opens mode) (sym e) o
 
 changes_opens : (mode : Mode) (safe : Bool) (s s' : State) (c : Command) (t : Tree) → ChangesBy safe mode.kind s s' c t → Opens mode s'
@@ -46,7 +46,7 @@ effect_opens mode s s' (Command.Mark path attrs) t o e = changes_opens mode mode
 -- ---- one line
 
 -- what a step of a line is: the reply and the tree are the map's, and the image opens
-abbrev IsMapStep : Mode → State → Tree × Option (List ℕ) → List ℕ → State → Type 0
+abbrev pub IsMapStep : Mode → State → Tree × Option (List ℕ) → List ℕ → State → Type 0
 IsMapStep mode s line reply s' = IsReply line.1 reply × (tree_in s' ≡ line.0) × Opens mode s'
 
 refused_step : (mode : Mode) (s s' : State) (refusal : Refusal) (reply : List ℕ) → Opens mode s → reply ≡ refusal_line refusal → s' ≡ s
@@ -89,7 +89,7 @@ answered_step mode s s' c reply (Err refusal) plain o a x = refused_step mode s 
 answered_step mode s s' c reply (Ok t) plain o a x =
     served_step mode s s' c t reply (layout_refusal s.view c) o a (plain_shortage mode s s' c t reply mode.safe plain x)
 
-taken_step : (mode : Mode) (s s' : State) (reply : List ℕ) (r : Result Command Refusal) → mode.safe ≡ false → Opens mode s
+pub taken_step : (mode : Mode) (s s' : State) (reply : List ℕ) (r : Result Command Refusal) → mode.safe ≡ false → Opens mode s
     → Takes mode s r reply s' → IsMapStep mode s (map_line mode.read_only (tree_in s) s.view r) reply s'
 taken_step mode s s' reply (Err refusal) plain o x = refused_step mode s s' refusal reply o x.0 x.1
 taken_step mode s s' reply (Ok c) plain o x =

@@ -185,6 +185,7 @@ module _ {D : Type 0} {d : Ghosts D} (law : Laws d) (read : Reading) (mode : Mod
         answered = are.answered;
         begun_is = none_begun read mode are.state after;
         files_left = λ fs known. (fs, known, files_stay read mode are.state fs after);
+        back = λ first host is. refl;
         told = (length (text_of has.replies) + part.0, text);
         whole = λ disk. absurd (let clash : false ≡ true = sym disk ∙ spared in cc);
         holds = λ spares. are.holds;
@@ -232,6 +233,7 @@ module _ {D : Type 0} {d : Ghosts D} (law : Laws d) (read : Reading) (mode : Mod
         begun_is = subst (λ (o : Option (List ℕ)). AskedBegunBy read mode are.state o more) (sym next) broke.begun;
         files_left = λ fs known. let rest = broke.files_left fs known in
             (rest.0, rest.1, subst (λ (o : Option (List ℕ)). FilesLeftBy read mode are.state fs o rest.0) (sym next) rest.2);
+        back = broke.back;
         told = (length (text_of are.replies) + n, text);
         whole = λ disk. whole_all are.replies (take n (begun line));
         holds = λ spares. broke.holds spares;

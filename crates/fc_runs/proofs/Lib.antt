@@ -3,6 +3,7 @@ pub mod TreeLemmas
 pub mod RepliesLemmas
 mod HostRepliesLemmas
 mod HeadlineLemmas
+mod HostHeadlineLemmas
 pub mod AskedLemmas
 pub mod ToldLemmas
 pub mod ErrorLemmas
@@ -11,4 +12,3 @@ pub mod TextLemmas
 pub mod MeanwhileLemmas
 pub mod HostStepLemmas
 pub mod HostServingLemmas
-pub mod HostLineLemmas

@@ -70,6 +70,10 @@ AskedBegun mode s (Ok (HostLine.Get path host)) asked = (asked ≡ [])
 AskedBegun mode s (Ok (HostLine.Put host path load exec)) asked = All (λ a. a.0 ≡ host) asked
 AskedBegun mode s line asked = asked ≡ []
 
+-- If a file was taken back at the end, the files are as they were.
+abbrev pub IsBack : List Asked → Option Files → Option Files → Type 0
+IsBack asked files left = (front : List Asked) (host : List ℕ) → asked ≡ front ++ (host, calls.Remove, []) ∷ [] → left ≡ files
+
 abbrev pub AskedBegunBy : Reading → Mode → State → Option (List ℕ) → List Asked → Type 0
 AskedBegunBy read mode s None asked = asked ≡ []
 AskedBegunBy read mode s (Some line) asked = AskedBegun mode s (read line) asked
@@ -88,6 +92,7 @@ pub record AskedHasStopped {D : Type 0} (d : Ghosts D) (read : Reading) (old new
   pub answered : AnswersCalls files (all_asked asks) between
   pub begun_is : AskedBegunBy read mode end (slice_get (commands_in script) (length replies)) begun
   pub files_left : ForSome between (λ held. (now : Files) × (left ≡ Some now) × FilesLeftBy read mode end held (slice_get (commands_in script) (length replies)) now)
+  pub back : IsBack begun between left
   pub told : (n : ℕ) × (text ≡ take n (text_begun None replies (slice_get (commands_in script) (length replies)) (λ line. host_reply_begun mode end (read line))))
   pub whole : spares_disk cause ≡ false → whole_replies (length text) replies ≡ length replies
   pub holds : spares_disk cause ≡ true → d.bytes new ≡ Some end.image

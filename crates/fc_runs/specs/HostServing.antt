@@ -10,7 +10,7 @@ use Rattle.fc_image.specs.Stays.{OpensAs}
 use Rattle.fc_image.specs.effects.Effect.{State}
 use Rattle.fc_script.specs.HostLines.{HostLine}
 use Rattle.fc_runs.specs.AskedRun.{AskedSteps, AskedTakes}
-use Rattle.fc_runs.specs.HostPromises.{AskedBegun}
+use Rattle.fc_runs.specs.HostPromises.{AskedBegun, IsBack}
 use Rattle.fc_runs.specs.HostRun.{HasPartOf, Reading, all_host_keep_tree, host_keeps_tree}
 use Rattle.fc_runs.specs.Meanwhile.{LeavesImage, LeavesTree}
 use Rattle.fc_runs.specs.Promises.{Cause, spares_disk}
@@ -33,6 +33,7 @@ pub record IsMoved {D : Type 0} (d : Ghosts D) (old new : D) (mode : Mode) (s : 
 pub record IsBrokenOff {D : Type 0} (d : Ghosts D) (old new : D) (mode : Mode) (s : State) (line : Result HostLine Refusal) (asked : List Asked) (files left : Option Files) (cause : Cause) : Type 0 where
   pub begun : AskedBegun mode s line asked
   pub files_left : ForSome files (λ held. (now : Files) × (left ≡ Some now) × ((now ≡ held) ⊎ HasPartOf mode s held line now))
+  pub back : IsBack asked files left
   pub holds : spares_disk cause ≡ true → d.bytes new ≡ Some s.image
   pub kept : host_keeps_tree false line ≡ true → LeavesTree d old new mode.kind s
   pub still : host_leaves_image false line ≡ true → LeavesImage d old new s

@@ -16,3 +16,4 @@ pub mod HostPromises
 pub mod Meanwhile
 pub mod HostServing
 pub mod HostAsks
+pub mod HostHeadline

@@ -1,18 +1,20 @@
 -- A `get`, from what became of its file.
-use Rattle.std.proofs.Common.{◌≡◌, ◌⊎◌, inl, inr, ⊎_elim, ℕ, Bool, true, false, List, [], ◌∷◌, ◌++◌, take, Option, Some, None, is_some, Result, Ok, Err, refl, sym, ap, subst, ◌∙◌}
+use Rattle.std.proofs.Common.{◌≡◌, ◌⊎◌, inl, inr, ⊎_elim, ℕ, Bool, true, false, List, [], ◌∷◌, ◌++◌, take, Option, Some, None, is_some, Result, Ok, Err, refl, sym, ap, subst, ◌∙◌, append_assoc}
 use Rattle.std.specs.Prelude.{IsOk}
 use Rattle.std.specs.Option.{option_map, option_map_or, unwrap_or}
 use Rattle.std.specs.FinMap.{get, insert}
-use Rattle.std.proofs.lemmas.List.{append-nil}
+use Rattle.std.proofs.lemmas.List.{append-nil, same_from_push}
 use Rattle.fc_device.specs.declared.disk.Disk.{Ghosts}
 use Rattle.fc_device.specs.declared.disk.Extent.{Extent}
 use Rattle.fc_device.specs.Calls.{OnlyReads}
 use Rattle.fc_device.proofs.DiskLaws.{Laws}
 use Rattle.fc_export.specs.declared.file.ExportFault.{ExportFault}
 use Rattle.fc_export.specs.Exports.{Exported, IsBroken, IsTakenBack, IsUnmade}
+use Rattle.fc_export.specs.Readable.{told_bytes}
 use Rattle.fc_host.specs.Answers.{AnswersCalls, joined, made_of}
 use Rattle.fc_host.specs.Asked.{Asked}
 use Rattle.fc_host.specs.Files.{Files, is_there}
+use Rattle.fc_host.specs.declared.asks.HostCall.{HostCall}
 use Rattle.fc_host.specs.declared.asks.HostCall.TheVariants as calls
 use Rattle.fc_names.specs.Names.{Path}
 use Rattle.fc_names.specs.declared.refusal.Refusal.{Refusal}
@@ -30,9 +32,11 @@ use Rattle.fc_script.specs.Texts.{ok_line, refusal_line}
 use Rattle.fc_runs.specs.AskedRun.{AskedTakes, GetsAsked, UnlessRefused}
 use Rattle.fc_runs.specs.Early.{host_reply_begun}
 use Rattle.fc_runs.specs.HostAsks.{EndsGet, GetAsks}
-use Rattle.fc_runs.specs.HostPromises.{AskedBegun, GetsPart}
+use Rattle.fc_runs.specs.HostPromises.{AskedBegun, GetsPart, IsBack}
 use Rattle.fc_runs.specs.HostRun.{HasPartOf, answer_in, file_in}
 use Rattle.fc_runs.specs.Run.{Mode}
+use Rattle.fc_space.specs.Space.{layout_of}
+use Rattle.fc_space.specs.declared.space.Space.{Space}
 use Rattle.fc_tree.specs.Parts.{ArePartsOf}
 use Rattle.fc_tree.specs.declared.node.Node.{Node}
 use Rattle.fc_volume.specs.declared.lines.FileRef.{FileRef}
@@ -74,6 +78,20 @@ module _ (host : List ℕ) (known : Option (List ℕ)) (asked : List Asked) (old
   pub exported_there : (bytes : List ℕ) → Exported host known asked old new (Ok false) → IsGot host bytes asked old new (refusal_line refusals.HostExists)
   exported_there bytes x = record { got = λ s. inl (x.0, (refl, refl)); answered = x.1 }
 
+  -- a call that failed removed nothing
+  no_removal : (front : List Asked) (name : List ℕ) (before : List Asked) (piece : List ℕ) → asked ≡ front ++ (name, calls.Remove, []) ∷ [] → asked ≡ before ++ (host, calls.Failed, piece) ∷ [] → ⊥
+  no_removal front name before piece a b =
+      let last = (same_from_push front before (name, calls.Remove, []) (host, calls.Failed, piece) (sym a ∙ b)).1 in
+      let call : (let removed : HostCall = calls.Remove in removed) ≡ calls.Failed = ap (λ (x : Asked). x.1) last in
+      cc
+
+  broken_back : IsBroken host known asked old new → IsBack asked old new
+  broken_back broken front name removed =
+      let made = made_of host broken.pieces in
+      ⊎_elim (λ back. back.1)
+      (λ failed. absurd (no_removal front name (made ++ broken.failed) [] removed
+      (broken.asks ∙ ap (λ (b : List Asked). made ++ (broken.failed ++ b)) failed ∙ sym (append_assoc made broken.failed ((host, calls.Failed, []) ∷ []))))) broken.taken_back
+
   part_asked : (bytes : List ℕ) → known ≡ Some bytes → IsBroken host known asked old new → GetsPart host bytes asked
   part_asked bytes is broken =
       let first = broken.first bytes is in
@@ -97,6 +115,7 @@ module _ (host : List ℕ) (known : Option (List ℕ)) (asked : List Asked) (old
           left.1,
           ⊎_elim (λ same. inl same) (λ part. inr (part.0, (let n = part.1.2 bytes is in (n.0, part.1.1 ∙ ap (insert held host) n.1)))) left.2,
         );
+    back = λ front name removed. ⊎_elim (λ unmade. absurd (no_removal front name [] [] removed unmade.0)) (λ broken. broken_back broken front name removed) x.0;
   }
 
   -- what was asked, whatever is known
@@ -135,7 +154,7 @@ module _ {D : Type 0} {d : Ghosts D} (law : Laws d) (kind : Kind) (v : Volume) (
   got_step reply is = subst (λ (a : Result Tree Refusal). UnlessRefused s a asked reply s (GetsAsked s host (file_in s path) asked reply s)) (sym accepted) (is.got s)
 
   is_ok : IsOk (answer_in mode s (Command.Load path))
-  is_ok = subst (λ (a : Result Tree Refusal). IsOk a) (sym accepted) tt
+  is_ok = subst (λ (a : Result Tree Refusal). IsOk a) (sym accepted) refl
 
   not_begun : (asked ≡ []) ⊎ ((asked ≡ (host, calls.Failed, []) ∷ []) ⊎ GetsPart host (file_in s path) asked) → AskedBegun mode s line asked
   not_begun (inl none) = inl none
@@ -162,6 +181,7 @@ module _ {D : Type 0} {d : Ghosts D} (law : Laws d) (kind : Kind) (v : Volume) (
     part = (0, subst (λ (a : Option (List ℕ)). Wrote before a []) (sym x.0) (wrote_nothing before));
     broke = record {
       begun = not_begun x.1.begun;
+      back = x.1.back;
       files_left = λ held known. let rest = x.1.files_left held known in (rest.0, rest.1, ⊎_elim (λ same. inl same) (λ part. inr (is_ok, part.0, part.1)) rest.2);
       holds = λ spares. reads.bytes ∙ told;
       kept = λ keeps. same_tree law kind v s [] old new before after quiet told opens reads.stops;
@@ -169,9 +189,10 @@ module _ {D : Type 0} {d : Ghosts D} (law : Laws d) (kind : Kind) (v : Volume) (
     };
   })
 
--- what is known of the bytes of a place
-pub known_bytes : (bytes : Option (List ℕ)) (image : List ℕ) (v : Volume) (f : FileRef) (place : List Extent) (size : ℕ) → IsPlace v f place → IsRef v f → size ≡ sector_bytes (parts_of v).layout
-    → bytes ≡ Some image → option_map (λ i. first_bytes size i (sectors_in place) f.len) bytes ≡ Some (ref_bytes image v f)
-known_bytes bytes image v f place size is ref sized told =
-    ap (option_map (λ i. first_bytes size i (sectors_in place) f.len)) told
-    ∙ ap (λ (n : ℕ). Some (first_bytes n image (sectors_in place) f.len)) sized ∙ ap Some (place_bytes image v f place is ref)
+-- what is known of the bytes of a file's place
+pub told_place : {D : Type 0} (d : Ghosts D) (disk : D) (image : List ℕ) (v : Volume) (f : FileRef) (place items : List Extent) (size : ℕ) (space : Space) → IsPlace v f items → IsRef v f → place ≡ items
+    → space ≡ v.space → size ≡ sector_bytes (layout_of space) → d.bytes disk ≡ Some image → told_bytes d disk size (sectors_in place) f.len ≡ Some (ref_bytes image v f)
+told_place d disk image v f place items size space is ref placed own sized told =
+    let whole : size ≡ sector_bytes (layout_of v.space) = sized ∙ ap (λ (s : Space). sector_bytes (layout_of s)) own in
+    ap (option_map (λ i. first_bytes size i (sectors_in place) f.len)) told ∙ ap (λ (n : ℕ). Some (first_bytes n image (sectors_in place) f.len)) whole
+    ∙ ap (λ (p : List Extent). Some (first_bytes (sector_bytes (layout_of v.space)) image (sectors_in p) f.len)) placed ∙ ap Some (place_bytes image v f items is ref)

@@ -104,6 +104,7 @@ module _ {D : Type 0} {d : Ghosts D} (law : Laws d) (old mid new : D) (first : L
       answered = has.answered;
       begun_is = has.begun_is;
       files_left = has.files_left;
+      back = has.back;
       told = has.told;
       whole = has.whole;
       holds = has.holds;
@@ -159,6 +160,7 @@ module _ {D : Type 0} {d : Ghosts D} (law : Laws d) (old new : D) (files : Optio
     answered = refl;
     begun_is = none_begun served_line_of (plain_mode kind read_only) s _;
     files_left = λ held known. (held, known, files_stay served_line_of (plain_mode kind read_only) s held _);
+    back = λ first host is. refl;
     told = (0, refl);
     whole = λ disk. refl;
     holds = λ spares. same.bytes_stay ∙ told;

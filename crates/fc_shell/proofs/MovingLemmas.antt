@@ -138,6 +138,7 @@ module _ {D : Type 0} {d : Ghosts D} (law : Laws d) (kind : Kind) (v : Volume) (
         broke = record {
           begun = none_asked mode s line;
           files_left = λ held known. (held, known, inl refl);
+          back = λ first host is. refl;
           holds = λ spares. reads.bytes ∙ told;
           kept = λ keeps. tree_stays;
           still = λ leaves. image_stays;
@@ -187,6 +188,7 @@ module _ {D : Type 0} (d : Ghosts D) (old new : D) (kind : Kind) (read_only : Bo
     broke = record {
       begun = refl;
       files_left = λ held known. (held, known, inl refl);
+      back = λ first host is. refl;
       holds = λ spares. x.holds (spares_line fault spares);
       kept = λ keeps. x.kept (ap (keeps_tree_or false) is ∙ keeps);
       still = λ leaves. x.still (ap (leaves_image_or false) is ∙ leaves);

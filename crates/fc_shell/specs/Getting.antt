@@ -8,7 +8,7 @@ use Rattle.fc_host.specs.Files.{Files}
 use Rattle.fc_host.specs.declared.asks.HostCall.TheVariants as calls
 use Rattle.fc_image.specs.effects.Effect.{State}
 use Rattle.fc_runs.specs.AskedRun.{GetsAsked}
-use Rattle.fc_runs.specs.HostPromises.{GetsPart}
+use Rattle.fc_runs.specs.HostPromises.{GetsPart, IsBack}
 use Rattle.fc_runs.specs.Promises.{spares_disk}
 use Rattle.fc_runs.specs.Run.{is_error}
 use Rattle.fc_shell.specs.declared.moving.MoveFault.{MoveFault}
@@ -25,6 +25,7 @@ pub record IsGot (host bytes : List ℕ) (asked : List Asked) (files left : Opti
 pub record IsNotGot (host bytes : List ℕ) (asked : List Asked) (files left : Option Files) : Type 0 where
   pub begun : (asked ≡ []) ⊎ ((asked ≡ (host, calls.Failed, []) ∷ []) ⊎ GetsPart host bytes asked)
   pub files_left : ForSome files (λ held. (now : Files) × (left ≡ Some now) × ((now ≡ held) ⊎ ((is_some (get held host) ≡ false) × ((n : ℕ) × (now ≡ insert held host (take n bytes))))))
+  pub back : IsBack asked files left
 
 abbrev pub FileMoves : List ℕ → List ℕ → List Asked → Option Files → Option Files → Option (List ℕ) → Option (List ℕ) → Result Bool MoveFault → Type 0
 FileMoves host bytes asked files left before after (Ok refused) = (reply : List ℕ) × IsGot host bytes asked files left reply × Wrote before after reply × (refused ≡ is_error reply)

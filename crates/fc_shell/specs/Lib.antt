@@ -23,3 +23,4 @@ pub mod MoveFaults
 pub mod Getting
 pub mod HostPromise
 pub mod HostHeadline
+pub mod Program

@@ -5,6 +5,7 @@
 #![tactic(auto)]
 
 mod answer;
+mod arguments;
 mod cat;
 mod change;
 mod check;
@@ -50,6 +51,7 @@ ghost use Rattle.fc_shell.specs.Replies.{AsksNoDemo, EndsAs, asked_script, blank
 ghost use Rattle.fc_shell.specs.Script.{behind_limit};
 ghost use Rattle.fc_shell.specs.Writing.{Wrote};
 
+pub use arguments::{image_of, program, words_of};
 pub use ending::End;
 use fc_demo::demo_script;
 use fc_device::{Disk, NoMemory, Sink, Source};

@@ -4,8 +4,7 @@
 
 use fc_cache::CachedDisk;
 use fc_files::{FileDisk, FileHost, StdSink, StdSource};
-use fc_shell::{End, run_with};
-use fc_words::read_words;
+use fc_shell::{End, image_of, program, words_of};
 use std::alloc::Global;
 use std::fs::{self, File};
 use std::io::ErrorKind;
@@ -13,13 +12,13 @@ use std::os::fd::AsFd;
 use std::process::ExitCode;
 use std::{env, io};
 
-// The words after the program's name.
-fn words(rt: &HostRuntime, alloc: Global) -> io::Result<Vec<String>> {
-    Ok(env::args(rt)?.skip(1).collect(alloc)?)
+// The arguments, of which the first is the program's name.
+fn arguments(rt: &HostRuntime, alloc: Global) -> io::Result<Vec<String>> {
+    Ok(env::args(rt)?.collect(alloc)?)
 }
 
-// How a run ends whose words weren't read: a word that isn't text names no image.
-fn end_of_words(error: &io::Error) -> End {
+// How a run ends whose arguments weren't read: one that isn't text names no image.
+fn end_without_arguments(error: &io::Error) -> End {
     match error.kind() {
         ErrorKind::OutOfMemory => End::NoMemory,
         _ => End::BadWords,
@@ -53,22 +52,14 @@ fn hold_streams(rt: &HostRuntime) -> io::Result<[Option<File>; 3]> {
     Ok([input, output, errors])
 }
 
-// The name of the image that the words ask for, and none if they are bad.
-fn image_of(alloc: Global, words: &Vec<String>) -> String {
-    match read_words(alloc, words) {
-        Ok(asked) => asked.image,
-        Err(_) => String::new(alloc),
-    }
-}
-
 fn main(rt: HostRuntime) -> ExitCode {
     let alloc = rt.alloc();
     let Ok(_held) = hold_streams(&rt) else {
         return ExitCode::from(End::DiskFault.status());
     };
-    let words = match words(&rt, alloc) {
-        Ok(words) => words,
-        Err(error) => return ExitCode::from(end_of_words(&error).status()),
+    let words = match arguments(&rt, alloc) {
+        Ok(args) => words_of(args),
+        Err(error) => return ExitCode::from(end_without_arguments(&error).status()),
     };
     let (Ok(files), Ok(folder)) = (rt.clone(), rt.clone()) else {
         return ExitCode::from(End::NoMemory.status());
@@ -78,6 +69,12 @@ fn main(rt: HostRuntime) -> ExitCode {
     let mut script = StdSource::new(rt.reader());
     let mut out = StdSink::new(io::writer(&rt));
     let mut host = FileHost::new(folder, image.as_str());
-    let end = run_with(alloc, &words, &mut disk, &mut script, &mut out, &mut host);
-    ExitCode::from(end.status())
+    ExitCode::from(program(
+        alloc,
+        &words,
+        &mut disk,
+        &mut script,
+        &mut out,
+        &mut host,
+    ))
 }
