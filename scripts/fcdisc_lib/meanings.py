@@ -133,6 +133,7 @@ REFUSALS: Dict[str, Refusal] = {
         "no piece of the disc's free space is long enough: use compact first"),
     "MapFull": Refusal(
         16, "of delete, save and create: the old map has no room for another hole", "the list of free space is full: use compact first"),
+    "HostExists": Refusal(20, "of get: the host has a file of that name", "there is a file of its name here already"),
     "NotNewMap": Refusal(
         21, "of reclaim: the disc has an old map", "it has an old map, and space that nothing owns can be found on new maps alone"),
 }

@@ -21,7 +21,7 @@ use Rattle.fc_runs.specs.HostPromises.{AskedBegun, AskedBegunBy, AskedHasRun, As
 use Rattle.fc_runs.specs.HostRun.{Reading, all_host_keep_tree, host_keeps_tree}
 use Rattle.fc_runs.specs.HostServing.{AreMoved, IsBrokenOff, IsMoved}
 use Rattle.fc_runs.specs.Meanwhile.{GoesOn}
-use Rattle.fc_runs.specs.Promises.{Cause, spares_disk}
+use Rattle.fc_runs.specs.Promises.{Cause, cuts_replies, spares_disk}
 use Rattle.fc_runs.specs.Run.{Mode, commands_in, is_error, text_of}
 use Rattle.fc_runs.specs.Stops.{MayHaveLeft, all_host_leave_image, host_leaves_image, is_kept_by_next}
 use Rattle.fc_runs.proofs.HostStepLemmas.{asked_more, asks_keep, asks_leave, asks_long, asks_more, asks_new, asks_weaker, each_done, each_last, each_next}
@@ -154,11 +154,11 @@ module _ {D : Type 0} {d : Ghosts D} (law : Laws d) (read : Reading) (mode : Mod
 
   -- The last line was done, and its reply written in part.
   pub moved_cut : (line reply : List ℕ) (left : List (List ℕ)) (mid new : D) (next : State) (held now : Option Files) (asked more : List Asked) (n : ℕ) (cause : Cause)
-      → (has : AreMoved d read old mid mode s files held asked (commands_in script) (line ∷ left)) → GoesOn d old mid → GoesOn d mid new → d.pending new ≡ false → spares_disk cause ≡ true
+      → (has : AreMoved d read old mid mode s files held asked (commands_in script) (line ∷ left)) → GoesOn d old mid → GoesOn d mid new → d.pending new ≡ false → cuts_replies cause ≡ true
       → IsMoved d mid new mode has.state (read line) reply more held now next
       → AskedHasStopped d read old new mode false s files now (asked ++ more) script (text_of has.replies ++ take n reply) cause
   unfolding moved_more
-  moved_cut line reply left mid new next held now asked more n cause has first second settled spared is =
+  moved_cut line reply left mid new next held now asked more n cause has first second settled cut is =
       let are = moved_more line reply left mid new next held now asked more has first second is in
       let Might = MayHaveLeft d old new in
       let long : length are.replies ≡ length are.done = asks_long read Might mode s are.state are.done are.replies are.asks are.steps in
@@ -187,7 +187,7 @@ module _ {D : Type 0} {d : Ghosts D} (law : Laws d) (read : Reading) (mode : Mod
         files_left = λ fs known. (fs, known, files_stay read mode are.state fs after);
         back = λ first host is. refl;
         told = (length (text_of has.replies) + part.0, text);
-        whole = λ disk. absurd (let clash : false ≡ true = sym disk ∙ spared in cc);
+        whole = λ whole. absurd (let clash : false ≡ true = sym whole ∙ cut in cc);
         holds = λ spares. are.holds;
         settled = λ spares. inl settled;
         stops = λ was_quiet. record {

@@ -16,7 +16,7 @@ use Rattle.fc_script.specs.HostLines.{HostLine}
 use Rattle.fc_runs.specs.AskedRun.{AskedSteps}
 use Rattle.fc_runs.specs.Early.{FilesLeftBy, host_reply_begun, text_begun}
 use Rattle.fc_runs.specs.HostRun.{Reading, all_host_keep_tree, answer_in, file_in}
-use Rattle.fc_runs.specs.Promises.{Cause, HostHasRun, HostHasStopped, spares_disk}
+use Rattle.fc_runs.specs.Promises.{Cause, HostHasRun, HostHasStopped, cuts_replies, spares_disk}
 use Rattle.fc_runs.specs.Run.{Mode, commands_in, is_error, text_of, whole_replies}
 use Rattle.fc_runs.specs.Stops.{MayHaveLeft, all_host_leave_image, next_host_keeps_tree, next_host_leaves_image}
 
@@ -94,7 +94,7 @@ pub record AskedHasStopped {D : Type 0} (d : Ghosts D) (read : Reading) (old new
   pub files_left : ForSome between (λ held. (now : Files) × (left ≡ Some now) × FilesLeftBy read mode end held (slice_get (commands_in script) (length replies)) now)
   pub back : IsBack begun between left
   pub told : (n : ℕ) × (text ≡ take n (text_begun None replies (slice_get (commands_in script) (length replies)) (λ line. host_reply_begun mode end (read line))))
-  pub whole : spares_disk cause ≡ false → whole_replies (length text) replies ≡ length replies
+  pub whole : cuts_replies cause ≡ false → whole_replies (length text) replies ≡ length replies
   pub holds : spares_disk cause ≡ true → d.bytes new ≡ Some end.image
   pub settled : spares_disk cause ≡ true → (d.pending new ≡ false) ⊎ (new ≡ old)
   pub stops : d.pending old ≡ false → AskedStops d read old new mode fresh s end (commands_in script) replies

@@ -60,6 +60,12 @@ abbrev pub spares_disk : Cause → Bool
 spares_disk Cause.Disk = false
 spares_disk cause = true
 
+-- Only where the sink had an I/O error or memory is short may a reply be missing of a line that may move files and was done.
+abbrev pub cuts_replies : Cause → Bool
+cuts_replies Cause.Out = true
+cuts_replies Cause.Memory = true
+cuts_replies cause = false
+
 -- A fresh image was asked for and isn't there: the disk had an I/O error while it was made, or the run was out of memory before it
 -- asked anything of the disk. Nothing was written.
 abbrev pub IsUnmade : {D : Type 0} → Bool → Cause → D → D → List ℕ → Type 0
@@ -87,7 +93,7 @@ HasBrokenOff d old new mode fresh demo s script text cause =
 pub record HostHasStopped {D : Type 0} (d : Ghosts D) (read : Reading) (old new : D) (mode : Mode) (fresh : Bool) (demo : Option ℕ) (s : State) (files left : Files) (script text : List ℕ) (cause : Cause) : Type 0 where
   pub end : State
   pub ended : HostEndsEarly read (MayHaveLeft d old new) mode demo s files script text end left
-  pub whole : demo ≡ None → spares_disk cause ≡ false → whole_replies (length text) ended.replies ≡ length ended.replies
+  pub whole : demo ≡ None → cuts_replies cause ≡ false → whole_replies (length text) ended.replies ≡ length ended.replies
   pub holds : spares_disk cause ≡ true → d.bytes new ≡ Some end.image
   pub settled : spares_disk cause ≡ true → (d.pending new ≡ false) ⊎ (new ≡ old)
   pub stops : d.pending old ≡ false → HostStops d read old new mode fresh demo s end files (commands_in (script_for demo script)) ended.replies text

@@ -50,7 +50,7 @@ use Rattle.fc_shell.specs.Modes.{plain_mode}
 use Rattle.fc_shell.specs.MoveFaults.{moved_result}
 use Rattle.fc_shell.specs.Moving.{LineMoves}
 use Rattle.fc_shell.specs.Writing.{Wrote, WrotePart}
-use Rattle.fc_shell.proofs.MovingLemmas.{moved_same, spares_move}
+use Rattle.fc_shell.proofs.MovingLemmas.{moved_same, cuts_move}
 use Rattle.fc_tree.proofs.PathLemmas.{some_same as same_node}
 use Rattle.fc_shell.proofs.StepLemmas.{same_image, same_tree}
 use Rattle.fc_shell.proofs.WritingLemmas.{wrote_nothing}
@@ -137,7 +137,7 @@ module _ (host : List ℕ) (known : Option (List ℕ)) (asked : List Asked) (old
 pub told_file : (host bytes : List ℕ) (asked : List Asked) (files left : Option Files) (before after : Option (List ℕ)) (reply : List ℕ) → IsGot host bytes asked files left reply
     → (r : Result Bool LineFault) → (r ≡ Err LineFault.Disk → ⊥) → Answered reply before after r → FileMoves host bytes asked files left before after (moved_result r)
 told_file host bytes asked files left before after reply got (Ok refused) never is = (reply, got, is.0, is.1)
-told_file host bytes asked files left before after reply got (Err fault) never is = inl (reply, got, is, spares_move fault (λ e. never (ap Err e)))
+told_file host bytes asked files left before after reply got (Err fault) never is = inl (reply, got, is, cuts_move fault (λ e. never (ap Err e)))
 
 -- ---- the line
 
@@ -175,7 +175,7 @@ module _ {D : Type 0} {d : Ghosts D} (law : Laws d) (kind : Kind) (v : Volume) (
     next = s;
     moved = moved_same law kind v s line old new before after quiet told opens reads x.0 asked files left (got_step x.0 x.1) x.1.answered;
     part = x.2;
-    spares = x.3;
+    cuts = x.3;
   })
   got_moves (Err fault) parts (inr x) = inr (record {
     part = (0, subst (λ (a : Option (List ℕ)). Wrote before a []) (sym x.0) (wrote_nothing before));

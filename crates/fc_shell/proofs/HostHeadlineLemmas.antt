@@ -1,17 +1,25 @@
 -- The headline over a host that tells its files, from what a run promises.
-use Rattle.std.proofs.Common.{◌≡◌, ◌⊎◌, inl, inr, ℕ, Bool, true, false, nat_lt, List, length, Option, Some, None, Result, Ok, Err, refl, sym, subst}
+use Rattle.std.proofs.Common.{◌≡◌, ◌⊎◌, inl, inr, ℕ, Bool, true, false, nat_lt, List, [], ◌∷◌, length, Option, Some, None, Result, Ok, Err, refl, sym, subst}
 use Rattle.std.specs.Prelude.{is_some}
 use Rattle.fc_device.specs.declared.disk.Disk.{Ghosts}
 use Rattle.fc_host.specs.Asked.{Asked}
 use Rattle.fc_host.specs.Files.{Files}
 use Rattle.fc_image.specs.declared.ImageFault.{ImageFault}
+use Rattle.fc_image.specs.Laws.{AcceptedLaw}
 use Rattle.fc_image.specs.Opening.{Opened, open_image}
+use Rattle.fc_image.specs.effects.Effect.{State}
+use Rattle.fc_runs.specs.HostHeadline.{HostHeadlineLaw}
+use Rattle.fc_runs.specs.HostPromises.{ToldRun}
+use Rattle.fc_runs.specs.HostRun.{HostSteps, Reading, served_line_of}
+use Rattle.fc_runs.specs.Run.{Mode, commands_in}
+use Rattle.fc_runs.specs.Stops.{MayHaveLeft}
 use Rattle.fc_words.specs.CommandLine.{Request}
 use Rattle.fc_shell.specs.declared.ending.End.{End}
 use Rattle.fc_shell.specs.declared.ending.End.TheVariants.{Done, Refused, BadWords, BadImage, DiskFault, ScriptFault, OutFault, HostFault, NoMemory, ScriptTooLong, NotBuilt, NoImage}
 use Rattle.fc_shell.specs.Headline.{start_of}
-use Rattle.fc_shell.specs.HostHeadline.{IsInLines, IsServedWithHost}
-use Rattle.fc_shell.specs.HostPromise.{HostPromise, MovesByDemo, MovesByGiving, MovesByLength, MovesByOpening, MovesByWords}
+use Rattle.fc_shell.specs.HostHeadline.{IsAnsweredByMaps, IsInLines, IsServedWithHost}
+use Rattle.fc_shell.specs.HostPromise.{HostPromise, MovesByDemo, MovesByGiving, MovesByLength, MovesByOpening, MovesByWords, ToldOver}
+use Rattle.fc_shell.specs.Modes.{plain_mode}
 use Rattle.fc_shell.specs.Promise.{EndsBefore, EndsOnFault, EndsWithout}
 use Rattle.fc_shell.specs.Replies.{blank_size, image_for, is_unbuilt, script_limit}
 use Rattle.fc_shell.proofs.HostPromiseLemmas.{over_told}
@@ -86,3 +94,41 @@ module _ {D : Type 0} (d : Ghosts D) (old new : D) (r : Request) (files left : O
 
     pub served_with_host : (end : End) → IsInLines end → HostPromise d old new gives files left asked image script text (Some r) end → IsServedWithHost d old new r image script text files left end
     served_with_host end w x = by_words (is_unbuilt r) end (late end w) x
+
+-- ---- by two maps
+
+steps_weaker : (read : Reading) (May Might : List ℕ → Type 0) → ((image : List ℕ) → May image → Might image) → (mode : Mode) (s s' : State) (files files' : Files) (lines replies : List (List ℕ))
+    → HostSteps read May mode s files lines replies s' files' → HostSteps read Might mode s files lines replies s' files'
+steps_weaker read May Might weaker mode s s' files files' [] [] x = x
+steps_weaker read May Might weaker mode s s' files files' [] (reply ∷ replies) x = x
+steps_weaker read May Might weaker mode s s' files files' (line ∷ lines) [] x = x
+steps_weaker read May Might weaker mode s s' files files' (line ∷ lines) (reply ∷ replies) x =
+    (x.0, x.1, weaker x.0.image x.2, x.3, steps_weaker read May Might weaker mode x.0 s' x.1 files' lines replies x.4)
+
+module _ {D : Type 0} (d : Ghosts D) (old new : D) (headline : HostHeadlineLaw) (accepted : AcceptedLaw) (r : Request) (image script text : List ℕ) (files : Files) (left : Option Files) where
+  by_maps : (v : Opened) (refused : Bool) → open_image (image_for r.new image) ≡ Ok v
+      → ToldRun d served_line_of old new (plain_mode v.kind r.read_only) (is_some r.new) (start_of r image v) (Some files) left script text refused → IsAnsweredByMaps d new r image script text files left
+  by_maps v refused o x =
+      let ran = x files refl in
+      let has = ran.2 in
+      record {
+        view = v;
+        opens = o;
+        replies = has.run.replies;
+        end = has.end;
+        now = ran.0;
+        left_is = ran.1;
+        answered = headline served_line_of (plain_mode v.kind r.read_only) (start_of r image v) has.end files ran.0 (commands_in script) has.run.replies refl (accepted (image_for r.new image) v o)
+            (steps_weaker served_line_of (MayHaveLeft d old new) (λ between. Unit {0}) (λ between may. tt) (plain_mode v.kind r.read_only) (start_of r image v) has.end files ran.0 (commands_in script) has.run.replies has.run.steps);
+        told = has.run.told;
+        holds = has.holds;
+      }
+
+  pub answered_by_maps : (end : End) (held : Option Files) → held ≡ Some files → (end ≡ Done) ⊎ (end ≡ Refused) → IsServedWithHost d old new r image script text held left end
+      → IsAnsweredByMaps d new r image script text files left
+  answered_by_maps end held is (inl done) x =
+      let over = subst (λ (e : End). ToldOver d old new (plain_mode x.view.kind r.read_only) (is_some r.new) (start_of r image x.view) held left script text e) done x.over in
+      by_maps x.view false x.opens (subst (λ (h : Option Files). ToldRun d served_line_of old new (plain_mode x.view.kind r.read_only) (is_some r.new) (start_of r image x.view) h left script text false) is over)
+  answered_by_maps end held is (inr done) x =
+      let over = subst (λ (e : End). ToldOver d old new (plain_mode x.view.kind r.read_only) (is_some r.new) (start_of r image x.view) held left script text e) done x.over in
+      by_maps x.view true x.opens (subst (λ (h : Option Files). ToldRun d served_line_of old new (plain_mode x.view.kind r.read_only) (is_some r.new) (start_of r image x.view) h left script text true) is over)

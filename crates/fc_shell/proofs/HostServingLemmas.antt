@@ -15,7 +15,7 @@ use Rattle.fc_runs.specs.Early.{host_reply_begun}
 use Rattle.fc_runs.specs.HostAsks.{LineAsks, LinesAsk}
 use Rattle.fc_runs.specs.HostRun.{Reading, served_line_of}
 use Rattle.fc_runs.specs.Meanwhile.{GoesOn}
-use Rattle.fc_runs.specs.Promises.{spares_disk}
+use Rattle.fc_runs.specs.Promises.{cuts_replies, spares_disk}
 use Rattle.fc_runs.specs.Run.{Mode, commands_in, text_of}
 use Rattle.fc_runs.specs.Stops.{host_leaves_image}
 use Rattle.fc_runs.proofs.HostServingLemmas.{moved_all, moved_broke, moved_cut, moved_first, moved_next}
@@ -77,6 +77,11 @@ asked_then old mid now asked more was is = is ∙ ap (λ (l : List Asked). l ++ 
 
 -- ---- faults
 
+pub no_disk : (fault : MoveFault) → cuts_replies (move_cause fault) ≡ true → fault ≡ MoveFault.Disk → ⊥
+no_disk fault cuts is =
+    let clash : false ≡ true = sym (ap (λ (f : MoveFault). cuts_replies (move_cause f)) is) ∙ cuts in
+    cc
+
 pub not_disk : (fault : MoveFault) → spares_disk (move_cause fault) ≡ true → fault ≡ MoveFault.Disk → ⊥
 not_disk fault spares is =
     let clash : false ≡ true = sym (ap (λ (f : MoveFault). spares_disk (move_cause f)) is) ∙ spares in
@@ -132,7 +137,7 @@ module _ {D : Type 0} {d : Ghosts D} (law : Laws d) (kind : Kind) (read_only : B
     text_of has.lines.replies ++ take x.part.0 x.reply,
     wrote_both before between after (text_of has.lines.replies) (take x.part.0 x.reply) has.wrote x.part.1,
     moved_cut law served_line_of mode s files script old told quiet opens line x.reply left mid new x.next held later asked more x.part.0 (move_cause fault) has.lines first second
-        (settled (not_disk fault x.spares)) x.spares x.moved,
+        (settled (no_disk fault x.cuts)) x.cuts x.moved,
   )
   host_part line left v v' so_far before between after mid new fault asked more held later has first second settled (inr x) = (
     text_of has.lines.replies ++ take x.part.0 (host_reply_begun mode has.lines.state (served_line_of line)),

@@ -23,7 +23,7 @@ use Rattle.fc_runs.specs.AskedRun.{AskedTakes}
 use Rattle.fc_runs.specs.Early.{host_reply_begun, reply_begun}
 use Rattle.fc_runs.specs.HostServing.{IsBrokenOff, IsMoved}
 use Rattle.fc_runs.specs.Meanwhile.{LeavesImage, LeavesTree}
-use Rattle.fc_runs.specs.Promises.{spares_disk}
+use Rattle.fc_runs.specs.Promises.{cuts_replies, spares_disk}
 use Rattle.fc_runs.specs.Run.{Mode, Takes, is_error, keeps_tree_or}
 use Rattle.fc_runs.specs.Stops.{host_leaves_image, leaves_image_or}
 use Rattle.fc_runs.proofs.HostServingLemmas.{none_asked}
@@ -44,10 +44,10 @@ use Rattle.fc_shell.proofs.WritingLemmas.{wrote_nothing}
 
 -- ---- faults
 
-pub spares_move : (fault : LineFault) → (fault ≡ LineFault.Disk → ⊥) → spares_disk (move_cause (move_fault fault)) ≡ true
-spares_move lines.Disk never = absurd (never refl)
-spares_move lines.Out never = refl
-spares_move lines.NoMemory never = refl
+pub cuts_move : (fault : LineFault) → (fault ≡ LineFault.Disk → ⊥) → cuts_replies (move_cause (move_fault fault)) ≡ true
+cuts_move lines.Disk never = absurd (never refl)
+cuts_move lines.Out never = refl
+cuts_move lines.NoMemory never = refl
 
 spares_line : (fault : LineFault) → spares_disk (move_cause (move_fault fault)) ≡ true → fault ≡ LineFault.Disk → ⊥
 spares_line lines.Disk spares is = absurd (cc)
@@ -122,7 +122,7 @@ module _ {D : Type 0} {d : Ghosts D} (law : Laws d) (kind : Kind) (v : Volume) (
   told_moves reply asked files left step answered parts (Ok refused) never is =
       record { reply = reply; next = s; moved = moved_same reply asked files left step answered; parts = parts; wrote = is.0; refused_is = is.1 }
   told_moves reply asked files left step answered parts (Err fault) never is =
-      inl (record { reply = reply; next = s; moved = moved_same reply asked files left step answered; part = is; spares = spares_move fault (λ e. never (ap Err e)) })
+      inl (record { reply = reply; next = s; moved = moved_same reply asked files left step answered; part = is; cuts = cuts_move fault (λ e. never (ap Err e)) })
 
   -- The line is refused before anything is asked.
   pub refused_moves : (refusal : Refusal) (files : Option Files) → line ≡ Err refusal → ArePartsOf (parts_of v) s.view → (r : Result Bool LineFault) → (r ≡ Err LineFault.Disk → ⊥)
@@ -182,7 +182,7 @@ module _ {D : Type 0} (d : Ghosts D) (old new : D) (kind : Kind) (read_only : Bo
   pub command_moves : (v : Volume) (r : Result Bool LineFault) → LineEnds d old new kind read_only s v line before after r
       → LineMoves d old new kind read_only s v own_line before after [] files files (moved_result r)
   command_moves v (Ok refused) x = record { reply = x.reply; next = x.next; moved = done_moves x.reply x.next x.done; parts = x.parts; wrote = x.wrote; refused_is = x.refused_is }
-  command_moves v (Err fault) (inl x) = inl (record { reply = x.reply; next = x.next; moved = done_moves x.reply x.next x.done; part = x.part; spares = spares_move fault x.no_disk })
+  command_moves v (Err fault) (inl x) = inl (record { reply = x.reply; next = x.next; moved = done_moves x.reply x.next x.done; part = x.part; cuts = cuts_move fault x.no_disk })
   command_moves v (Err fault) (inr x) = inr (record {
     part = subst (λ (r : Result Command Refusal). WrotePart before after (reply_begun own_mode s r)) is x.part;
     broke = record {

@@ -9,7 +9,7 @@ use Rattle.fc_host.specs.declared.asks.HostCall.TheVariants as calls
 use Rattle.fc_image.specs.effects.Effect.{State}
 use Rattle.fc_runs.specs.AskedRun.{GetsAsked}
 use Rattle.fc_runs.specs.HostPromises.{GetsPart, IsBack}
-use Rattle.fc_runs.specs.Promises.{spares_disk}
+use Rattle.fc_runs.specs.Promises.{cuts_replies}
 use Rattle.fc_runs.specs.Run.{is_error}
 use Rattle.fc_shell.specs.declared.moving.MoveFault.{MoveFault}
 use Rattle.fc_shell.specs.Moving.{move_cause}
@@ -30,5 +30,5 @@ pub record IsNotGot (host bytes : List ℕ) (asked : List Asked) (files left : O
 abbrev pub FileMoves : List ℕ → List ℕ → List Asked → Option Files → Option Files → Option (List ℕ) → Option (List ℕ) → Result Bool MoveFault → Type 0
 FileMoves host bytes asked files left before after (Ok refused) = (reply : List ℕ) × IsGot host bytes asked files left reply × Wrote before after reply × (refused ≡ is_error reply)
 FileMoves host bytes asked files left before after (Err fault) =
-    ((reply : List ℕ) × IsGot host bytes asked files left reply × WrotePart before after reply × (spares_disk (move_cause fault) ≡ true))
+    ((reply : List ℕ) × IsGot host bytes asked files left reply × WrotePart before after reply × (cuts_replies (move_cause fault) ≡ true))
     ⊎ ((after ≡ before) × IsNotGot host bytes asked files left)

@@ -1,8 +1,12 @@
 -- The headline of a run whose lines may move files, over a host that tells its files.
-use Rattle.std.specs.Prelude.{◌≡◌, ◌⊎◌, ℕ, List, Option, is_some, Ok}
+use Rattle.std.specs.Prelude.{◌≡◌, ◌⊎◌, ℕ, List, Option, Some, is_some, Ok}
 use Rattle.fc_device.specs.declared.disk.Disk.{Ghosts}
 use Rattle.fc_host.specs.Files.{Files}
 use Rattle.fc_image.specs.Opening.{Opened, open_image}
+use Rattle.fc_image.specs.effects.Effect.{State, tree_in}
+use Rattle.fc_runs.specs.HostHeadline.{MapsAnswer}
+use Rattle.fc_runs.specs.HostRun.{served_line_of}
+use Rattle.fc_runs.specs.Run.{commands_in, text_of}
 use Rattle.fc_words.specs.CommandLine.{Request}
 use Rattle.fc_shell.specs.declared.ending.End.{End}
 use Rattle.fc_shell.specs.declared.ending.End.TheVariants.{Done, Refused, HostFault}
@@ -20,3 +24,16 @@ pub record IsServedWithHost {D : Type 0} (d : Ghosts D) (old new : D) (r : Reque
   pub view : Opened
   pub opens : open_image (image_for r.new image) ≡ Ok view
   pub over : ToldOver d old new (plain_mode view.kind r.read_only) (is_some r.new) (start_of r image view) files left script text end
+
+-- The image opens, and the tree in it is a map. This map and the host's files answer the lines in turn: their replies were written, the
+-- image that the disk then has holds the map after them, and the host has the files after them.
+pub record IsAnsweredByMaps {D : Type 0} (d : Ghosts D) (new : D) (r : Request) (image script text : List ℕ) (files : Files) (left : Option Files) : Type 0 where
+  pub view : Opened
+  pub opens : open_image (image_for r.new image) ≡ Ok view
+  pub replies : List (List ℕ)
+  pub end : State
+  pub now : Files
+  pub left_is : left ≡ Some now
+  pub answered : MapsAnswer served_line_of (plain_mode view.kind r.read_only) (tree_in (start_of r image view)) files (start_of r image view) (commands_in script) replies (tree_in end) now end
+  pub told : text ≡ text_of replies
+  pub holds : d.bytes new ≡ Some end.image

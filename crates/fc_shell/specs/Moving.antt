@@ -19,7 +19,7 @@ use Rattle.fc_runs.specs.HostPromises.{AskedHasRun, AskedHasStopped}
 use Rattle.fc_runs.specs.HostRun.{served_line_of}
 use Rattle.fc_runs.specs.HostServing.{AreMoved, IsBrokenOff, IsMoved}
 use Rattle.fc_runs.specs.Meanwhile.{GoesOn}
-use Rattle.fc_runs.specs.Promises.{Cause, spares_disk}
+use Rattle.fc_runs.specs.Promises.{Cause, cuts_replies}
 use Rattle.fc_runs.specs.Run.{commands_in, is_error, text_of}
 use Rattle.fc_runs.specs.Stops.{host_leaves_image}
 use Rattle.fc_tree.specs.Parts.{ArePartsOf}
@@ -50,13 +50,13 @@ pub record IsServed {D : Type 0} (d : Ghosts D) (old new : D) (kind : Kind) (rea
   pub wrote : Wrote before after reply
   pub refused_is : refused ≡ is_error reply
 
--- It was done, and a part of its reply was written; no call of the disk failed.
+-- It was done, and a part of its reply was written; no call of the disk or of the host failed.
 pub record IsServedPart {D : Type 0} (d : Ghosts D) (old new : D) (kind : Kind) (read_only : Bool) (s : State) (line : Result HostLine Refusal) (before after : Option (List ℕ)) (asked : List Asked) (files left : Option Files) (fault : MoveFault) : Type 0 where
   pub reply : List ℕ
   pub next : State
   pub moved : IsMoved d old new (plain_mode kind read_only) s line reply asked files left next
   pub part : WrotePart before after reply
-  pub spares : spares_disk (move_cause fault) ≡ true
+  pub cuts : cuts_replies (move_cause fault) ≡ true
 
 -- It broke off, and may have written a part of a reply if it reads.
 pub record IsStopped {D : Type 0} (d : Ghosts D) (old new : D) (kind : Kind) (read_only : Bool) (s : State) (line : Result HostLine Refusal) (before after : Option (List ℕ)) (asked : List Asked) (files left : Option Files) (fault : MoveFault) : Type 0 where

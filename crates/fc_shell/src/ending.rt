@@ -25,7 +25,7 @@ pub enum End {
     NoMemory,
     /// 8: the script is longer than 16,777,216 bytes.
     ScriptTooLong,
-    /// 9: the words or a line of the script ask for what isn't built.
+    /// 9: the words ask for what isn't built.
     NotBuilt,
     /// 11: a call of the host failed.
     HostFault,

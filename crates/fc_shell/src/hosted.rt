@@ -11,7 +11,7 @@ ghost use Rattle.fc_words.specs.CommandLine.{Request, request_of};
 ghost use Rattle.fc_words.specs.Request.{request_in};
 ghost use Rattle.fc_shell.specs.Answered.{ForState};
 ghost use Rattle.fc_shell.specs.Ends.{is_early, is_late, move_end};
-ghost use Rattle.fc_shell.specs.HostHeadline.{IsInLines, IsServedWithHost};
+ghost use Rattle.fc_shell.specs.HostHeadline.{IsAnsweredByMaps, IsInLines, IsServedWithHost};
 ghost use Rattle.fc_shell.specs.HostPromise.{HostKeeps, HostPromise, HostRunSpares, MovesByGiving, MovesByOpening, MovesByWords, MovesOver};
 ghost use Rattle.fc_shell.specs.Kept.{RunKeeps, SessionKeeps};
 ghost use Rattle.fc_shell.specs.Modes.{plain_mode};
@@ -189,11 +189,17 @@ pub fn run_with<D: Disk, S: Source, K: Sink, H: Host>(
         AsksMore H.Host host.old host.new (λ asked. (text : List ℕ) × Wrote (K.taken out.old) (K.taken out.new) text
         × HostPromise D.Disk disk.old disk.new gives (H.files host.old) (H.files host.new) asked image lines text (request_of (map string_bytes words.now.items)) result)))) }
 
-    // The headline, if the host tells its files too and the run ended in its lines or after them: the lines are steps with the files of
-    // the host (`HostStep` of fc_runs). A `get` adds the file, and no line changes another one.
+    // If the host tells its files too and the run ended in its lines or after them: the lines are steps with the files of the host
+    // (`HostStep` of fc_runs). A `get` adds the file, and no line changes another one.
     ensures told { (r : Request) → request_of (map string_bytes words.now.items) ≡ Some r → r.demo ≡ None → IsInLines result
         → ForSome (D.gives disk.old) (λ gives. ForSome (S.left script.old) (λ lines. ForSome (D.bytes disk.old) (λ image.
         (text : List ℕ) × Wrote (K.taken out.old) (K.taken out.new) text × IsServedWithHost D.Disk disk.old disk.new r image lines text (H.files host.old) (H.files host.new) result))) }
+
+    // The headline, if all lines were done: each line is answered by two maps, the disc's from paths to attributes and bytes and the
+    // host's from names to bytes. `get` is refused as `load` is by the first, then if the second has its name; else it adds that.
+    ensures headline { (r : Request) → request_of (map string_bytes words.now.items) ≡ Some r → r.demo ≡ None → (result ≡ End.Done) ⊎ (result ≡ End.Refused)
+        → ForSome (D.gives disk.old) (λ gives. ForSome (S.left script.old) (λ lines. ForSome (D.bytes disk.old) (λ image. ForSome (H.files host.old) (λ files.
+        (text : List ℕ) × Wrote (K.taken out.old) (K.taken out.new) text × IsAnsweredByMaps D.Disk disk.new r image lines text files (H.files host.new))))) }
 
     // Whatever is known: each line in turn asks of the host what it may, and nothing else is asked. A line names only its own file,
     // makes it before it adds to it or removes it, and so changes no file that was there. A demo asks nothing. A failure is the
@@ -220,8 +226,9 @@ pub fn run_with<D: Disk, S: Source, K: Sink, H: Host>(
     ensures unread { (r : Request) → request_of (map string_bytes words.now.items) ≡ Some r → (n : ℕ) → r.demo ≡ Some n
         → (script.new ≡ script.old) × (result ≢ End.ScriptFault) × (result ≢ End.ScriptTooLong) × (host.new ≡ host.old) }
 {
-    // A law, for the proof alone: an image that is accepted opens as its own kind.
+    // Laws, for the proof alone: an image that is accepted opens as its own kind, and lines are answered as by two maps.
     fc_image::accepted();
+    fc_runs::host_headline();
     match read_words(alloc, words) {
         Err(WordsError::BadWords) => End::BadWords,
         Err(WordsError::NoMemory) => End::NoMemory,

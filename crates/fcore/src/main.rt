@@ -61,7 +61,10 @@ fn main(rt: HostRuntime) -> ExitCode {
         Ok(args) => words_of(args),
         Err(error) => return ExitCode::from(end_without_arguments(&error).status()),
     };
-    let (Ok(files), Ok(folder)) = (rt.clone(), rt.clone()) else {
+    let Ok(files) = rt.clone() else {
+        return ExitCode::from(End::NoMemory.status());
+    };
+    let Ok(folder) = rt.clone() else {
         return ExitCode::from(End::NoMemory.status());
     };
     let image = image_of(alloc, &words);

@@ -8,6 +8,7 @@ returns g c =
       record {
         promise = run.promise;
         told = run.told;
+        headline = run.headline;
         host = run.host;
         keeps = run.keeps;
         bad_words = run.bad_words;

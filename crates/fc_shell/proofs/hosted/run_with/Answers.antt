@@ -1,15 +1,16 @@
-use Rattle.std.proofs.Common.{Option, None, Some, [], Err, inl, refl, ap, map, sym, subst, ◌∙◌}
+use Rattle.std.proofs.Common.{◌≡◌, ◌⊎◌, Option, None, Some, [], Err, inl, inr, refl, ap, map, sym, subst, ◌∙◌}
 use Rattle.std.specs.Prelude.{IsSome, string_bytes}
 use Rattle.std.proofs.lemmas.List.{append-nil}
 use Rattle.fc_device.proofs.DiskLaws.{laws}
 use Rattle.fc_words.specs.CommandLine.{Request, request_of}
 use Rattle.fc_words.specs.Request.{request_in}
 use Rattle.fc_shell.specs.declared.ending.End.{End}
+use Rattle.fc_shell.specs.HostHeadline.{IsInLines}
 use Rattle.fc_shell.specs.HostPromise.{HostKeeps, HostPromise}
 use Rattle.fc_shell.specs.Replies.{asked_script}
 use Rattle.fc_shell.proofs.AskedLemmas.{told_plain}
 use Rattle.fc_shell.proofs.DemoLemmas.{asked_few}
-use Rattle.fc_shell.proofs.HostHeadlineLemmas.{served_with_host}
+use Rattle.fc_shell.proofs.HostHeadlineLemmas.{answered_by_maps, served_with_host}
 use Rattle.fc_shell.proofs.HostKeptLemmas.{host_idle_told, host_memory_promise}
 use Rattle.fc_shell.proofs.PromiseLemmas.{none}
 use Rattle.fc_shell.proofs.WritingLemmas.{wrote_nothing}
@@ -76,6 +77,20 @@ returns-in-Ok-clause-told g c r asked plain ended gives given text left image to
       promise.2.1,
       served_with_host g.D.Disk c.args.disk.now c.run_request_with.new.disk r (g.H.Host.files c.args.host.now) (g.H.Host.files c.run_request_with.new.host) promise.0 image text promise.2.0 gives plain c.run_request_with.result ended
           (subst (λ o. HostPromise g.D.Disk c.args.disk.now c.run_request_with.new.disk gives (g.H.Host.files c.args.host.now) (g.H.Host.files c.run_request_with.new.host) promise.0 image text promise.2.0 o c.run_request_with.result) asked promise.2.2),
+    )
+
+in_lines : (end : End) → (end ≡ End.Done) ⊎ (end ≡ End.Refused) → IsInLines end
+in_lines end (inl is) = inl is
+in_lines end (inr is) = inr (inl is)
+
+pub returns-in-Ok-clause-headline : goal.returns-in-Ok-clause-headline
+returns-in-Ok-clause-headline g c r asked plain whole gives given text left image told files held =
+    let end = c.run_request_with.result in
+    let served = returns-in-Ok-clause-told g c r asked plain (in_lines end whole) gives given text left image told in (
+      served.0,
+      served.1,
+      answered_by_maps g.D.Disk c.args.disk.now c.run_request_with.new.disk c.host_headline.ensures c.accepted.ensures r image text served.0 files (g.H.Host.files c.run_request_with.new.host) end
+          (g.H.Host.files c.args.host.now) held whole served.2,
     )
 
 pub returns-in-Ok-clause-host : goal.returns-in-Ok-clause-host
