@@ -1,4 +1,4 @@
-use Rattle.std.proofs.Common.{◌≡◌, ◌<◌, ◌≤◌, ◌∙◌, List, ℕ, [], Bool, Option, Result, Ok, Err, length, inl, refl, sym, ap, subst, arith}
+use Rattle.std.proofs.Common.{◌≡◌, ◌<◌, ◌≤◌, ◌∙◌, List, ℕ, [], Bool, true, false, Option, Result, Ok, Err, length, inl, refl, sym, ap, subst, arith}
 use Rattle.std.proofs.lemmas.List.{append-nil}
 use Rattle.fc_device.proofs.DiskLaws.{laws}
 use Rattle.fc_device.proofs.StopLemmas.{reads_start}
@@ -25,6 +25,10 @@ use Rattle.fc_shell.proofs.host_line.answer_host_line.Goals as goal
 
 -- ---- `get`
 
+-- a line that was read as this spells it
+line_is : (line : List ℕ) (told other : Told) → host_line_of line ≡ Ok (host_line told) → told ≡ other → host_line_of line ≡ Ok (host_line other)
+line_is line told other read is = read ∙ ap (λ (t : Told). let r : Result HostLine Refusal = Ok (host_line t) in r) is
+
 get_line : (line : List ℕ) (path : List (List ℕ)) (name other : List ℕ) → host_line_of line ≡ Ok (HostLine.Get path name) → other ≡ name → Ok (HostLine.Get path other) ≡ served_line_of line
 get_line line path name other is same = ap (λ (n : List ℕ). let r : Result HostLine Refusal = Ok (HostLine.Get path n) in r) same ∙ sym (ap without_put is)
 
@@ -35,10 +39,10 @@ pub get-requires-clause-stands : goal.get-requires-clause-stands
 get-requires-clause-stands g c = subst (λ (v : Volume). StandsFor g.D.Disk v c.args.disk.now) (sym c.renew_index.ensures) c.requires.stands
 
 pub get-requires-clause-some : goal.get-requires-clause-some
-get-requires-clause-some g c = subst (λ (n : List ℕ). 0 < length n) (sym c.bytes.ensures.same) (get_name c.args.line.now c.in-Ok-Get.path c.in-Ok-Get.name c.in-Ok-Get.ensures).0
+get-requires-clause-some g c = subst (λ (n : List ℕ). 0 < length n) (sym c.bytes.ensures.same) (get_name c.args.line.now c.in-Ok-Get.path c.in-Ok-Get.name (line_is c.args.line.now c.in-Ok-Get.field-0 (Told.Get c.in-Ok-Get.path c.in-Ok-Get.name) c.in-Ok-Get.ensures c.in-Ok-Get.field-0-is)).0
 
 pub get-requires-clause-most : goal.get-requires-clause-most
-get-requires-clause-most g c = subst (λ (n : List ℕ). length n ≤ 64) (sym c.bytes.ensures.same) (get_name c.args.line.now c.in-Ok-Get.path c.in-Ok-Get.name c.in-Ok-Get.ensures).1
+get-requires-clause-most g c = subst (λ (n : List ℕ). length n ≤ 64) (sym c.bytes.ensures.same) (get_name c.args.line.now c.in-Ok-Get.path c.in-Ok-Get.name (line_is c.args.line.now c.in-Ok-Get.field-0 (Told.Get c.in-Ok-Get.path c.in-Ok-Get.name) c.in-Ok-Get.ensures c.in-Ok-Get.field-0-is)).1
 
 pub returns-in-Ok-Get-clause-step : goal.returns-in-Ok-Get-clause-step
 returns-in-Ok-Get-clause-step g c image told kind view opens parts =
@@ -46,7 +50,7 @@ returns-in-Ok-Get-clause-step g c image told kind view opens parts =
     let taken = g.K.Sink.taken in
     let files = g.H.Host.files in
     let same = c.renew_index.ensures in
-    let own = get_line c.args.line.now c.in-Ok-Get.path c.in-Ok-Get.name c.bytes.result.now c.in-Ok-Get.ensures c.bytes.ensures.same in
+    let own = get_line c.args.line.now c.in-Ok-Get.path c.in-Ok-Get.name c.bytes.result.now (line_is c.args.line.now c.in-Ok-Get.field-0 (Told.Get c.in-Ok-Get.path c.in-Ok-Get.name) c.in-Ok-Get.ensures c.in-Ok-Get.field-0-is) c.bytes.ensures.same in
     let m = c.get.ensures.step image told kind view opens (subst (λ (v : Volume). ArePartsOf (parts_of v) view) (sym same) parts) in (
       m.0,
       m.1,
@@ -57,7 +61,7 @@ returns-in-Ok-Get-clause-step g c image told kind view opens parts =
 
 pub returns-in-Ok-Get-clause-asks : goal.returns-in-Ok-Get-clause-asks
 returns-in-Ok-Get-clause-asks g c =
-    let own = get_line c.args.line.now c.in-Ok-Get.path c.in-Ok-Get.name c.bytes.result.now c.in-Ok-Get.ensures c.bytes.ensures.same in
+    let own = get_line c.args.line.now c.in-Ok-Get.path c.in-Ok-Get.name c.bytes.result.now (line_is c.args.line.now c.in-Ok-Get.field-0 (Told.Get c.in-Ok-Get.path c.in-Ok-Get.name) c.in-Ok-Get.ensures c.in-Ok-Get.field-0-is) c.bytes.ensures.same in
     let m = c.get.ensures.asks in
     (m.0, m.1, subst (λ (l : Result HostLine Refusal). LineAsks l m.0) own m.2)
 
@@ -68,8 +72,14 @@ returns-in-Ok-Get-clause-keeps g c =
 
 -- ---- `put`
 
-put_line : (line : List ℕ) (host : List ℕ) (path : List (List ℕ)) (load exec : ℕ) → host_line_of line ≡ Ok (HostLine.Put host path load exec) → served_line_of line ≡ Err refusals.BadCommand
-put_line line host path load exec is = ap without_put is
+abbrev is_put : Told → Bool
+is_put (Told.Put host path load exec) = true
+is_put told = false
+
+put_told : (line : List ℕ) (told : Told) → host_line_of line ≡ Ok (host_line told) → is_put told ≡ true → served_line_of line ≡ Err refusals.BadCommand
+put_told line (Told.Put host path load exec) read is = ap without_put read
+put_told line (Told.Get path host) read is = absurd (cc)
+put_told line (Told.Other c) read is = absurd (cc)
 
 pub returns-in-Ok-Put-clause-step : goal.returns-in-Ok-Put-clause-step
 returns-in-Ok-Put-clause-step g c image told kind view opens parts =
@@ -77,7 +87,7 @@ returns-in-Ok-Put-clause-step g c image told kind view opens parts =
     let taken = g.K.Sink.taken in
     let files = g.H.Host.files c.args.host.now in
     let line = served_line_of c.args.line.now in
-    let is = ap without_put c.in-Ok-Put.ensures in
+    let is : line ≡ Err refusals.BadCommand = put_told c.args.line.now c.in-Ok-Put.field-0 c.in-Ok-Put.ensures (ap is_put c.in-Ok-Put.field-0-is) in
     let v = c.args.volume.now in (
       [],
       sym (append-nil (g.H.Host.asked c.args.host.now)),
@@ -88,7 +98,7 @@ returns-in-Ok-Put-clause-step g c image told kind view opens parts =
 
 pub returns-in-Ok-Put-clause-asks : goal.returns-in-Ok-Put-clause-asks
 returns-in-Ok-Put-clause-asks g c =
-    ([], sym (append-nil (g.H.Host.asked c.args.host.now)), subst (λ (l : Result HostLine Refusal). LineAsks l []) (sym (ap without_put c.in-Ok-Put.ensures)) refl)
+    ([], sym (append-nil (g.H.Host.asked c.args.host.now)), subst (λ (l : Result HostLine Refusal). LineAsks l []) (sym (put_told c.args.line.now c.in-Ok-Put.field-0 c.in-Ok-Put.ensures (ap is_put c.in-Ok-Put.field-0-is))) refl)
 
 pub returns-in-Ok-Put-clause-keeps : goal.returns-in-Ok-Put-clause-keeps
 returns-in-Ok-Put-clause-keeps g c =
@@ -104,7 +114,7 @@ returns-in-Ok-Put-clause-caused g c =
 -- ---- a command
 
 pub answer_command-requires-clause-spelled : goal.answer_command-requires-clause-spelled
-answer_command-requires-clause-spelled g c = (c.args.line.now, other_command c.args.line.now (command c.in-Ok-Other.asked) c.in-Ok-Other.ensures, c.requires.short)
+answer_command-requires-clause-spelled g c = (c.args.line.now, other_command c.args.line.now (command c.in-Ok-Other.asked) (line_is c.args.line.now c.in-Ok-Other.field-0 (Told.Other c.in-Ok-Other.asked) c.in-Ok-Other.ensures c.in-Ok-Other.field-0-is), c.requires.short)
 
 pub returns-in-Ok-Other-clause-step : goal.returns-in-Ok-Other-clause-step
 returns-in-Ok-Other-clause-step g c image told kind view opens parts =
@@ -113,7 +123,7 @@ returns-in-Ok-Other-clause-step g c image told kind view opens parts =
     let files = g.H.Host.files c.args.host.now in
     let line = c.args.line.now in
     let asked = command c.in-Ok-Other.asked in
-    let is = other_command line asked c.in-Ok-Other.ensures in
+    let is = other_command line asked (line_is c.args.line.now c.in-Ok-Other.field-0 (Told.Other c.in-Ok-Other.asked) c.in-Ok-Other.ensures c.in-Ok-Other.field-0-is) in
     let ro : Bool = c.args.volume.now.read_only in
     let now = c.answer_command.new.volume in
     let moves = command_moves g.D.Disk c.args.disk.now c.answer_command.new.disk kind ro s line asked is (taken c.args.out.now) (taken c.answer_command.new.out) files now c.answer_command.result
@@ -121,32 +131,32 @@ returns-in-Ok-Other-clause-step g c image told kind view opens parts =
       [],
       sym (append-nil (g.H.Host.asked c.args.host.now)),
       subst (λ (l : Result HostLine Refusal). LineMoves g.D.Disk c.args.disk.now c.answer_command.new.disk kind ro s now l (taken c.args.out.now) (taken c.answer_command.new.out) [] files files c.moved-in-Ok-Other.result)
-          (sym (ap without_put c.in-Ok-Other.ensures))
+          (sym (ap without_put (line_is c.args.line.now c.in-Ok-Other.field-0 (Told.Other c.in-Ok-Other.asked) c.in-Ok-Other.ensures c.in-Ok-Other.field-0-is)))
           (subst (λ (r : Result Bool MoveFault). LineMoves g.D.Disk c.args.disk.now c.answer_command.new.disk kind ro s now (Ok (HostLine.Other asked)) (taken c.args.out.now) (taken c.answer_command.new.out) [] files files r)
           (sym c.moved-in-Ok-Other.ensures) moves),
     )
 
 pub returns-in-Ok-Other-clause-asks : goal.returns-in-Ok-Other-clause-asks
 returns-in-Ok-Other-clause-asks g c =
-    ([], sym (append-nil (g.H.Host.asked c.args.host.now)), subst (λ (l : Result HostLine Refusal). LineAsks l []) (sym (ap without_put c.in-Ok-Other.ensures)) refl)
+    ([], sym (append-nil (g.H.Host.asked c.args.host.now)), subst (λ (l : Result HostLine Refusal). LineAsks l []) (sym (ap without_put (line_is c.args.line.now c.in-Ok-Other.field-0 (Told.Other c.in-Ok-Other.asked) c.in-Ok-Other.ensures c.in-Ok-Other.field-0-is))) refl)
 
 pub returns-in-Ok-Other-clause-keeps : goal.returns-in-Ok-Other-clause-keeps
 returns-in-Ok-Other-clause-keeps g c =
     let line = c.args.line.now in
     let asked = command c.in-Ok-Other.asked in
-    let is = other_command line asked c.in-Ok-Other.ensures in
+    let is = other_command line asked (line_is c.args.line.now c.in-Ok-Other.field-0 (Told.Other c.in-Ok-Other.asked) c.in-Ok-Other.ensures c.in-Ok-Other.field-0-is) in
     let old = c.args.disk.now in
     let new = c.answer_command.new.disk in
     let v = c.args.volume.now in
     let now = c.answer_command.new.volume in
-    subst (λ (l : Result HostLine Refusal). KeepsServing g.D.Disk old new v now l c.moved-in-Ok-Other.result) (sym (ap without_put c.in-Ok-Other.ensures))
+    subst (λ (l : Result HostLine Refusal). KeepsServing g.D.Disk old new v now l c.moved-in-Ok-Other.result) (sym (ap without_put (line_is c.args.line.now c.in-Ok-Other.field-0 (Told.Other c.in-Ok-Other.asked) c.in-Ok-Other.ensures c.in-Ok-Other.field-0-is)))
     (subst (λ (r : Result Bool MoveFault). KeepsServing g.D.Disk old new v now (Ok (HostLine.Other asked)) r) (sym c.moved-in-Ok-Other.ensures)
     (command_serves g.D.Disk g.K.Sink old new c.args.out.now c.answer_command.new.out v now line asked c.answer_command.result is (c.answer_command.ensures.keeps line is)))
 
 pub returns-in-Ok-Other-clause-caused : goal.returns-in-Ok-Other-clause-caused
 returns-in-Ok-Other-clause-caused g c =
     let line = c.args.line.now in
-    let is = other_command line (command c.in-Ok-Other.asked) c.in-Ok-Other.ensures in
+    let is = other_command line (command c.in-Ok-Other.asked) (line_is c.args.line.now c.in-Ok-Other.field-0 (Told.Other c.in-Ok-Other.asked) c.in-Ok-Other.ensures c.in-Ok-Other.field-0-is) in
     subst (λ (r : Result Bool MoveFault). AreCaused g.D.Disk g.K.Sink g.H.Host c.args.disk.now c.answer_command.new.disk c.args.out.now c.answer_command.new.out c.args.host.now c.args.host.now r) (sym c.moved-in-Ok-Other.ensures)
     (caused_moved g.D.Disk g.K.Sink g.H.Host c.args.disk.now c.answer_command.new.disk c.args.out.now c.answer_command.new.out c.args.host.now c.answer_command.result (c.answer_command.ensures.keeps line is).caused)
 
@@ -214,8 +224,8 @@ returns-in-Err-BadName-clause-caused g c =
     (caused_moved g.D.Disk g.K.Sink g.H.Host c.args.disk.now c.args.disk.now c.args.out.now c.tell-in-Err-BadName.new.out c.args.host.now c.tell-in-Err-BadName.result
     (caused_alone g.D.Disk g.K.Sink c.args.disk.now c.args.disk.now c.args.out.now c.tell-in-Err-BadName.new.out c.tell-in-Err-BadName.result c.tell-in-Err-BadName.ensures.only))
 
-pub returns-in-Err-NoMemory-clause-step : goal.returns-in-Err-NoMemory-clause-step
-returns-in-Err-NoMemory-clause-step g c image told kind view opens parts =
+pub returns-clause-step : goal.returns-clause-step
+returns-clause-step g c image told kind view opens parts =
     let s : State = record { image = image; view = view } in
     let taken = g.K.Sink.taken c.args.out.now in (
       [],
@@ -230,10 +240,10 @@ none_asks (Ok (HostLine.Get path host)) = inl refl
 none_asks (Ok (HostLine.Put host path load exec)) = λ k d below. absurd (omega (arith, below))
 none_asks (Ok (HostLine.Other command)) = refl
 
-pub returns-in-Err-NoMemory-clause-asks : goal.returns-in-Err-NoMemory-clause-asks
-returns-in-Err-NoMemory-clause-asks g c = ([], sym (append-nil (g.H.Host.asked c.args.host.now)), none_asks (served_line_of c.args.line.now))
+pub returns-clause-asks : goal.returns-clause-asks
+returns-clause-asks g c = ([], sym (append-nil (g.H.Host.asked c.args.host.now)), none_asks (served_line_of c.args.line.now))
 
-pub returns-in-Err-NoMemory-clause-keeps : goal.returns-in-Err-NoMemory-clause-keeps
-returns-in-Err-NoMemory-clause-keeps g c =
+pub returns-clause-keeps : goal.returns-clause-keeps
+returns-clause-keeps g c =
     reading_serves (laws g.met.D.Disk) c.args.volume.now (served_line_of c.args.line.now) c.args.disk.now c.args.disk.now (Err MoveFault.NoMemory) c.requires.settled c.requires.fit c.requires.stands
     (reads_start (laws g.met.D.Disk) c.args.disk.now)
