@@ -1,5 +1,6 @@
 -- A run whose lines may move files, before and after its image is attached.
 use Rattle.std.proofs.Common.{◌≡◌, ◌<◌, ◌≤◌, ◌⊎◌, inl, inr, ⊎_elim, ℕ, nat_lt, Bool, true, false, List, [], ◌++◌, length, Option, Some, None, Result, Ok, Err, refl, sym, ap, subst, ◌∙◌, arith}
+use Rattle.std.specs.Prelude.{is_some}
 use Rattle.std.proofs.lemmas.Bool.Decides.{nat_tests}
 use Rattle.std.proofs.lemmas.List.{append-nil}
 use Rattle.fc_device.specs.declared.disk.Disk.{Ghosts}
@@ -8,18 +9,20 @@ use Rattle.fc_host.specs.Asked.{Asked}
 use Rattle.fc_host.specs.Files.{Files}
 use Rattle.fc_host.specs.declared.host.Host.{Ghosts as Hosts}
 use Rattle.fc_image.specs.declared.ImageFault.{ImageFault}
+use Rattle.fc_image.specs.Opening.{Opened, open_image}
 use Rattle.fc_runs.specs.Run.{commands_in}
 use Rattle.fc_words.specs.CommandLine.{Request}
 use Rattle.fc_image.specs.Laws.{AcceptedLaw as Accepts}
 use Rattle.fc_shell.specs.declared.ending.End.{End}
-use Rattle.fc_shell.specs.declared.ending.End.TheVariants.{BadImage, OutFault, HostFault, NoMemory, ScriptTooLong}
-use Rattle.fc_shell.specs.HostPromise.{HostKeeps, HostPromise, HostRunSpares, MovesByDemo, MovesByLength, MovesByWords, script_spares}
+use Rattle.fc_shell.specs.declared.ending.End.TheVariants.{BadImage, OutFault, HostFault, NoImage, NoMemory, ScriptFault, ScriptTooLong}
+use Rattle.fc_shell.specs.Ends.{is_late_alone}
+use Rattle.fc_shell.specs.HostPromise.{HostKeeps, HostPromise, HostRunSpares, MovesByDemo, MovesByGiving, MovesByLength, MovesByOpening, MovesByWords, script_spares}
 use Rattle.fc_shell.specs.Moving.{HostSpares}
 use Rattle.fc_shell.specs.Promise.{EndsByGiving}
 use Rattle.fc_shell.specs.Reads.{Spares, only_reads}
-use Rattle.fc_shell.specs.Replies.{blank_size, is_unbuilt, script_limit}
+use Rattle.fc_shell.specs.Replies.{blank_size, image_for, is_unbuilt, script_limit}
 use Rattle.fc_shell.proofs.HostPromiseLemmas.{moves_memory_giving}
-use Rattle.fc_shell.proofs.PromiseLemmas.{memory_giving, none}
+use Rattle.fc_shell.proofs.PromiseLemmas.{memory_giving, no_fresh, none}
 
 -- ---- nothing was asked of the host
 
@@ -47,6 +50,10 @@ pub told_no_host : (fault : ImageFault) (result : End) → (result ≡ BadImage 
 told_no_host fault result (inl is) e = absurd (cc)
 told_no_host fault result (inr (inl is)) e = absurd (cc)
 told_no_host fault result (inr (inr is)) e = absurd (cc)
+
+pub alone_no_host : (result : End) → (is_late_alone result ≡ true) ⊎ (result ≡ NoImage) → result ≡ HostFault → ⊥
+alone_no_host result (inl late) e = no_fresh (sym (ap is_late_alone e) ∙ late)
+alone_no_host result (inr none) e = absurd (let clash : (let end : End = NoImage in end) ≡ HostFault = sym none ∙ e in cc)
 
 -- the script that was read is the known one
 pub host_read : {H : Type 0} (h : Hosts H) (told : Option (List ℕ)) (script : List ℕ) (before after : H) (end : End) → ((text : List ℕ) → told ≡ Some text → script ≡ text)
@@ -93,6 +100,25 @@ module _ {D : Type 0} {d : Ghosts D} (law : Laws d) (accepts : Accepts) (disk : 
   pub host_memory_promise : (o : Option Request) → HostPromise d disk disk gives files files [] image script [] o NoMemory
   host_memory_promise None = ((inr (inr refl), none law disk), (refl, refl))
   host_memory_promise (Some r) = host_memory_words r (is_unbuilt r)
+
+module _ {D : Type 0} {d : Ghosts D} (law : Laws d) (disk : D) (gives : List ℕ → Option ℕ → Bool) (files : Option Files) (image script : List ℕ) (r : Request) where
+  fault_opening : (opened : Result Opened ImageFault) → MovesByOpening d disk disk r.read_only (is_some r.new) files files [] (image_for r.new image) script [] opened ScriptFault
+  fault_opening (Err fault) = (none law disk, (refl, refl))
+  fault_opening (Ok v) = (none law disk, (refl, refl))
+
+  fault_giving : (given : Bool) → MovesByGiving d disk disk r files files [] image script [] given ScriptFault
+  fault_giving false = (none law disk, (refl, refl))
+  fault_giving true = fault_opening (open_image (image_for r.new image))
+
+  fault_length : r.demo ≡ None → (long : Bool) → MovesByLength d disk disk gives r files files [] image script [] long ScriptFault
+  fault_length plain true = ((inr (inl refl), none law disk), (refl, refl))
+  fault_length plain false =
+      subst (λ (demo : Option ℕ). MovesByDemo d disk disk r files files [] image script [] (gives r.image (blank_size r)) demo ScriptFault) (sym plain) (fault_giving (gives r.image (blank_size r)))
+
+  -- the source failed
+  pub host_source_fault : is_unbuilt r ≡ false → r.demo ≡ None → MovesByWords d disk disk gives r files files [] image script [] (is_unbuilt r) ScriptFault
+  host_source_fault built plain =
+      subst (λ (b : Bool). MovesByWords d disk disk gives r files files [] image script [] b ScriptFault) (sym built) (fault_length plain (nat_lt script_limit (length script)))
 
 pub host_too_long : {D : Type 0} {d : Ghosts D} (law : Laws d) (disk : D) (gives : List ℕ → Option ℕ → Bool) (files : Option Files) (image script : List ℕ) (r : Request) → is_unbuilt r ≡ false
     → script_limit < length script → MovesByWords d disk disk gives r files files [] image script [] (is_unbuilt r) ScriptTooLong

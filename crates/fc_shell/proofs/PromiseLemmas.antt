@@ -24,7 +24,7 @@ use Rattle.fc_shell.specs.declared.answer.LineFault.TheVariants as lines
 use Rattle.fc_shell.specs.declared.tally.Tally.{Tally}
 use Rattle.fc_words.specs.declared.Format.{Format as Word}
 use Rattle.fc_shell.specs.Counted.{has_refused}
-use Rattle.fc_shell.specs.Ends.{end_after, end_of, is_late}
+use Rattle.fc_shell.specs.Ends.{end_after, end_of, is_late, is_late_alone}
 use Rattle.fc_shell.specs.Modes.{plain_mode}
 use Rattle.fc_shell.specs.Promise.{EndsByGiving, EndsByOpening, EndsOnFault, EndsOver}
 use Rattle.fc_shell.specs.Reading.{IsUnwritten}
@@ -267,6 +267,16 @@ late_end (Err lines.Disk) = refl
 late_end (Err lines.Out) = refl
 late_end (Err lines.NoMemory) = refl
 
+alone_after : (refused : Bool) → is_late_alone (end_after refused) ≡ true
+alone_after true = refl
+alone_after false = refl
+
+pub alone_end : (result : Result Tally LineFault) → is_late_alone (end_of result) ≡ true
+alone_end (Ok tally) = alone_after (has_refused tally)
+alone_end (Err lines.Disk) = refl
+alone_end (Err lines.Out) = refl
+alone_end (Err lines.NoMemory) = refl
+
 pub disk_end : (result : Result Tally LineFault) → end_of result ≡ DiskFault → result ≡ Err LineFault.Disk
 disk_end (Ok tally) e = absurd (no_fresh (after_end (has_refused tally) DiskFault e))
 disk_end (Err lines.Disk) e = refl
@@ -295,6 +305,11 @@ pub told_late : (fault : ImageFault) (result : End) → (result ≡ BadImage fau
 told_late fault result (inl is) = ap is_late is
 told_late fault result (inr (inl is)) = ap is_late is
 told_late fault result (inr (inr is)) = ap is_late is
+
+pub told_alone : (fault : ImageFault) (result : End) → (result ≡ BadImage fault) ⊎ ((result ≡ OutFault) ⊎ (result ≡ NoMemory)) → is_late_alone result ≡ true
+told_alone fault result (inl is) = ap is_late_alone is
+told_alone fault result (inr (inl is)) = ap is_late_alone is
+told_alone fault result (inr (inr is)) = ap is_late_alone is
 
 pub told_no_disk : (fault : ImageFault) (result : End) → (result ≡ BadImage fault) ⊎ ((result ≡ OutFault) ⊎ (result ≡ NoMemory)) → result ≡ DiskFault → ⊥
 told_no_disk fault result (inl is) e = absurd (cc)

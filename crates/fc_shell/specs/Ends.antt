@@ -56,6 +56,11 @@ is_late NotBuilt = false
 is_late NoImage = false
 is_late end = true
 
+-- a run that asks nothing of a host ends so only when an image is attached
+abbrev pub is_late_alone : End → Bool
+is_late_alone HostFault = false
+is_late_alone end = is_late end
+
 -- a run ends so only over an image that was taken or made
 abbrev pub is_over_image : End → Bool
 is_over_image Done = true

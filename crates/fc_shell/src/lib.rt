@@ -41,7 +41,7 @@ ghost use Rattle.fc_runs.specs.Run.{commands_in, script_for};
 ghost use Rattle.fc_words.specs.CommandLine.{Request, request_of};
 ghost use Rattle.fc_words.specs.Request.{request_in};
 ghost use Rattle.fc_shell.specs.Reads.{Spares, only_reads};
-ghost use Rattle.fc_shell.specs.Ends.{AsksFor, FitsGiven, is_early, is_late, is_over_image};
+ghost use Rattle.fc_shell.specs.Ends.{AsksFor, FitsGiven, is_early, is_late_alone, is_over_image};
 ghost use Rattle.fc_shell.specs.Headline.{IsAnsweredByMap};
 ghost use Rattle.fc_shell.specs.Kept.{HasImage, LeavesDisk, RunKeeps, RunSpares};
 ghost use Rattle.fc_shell.specs.Promise.{EndsByGiving, EndsByWords, Promise};
@@ -76,7 +76,7 @@ fn run_demo<D: Disk, K: Sink>(
         (text : List ℕ) × Wrote (K.taken out.old) (K.taken out.new) text
         × EndsByGiving D.Disk disk.old disk.new r image (demo_script n) text (gives r.image (blank_size r)) result)) }
     ensures keeps { RunKeeps D.Disk K.Sink (request_in asked.now) (Spares (request_in asked.now).read_only (commands_in (demo_script n))) disk.old disk.new out.old out.new result }
-    ensures ended { (is_late result ≡ true) ⊎ (result ≡ End.NoImage) }
+    ensures ended { (is_late_alone result ≡ true) ⊎ (result ≡ End.NoImage) }
 {
     // A law, for the proof alone: an image that is accepted opens as its own kind.
     fc_image::accepted();

@@ -11,7 +11,7 @@ ghost use Rattle.fc_volume.specs.Volume.{StandsFor};
 ghost use Rattle.fc_words.specs.Request.{request_in};
 ghost use Rattle.fc_shell.specs.Answered.{ForState, IsCaused};
 ghost use Rattle.fc_shell.specs.Reads.{Spares};
-ghost use Rattle.fc_shell.specs.Ends.{end_of, is_late};
+ghost use Rattle.fc_shell.specs.Ends.{end_of, is_late_alone};
 ghost use Rattle.fc_shell.specs.Kept.{RunKeeps, SessionKeeps};
 ghost use Rattle.fc_runs.specs.Meanwhile.{GoesOn};
 ghost use Rattle.fc_shell.specs.Modes.{plain_mode};
@@ -113,7 +113,7 @@ fn answer_demo<D: Disk, K: Sink>(
     ensures promise { ForState (D.bytes disk.old) volume.old (λ kind s. (text : List ℕ) × Wrote (K.taken out.old) (K.taken out.new) text
         × EndsOver D.Disk disk.old disk.new (plain_mode kind volume.old.read_only) false (Some n) s script.now text result) }
     ensures keeps { SessionKeeps D.Disk K.Sink (Spares volume.old.read_only (commands_in script.now)) disk.old disk.new out.old out.new result }
-    ensures late { is_late result ≡ true }
+    ensures late { is_late_alone result ≡ true }
 {
     let mut replies = Replies::new(alloc);
     match serve(alloc, volume, disk, &mut replies, script) {
@@ -143,7 +143,7 @@ fn answer_lines<D: Disk, K: Sink>(
     ensures promise { ForState (D.bytes disk.old) volume.old (λ kind s. (text : List ℕ) × Wrote (K.taken out.old) (K.taken out.new) text
         × EndsOver D.Disk disk.old disk.new (plain_mode kind volume.old.read_only) false demo s script.now text result) }
     ensures keeps { SessionKeeps D.Disk K.Sink (Spares volume.old.read_only (commands_in script.now)) disk.old disk.new out.old out.new result }
-    ensures late { is_late result ≡ true }
+    ensures late { is_late_alone result ≡ true }
 {
     match demo {
         None => end_of(serve(alloc, volume, disk, out, script)),
@@ -166,6 +166,7 @@ fn answer_image<D: Disk, K: Sink>(
     ensures promise { ForSome (D.bytes disk.old) (λ image. (text : List ℕ) × Wrote (K.taken out.old) (K.taken out.new) text
         × EndsByOpening D.Disk disk.old disk.new read_only false demo image script.now text (open_image image) result) }
     ensures keeps { SessionKeeps D.Disk K.Sink (Spares read_only (commands_in script.now)) disk.old disk.new out.old out.new result }
+    ensures late { is_late_alone result ≡ true }
 {
     // A law, for the proof alone: an image that is accepted opens as its own kind.
     fc_image::accepted();
@@ -191,7 +192,7 @@ pub fn answer_script<D: Disk, K: Sink>(
         (text : List ℕ) × Wrote (K.taken out.old) (K.taken out.new) text
         × EndsByGiving D.Disk disk.old disk.new r image script.now text (gives r.image (blank_size r)) result)) }
     ensures keeps { RunKeeps D.Disk K.Sink (request_in asked.now) (Spares (request_in asked.now).read_only (commands_in script.now)) disk.old disk.new out.old out.new result }
-    ensures late { (is_late result ≡ true) ⊎ (result ≡ End.NoImage) }
+    ensures late { (is_late_alone result ≡ true) ⊎ (result ≡ End.NoImage) }
 {
     // Laws, for the proof alone: a fresh image is accepted, and one that is accepted opens as its own kind.
     fc_image::accepted();

@@ -70,9 +70,9 @@ returns-in-Err-Image-clause-promise g c image told =
     let mid = c.mount.new.disk in
     let files = g.H.Host.files c.args.host.now in
     let wrong : open_image image ≡ Err c.in-Err-Image.fault = subst (IsFaultOf (open_image image)) c.in-Err-Image.field-0-is (c.in-Err-Image.ensures.fault image told) in
-    let ended = rw c.in-Err-Image.field-0-is at c.tell_fault.ensures.ended in
-    let bad = rw c.in-Err-Image.field-0-is at c.tell_fault.ensures.bad in
-    let part = rw c.in-Err-Image.field-0-is at c.tell_fault.ensures.part in
+    let ended = c.tell_fault.ensures.ended in
+    let bad = c.tell_fault.ensures.bad in
+    let part = c.tell_fault.ensures.part in
     let ends = tell_ends g.D.Disk old mid c.in-Err-Image.fault c.tell_fault.result (g.K.Sink.taken c.args.out.now) (g.K.Sink.taken c.tell_fault.new.out)
     (shapes_unwritten g.D.Disk old mid c.mount.ensures.shapes) ended bad part (λ is. ap g.K.Sink.taken (c.tell_fault.ensures.no_memory is)) in (
       [],
@@ -86,13 +86,13 @@ returns-in-Err-Image-clause-promise g c image told =
 
 pub returns-in-Err-Image-clause-keeps : goal.returns-in-Err-Image-clause-keeps
 returns-in-Err-Image-clause-keeps g c =
-    let ended = rw c.in-Err-Image.field-0-is at c.tell_fault.ensures.ended in
+    let ended = c.tell_fault.ensures.ended in
     session_shapes (laws g.met.D.Disk) g.K.Sink _ c.args.disk.now c.mount.new.disk c.args.out.now c.tell_fault.new.out c.tell_fault.result c.mount.ensures.shapes c.requires.fresh.nothing_pending
     (told_late c.in-Err-Image.fault c.tell_fault.result ended) (λ is. absurd (told_no_disk c.in-Err-Image.fault c.tell_fault.result ended is)) c.tell_fault.ensures.out_fault
 
 pub returns-in-Err-Image-clause-host : goal.returns-in-Err-Image-clause-host
 returns-in-Err-Image-clause-host g c =
-    let ended = rw c.in-Err-Image.field-0-is at c.tell_fault.ensures.ended in
+    let ended = c.tell_fault.ensures.ended in
     host_idle g.H.Host _ c.args.script.now c.args.host.now c.tell_fault.result (λ text is. cc) (told_no_host c.in-Err-Image.fault c.tell_fault.result ended)
 
 pub returns-in-Err-DiskFault-clause-promise : goal.returns-in-Err-DiskFault-clause-promise

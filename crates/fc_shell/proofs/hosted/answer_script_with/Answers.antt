@@ -1,8 +1,9 @@
-use Rattle.std.proofs.Common.{◌≡◌, inl, Bool, true, Ok, Some, [], ap, subst, sym, refl, ◌∙◌, arith}
+use Rattle.std.proofs.Common.{◌≡◌, inl, Bool, true, false, rules, Ok, Some, [], ap, subst, sym, refl, ◌∙◌, arith}
 use Rattle.std.specs.Prelude.{is_some}
 use Rattle.std.specs.Option.{option_map}
 use Rattle.std.proofs.lemmas.List.{append-nil}
 use Rattle.fc_device.proofs.DiskLaws.{laws}
+use Rattle.fc_runs.specs.Promises.{HasNoRun}
 use Rattle.fc_runs.specs.Run.{commands_in}
 use Rattle.fc_words.specs.Request.{request_in}
 use Rattle.fc_shell.specs.declared.ending.End.{End}
@@ -30,6 +31,19 @@ returns-in-Err-clause-promise g c gives given image told =
 
 pub returns-in-Err-clause-host : goal.returns-in-Err-clause-host
 returns-in-Err-clause-host g c = host_idle g.H.Host _ c.args.script.now c.args.host.now End.DiskFault (λ text is. cc) (λ e. cc)
+
+pub returns-in-Ok-false-clause-promise : goal.returns-in-Ok-false-clause-promise
+returns-in-Ok-false-clause-promise g c gives given image told =
+    let r = request_in c.args.asked.now in
+    let old = c.args.disk.now in
+    let new = c.attach_image.new.disk in
+    let files = g.H.Host.files c.args.host.now in
+    let no : false ≡ gives r.image (blank_size r) = grind (arith, c.in-Ok-false.field-0-test, c.in-Ok-false.ensures.given gives given, c.as_str.ensures.value) in
+    let none : HasNoRun g.D.Disk old new [] [] = search rules in (
+      [],
+      sym (append-nil (g.H.Host.asked c.args.host.now)),
+      ([], wrote_nothing (g.K.Sink.taken c.args.out.now), subst (λ (b : Bool). MovesByGiving g.D.Disk old new r files files [] image c.args.script.now [] b End.NoImage) no (none, (refl, refl))),
+    )
 
 pub returns-in-Ok-false-clause-host : goal.returns-in-Ok-false-clause-host
 returns-in-Ok-false-clause-host g c = host_idle g.H.Host _ c.args.script.now c.args.host.now End.NoImage (λ text is. cc) (λ e. cc)

@@ -12,10 +12,16 @@ use Rattle.fc_shell.specs.Reads.{Spares}
 use Rattle.fc_shell.specs.Replies.{blank_size, is_unbuilt, script_limit, told_script}
 use Rattle.fc_shell.proofs.AskedLemmas.{never_long, told_demo_script, told_plain}
 use Rattle.fc_shell.proofs.DemoLemmas.{demo_short}
-use Rattle.fc_shell.proofs.HostKeptLemmas.{host_idle_told, host_memory_words, host_read, host_script_ends, host_too_long, told_demo_spares, told_host_spares}
+use Rattle.fc_shell.proofs.HostKeptLemmas.{alone_no_host, host_idle_told, host_memory_words, host_read, host_script_ends, host_source_fault, host_too_long, told_demo_spares, told_host_spares}
 use Rattle.fc_shell.proofs.KeptLemmas.{keeps_by}
 use Rattle.fc_shell.proofs.WritingLemmas.{wrote_nothing}
 use Rattle.fc_shell.proofs.hosted.run_request_with.Goals as goal
+
+-- ---- what isn't built
+
+pub returns-then-asked-clause-host : goal.returns-then-asked-clause-host
+returns-then-asked-clause-host g c =
+    host_idle_told g.H.Host (told_script (request_in c.args.asked.now).demo (g.S.Source.left c.args.script.now)) c.args.host.now End.NotBuilt (λ e. cc)
 
 -- ---- a demo
 
@@ -51,7 +57,33 @@ returns-in-Some-clause-unattached g c =
     let left = told_script r.demo (g.S.Source.left c.args.script.now) in
     never_long left (demo_script c.in-Some.n) (told_demo_script r.demo c.in-Some.n (g.S.Source.left c.args.script.now) c.in-Some.is) (demo_short c.in-Some.n (c.requires.few c.in-Some.n c.in-Some.is)) _
 
+pub returns-in-Some-clause-host : goal.returns-in-Some-clause-host
+returns-in-Some-clause-host g c =
+    host_idle_told g.H.Host (told_script (request_in c.args.asked.now).demo (g.S.Source.left c.args.script.now)) c.args.host.now c.run_demo.result (alone_no_host c.run_demo.result c.run_demo.ensures.ended)
+
 -- ---- a script of the source
+
+pub returns-in-Err-Source-clause-promise : goal.returns-in-Err-Source-clause-promise
+returns-in-Err-Source-clause-promise g c gives given text left image told =
+    let r = request_in c.args.asked.now in
+    let plain : r.demo ≡ None = search rules in
+    let built : is_unbuilt r ≡ false = search rules in (
+      [],
+      sym (append-nil (g.H.Host.asked c.args.host.now)),
+      ([], wrote_nothing (g.K.Sink.taken c.args.out.now), host_source_fault (laws g.met.D.Disk) c.args.disk.now gives (g.H.Host.files c.args.host.now) image text r built plain),
+    )
+
+pub returns-in-Err-Source-clause-host : goal.returns-in-Err-Source-clause-host
+returns-in-Err-Source-clause-host g c =
+    host_idle_told g.H.Host (told_script (request_in c.args.asked.now).demo (g.S.Source.left c.args.script.now)) c.args.host.now End.ScriptFault (λ e. cc)
+
+pub returns-in-Err-NoMemory-clause-host : goal.returns-in-Err-NoMemory-clause-host
+returns-in-Err-NoMemory-clause-host g c =
+    host_idle_told g.H.Host (told_script (request_in c.args.asked.now).demo (g.S.Source.left c.args.script.now)) c.args.host.now End.NoMemory (λ e. cc)
+
+pub returns-in-Ok-None-clause-host : goal.returns-in-Ok-None-clause-host
+returns-in-Ok-None-clause-host g c =
+    host_idle_told g.H.Host (told_script (request_in c.args.asked.now).demo (g.S.Source.left c.args.script.now)) c.args.host.now End.ScriptTooLong (λ e. cc)
 
 pub returns-in-Err-NoMemory-clause-promise : goal.returns-in-Err-NoMemory-clause-promise
 returns-in-Err-NoMemory-clause-promise g c gives given text left image told =

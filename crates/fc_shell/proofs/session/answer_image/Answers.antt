@@ -9,7 +9,7 @@ use Rattle.fc_shell.specs.Reads.{Spares}
 use Rattle.fc_shell.specs.Modes.{plain_mode}
 use Rattle.fc_runs.specs.Run.{commands_in}
 use Rattle.fc_shell.specs.Promise.{EndsByOpening, EndsOver}
-use Rattle.fc_shell.proofs.PromiseLemmas.{begun_fault, begun_memory, ends_from, no_fresh, rose_earlier, session_shapes, shapes_unwritten, tell_ends, told_late, told_no_disk, unwritten_after}
+use Rattle.fc_shell.proofs.PromiseLemmas.{begun_fault, begun_memory, ends_from, no_fresh, rose_earlier, session_shapes, shapes_unwritten, tell_ends, told_alone, told_late, told_no_disk, unwritten_after}
 use Rattle.fc_shell.proofs.WritingLemmas.{wrote_nothing}
 use Rattle.fc_shell.proofs.session.answer_image.Goals as goal
 
@@ -71,6 +71,9 @@ returns-in-Err-Image-clause-keeps g c =
     let ended = rw c.in-Err-Image.field-0-is at c.tell_fault.ensures.ended in
     session_shapes (laws g.met.D.Disk) g.K.Sink _ c.args.disk.now c.mount.new.disk c.args.out.now c.tell_fault.new.out c.tell_fault.result c.mount.ensures.shapes c.requires.fresh.nothing_pending
     (told_late c.in-Err-Image.fault c.tell_fault.result ended) (λ is. absurd (told_no_disk c.in-Err-Image.fault c.tell_fault.result ended is)) c.tell_fault.ensures.out_fault
+
+pub returns-in-Err-Image-clause-late : goal.returns-in-Err-Image-clause-late
+returns-in-Err-Image-clause-late g c = told_alone c.in-Err-Image.fault c.tell_fault.result (rw c.in-Err-Image.field-0-is at c.tell_fault.ensures.ended)
 
 pub returns-in-Err-DiskFault-clause-promise : goal.returns-in-Err-DiskFault-clause-promise
 returns-in-Err-DiskFault-clause-promise g c image told = (

@@ -2,10 +2,10 @@ use Rattle.std.proofs.Common.{◌≡◌, Option, ℕ, Bool, false, None, sym, ap
 use Rattle.fc_image.specs.effects.Effect.{State}
 use Rattle.fc_runs.specs.Run.{script_for}
 use Rattle.fc_shell.specs.declared.ending.End.{End}
-use Rattle.fc_shell.specs.Ends.{end_of, is_late}
+use Rattle.fc_shell.specs.Ends.{end_of, is_late, is_late_alone}
 use Rattle.fc_shell.specs.Modes.{plain_mode}
 use Rattle.fc_shell.specs.Promise.{EndsOver}
-use Rattle.fc_shell.proofs.PromiseLemmas.{disk_end, late_end, out_end, reads_unwritten, served_ends}
+use Rattle.fc_shell.proofs.PromiseLemmas.{alone_end, disk_end, late_end, out_end, reads_unwritten, served_ends}
 use Rattle.fc_shell.proofs.session.answer_lines.Goals as goal
 
 pub returns-in-None-clause-promise : goal.returns-in-None-clause-promise
@@ -36,7 +36,7 @@ returns-in-None-clause-keeps g c =
     }
 
 pub returns-in-None-clause-late : goal.returns-in-None-clause-late
-returns-in-None-clause-late g c = ap is_late c.end_of.ensures ∙ late_end c.serve.result
+returns-in-None-clause-late g c = ap is_late_alone c.end_of.ensures ∙ alone_end c.serve.result
 
 pub answer_demo-requires-clause-own : goal.answer_demo-requires-clause-own
 answer_demo-requires-clause-own g c = subst (λ (demo : Option ℕ). script_for demo c.args.script.now ≡ c.args.script.now) c.in-Some.is c.requires.own

@@ -50,4 +50,4 @@ returns-in-Ok-true-clause-keeps g c =
     (grind (arith, attach.asked, c.as_str.ensures.value)) (λ gives given. grind (arith, c.in-Ok-true.field-0-test, c.in-Ok-true.ensures.given gives given, c.as_str.ensures.value)) (attach.bytes here) attach.unwritten attach.cause.later c.answer_image.ensures.keeps
 
 pub returns-in-Ok-true-clause-late : goal.returns-in-Ok-true-clause-late
-returns-in-Ok-true-clause-late g c = inl c.answer_image.ensures.keeps.late
+returns-in-Ok-true-clause-late g c = inl c.answer_image.ensures.late
