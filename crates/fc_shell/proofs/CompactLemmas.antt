@@ -19,10 +19,9 @@ use Rattle.fc_newmap.specs.Map.{Map, bits_in, hole_runs}
 use Rattle.fc_model.specs.Tree.{Tree}
 use Rattle.fc_model.specs.Command.{Command}
 use Rattle.fc_model.specs.Answer.{answer, first_of}
-use Rattle.fc_image.specs.declared.ImageFault.{ImageFault}
 use Rattle.fc_image.specs.Layout.{Layout, dir_form}
 use Rattle.fc_image.specs.Moves.{with_map}
-use Rattle.fc_image.specs.Opening.{MapAndRoot, Opened, holes_or}
+use Rattle.fc_image.specs.Opening.{Opened}
 use Rattle.fc_image.specs.Stays.{IsNewKind, OpensAs}
 use Rattle.fc_image.proofs.FreeLemmas.{parts_of as opened_parts}
 use Rattle.fc_image.specs.effects.Effect.{Compacts, State, tree_in}

@@ -1,19 +1,19 @@
 -- A `get`, from what became of its file.
-use Rattle.std.proofs.Common.{◌≡◌, ◌⊎◌, inl, inr, ⊎_elim, ℕ, Bool, true, false, List, [], ◌∷◌, ◌++◌, take, Option, Some, None, is_some, Result, Ok, Err, refl, sym, ap, subst, ◌∙◌, append_assoc}
+use Rattle.std.proofs.Common.{◌≡◌, ◌⊎◌, inl, inr, ⊎_elim, ℕ, Bool, true, false, List, [], ◌∷◌, ◌++◌, Option, Some, Result, Ok, Err, refl, sym, ap, subst, ◌∙◌, append_assoc}
 use Rattle.std.specs.Prelude.{IsOk}
 use Rattle.std.specs.Option.{option_map, option_map_or, unwrap_or}
-use Rattle.std.specs.FinMap.{get, insert}
+use Rattle.std.specs.FinMap.{insert}
 use Rattle.std.proofs.lemmas.List.{append-nil, same_from_push}
 use Rattle.fc_device.specs.declared.disk.Disk.{Ghosts}
 use Rattle.fc_device.specs.declared.disk.Extent.{Extent}
 use Rattle.fc_device.specs.Calls.{OnlyReads}
 use Rattle.fc_device.proofs.DiskLaws.{Laws}
 use Rattle.fc_export.specs.declared.file.ExportFault.{ExportFault}
-use Rattle.fc_export.specs.Exports.{Exported, IsBroken, IsTakenBack, IsUnmade}
+use Rattle.fc_export.specs.Exports.{Exported, IsBroken}
 use Rattle.fc_export.specs.Readable.{told_bytes}
-use Rattle.fc_host.specs.Answers.{AnswersCalls, joined, made_of}
+use Rattle.fc_host.specs.Answers.{made_of}
 use Rattle.fc_host.specs.Asked.{Asked}
-use Rattle.fc_host.specs.Files.{Files, is_there}
+use Rattle.fc_host.specs.Files.{Files}
 use Rattle.fc_host.specs.declared.asks.HostCall.{HostCall}
 use Rattle.fc_host.specs.declared.asks.HostCall.TheVariants as calls
 use Rattle.fc_names.specs.Names.{Path}
@@ -30,10 +30,9 @@ use Rattle.fc_objects.specs.Extents.{sectors_in}
 use Rattle.fc_script.specs.HostLines.{HostLine}
 use Rattle.fc_script.specs.Texts.{ok_line, refusal_line}
 use Rattle.fc_runs.specs.AskedRun.{AskedTakes, GetsAsked, UnlessRefused}
-use Rattle.fc_runs.specs.Early.{host_reply_begun}
-use Rattle.fc_runs.specs.HostAsks.{EndsGet, GetAsks}
+use Rattle.fc_runs.specs.HostAsks.{GetAsks}
 use Rattle.fc_runs.specs.HostPromises.{AskedBegun, GetsPart, IsBack}
-use Rattle.fc_runs.specs.HostRun.{HasPartOf, answer_in, file_in}
+use Rattle.fc_runs.specs.HostRun.{answer_in, file_in}
 use Rattle.fc_runs.specs.Run.{Mode}
 use Rattle.fc_space.specs.Space.{layout_of}
 use Rattle.fc_space.specs.declared.space.Space.{Space}
@@ -49,7 +48,7 @@ use Rattle.fc_shell.specs.Getting.{FileMoves, IsGot, IsNotGot}
 use Rattle.fc_shell.specs.Modes.{plain_mode}
 use Rattle.fc_shell.specs.MoveFaults.{moved_result}
 use Rattle.fc_shell.specs.Moving.{LineMoves}
-use Rattle.fc_shell.specs.Writing.{Wrote, WrotePart}
+use Rattle.fc_shell.specs.Writing.{Wrote}
 use Rattle.fc_shell.proofs.MovingLemmas.{moved_same, cuts_move}
 use Rattle.fc_tree.proofs.PathLemmas.{some_same as same_node}
 use Rattle.fc_shell.proofs.StepLemmas.{same_image, same_tree}

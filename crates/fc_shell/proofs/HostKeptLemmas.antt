@@ -1,5 +1,5 @@
 -- A run whose lines may move files, before and after its image is attached.
-use Rattle.std.proofs.Common.{◌≡◌, ◌<◌, ◌≤◌, ◌⊎◌, inl, inr, ⊎_elim, ℕ, nat_lt, Bool, true, false, List, [], ◌++◌, length, Option, Some, None, Result, Ok, Err, refl, sym, ap, subst, ◌∙◌, arith}
+use Rattle.std.proofs.Common.{◌≡◌, ◌<◌, ◌≤◌, ◌⊎◌, inl, inr, ℕ, nat_lt, Bool, true, false, List, [], length, Option, Some, None, Result, Ok, Err, refl, sym, ap, subst, ◌∙◌, arith}
 use Rattle.std.specs.Prelude.{is_some}
 use Rattle.std.proofs.lemmas.Bool.Decides.{nat_tests}
 use Rattle.std.proofs.lemmas.List.{append-nil}
@@ -18,7 +18,6 @@ use Rattle.fc_shell.specs.declared.ending.End.TheVariants.{BadImage, OutFault, H
 use Rattle.fc_shell.specs.Ends.{is_late_alone}
 use Rattle.fc_shell.specs.HostPromise.{HostKeeps, HostPromise, HostRunSpares, MovesByDemo, MovesByGiving, MovesByLength, MovesByOpening, MovesByWords, script_spares}
 use Rattle.fc_shell.specs.Moving.{HostSpares}
-use Rattle.fc_shell.specs.Promise.{EndsByGiving}
 use Rattle.fc_shell.specs.Reads.{Spares, only_reads}
 use Rattle.fc_shell.specs.Replies.{blank_size, image_for, is_unbuilt, script_limit}
 use Rattle.fc_shell.proofs.HostPromiseLemmas.{moves_memory_giving}

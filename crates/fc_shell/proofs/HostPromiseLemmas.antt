@@ -1,5 +1,5 @@
 -- What a run whose lines may move files promises, from what its parts do.
-use Rattle.std.proofs.Common.{◌≡◌, ◌≤◌, ◌⊎◌, inl, inr, ⊎_elim, ℕ, nat_lt, Bool, true, false, List, [], length, Option, Some, None, Result, Ok, Err, refl, sym, ap, subst, ◌∙◌, arith}
+use Rattle.std.proofs.Common.{◌≡◌, ◌⊎◌, inl, inr, ⊎_elim, ℕ, Bool, true, false, List, [], Option, Some, None, Result, Ok, Err, refl, sym, subst, ◌∙◌, arith}
 use Rattle.std.specs.Prelude.{is_some}
 use Rattle.fc_device.specs.declared.disk.Disk.{Ghosts}
 use Rattle.fc_device.specs.Stops.{LeavesOnly}
@@ -31,12 +31,12 @@ use Rattle.fc_shell.specs.declared.moving.MoveFault.TheVariants as moves
 use Rattle.fc_shell.specs.declared.tally.Tally.{Tally}
 use Rattle.fc_shell.specs.Counted.{has_refused}
 use Rattle.fc_shell.specs.Ends.{end_after, is_late, move_end}
-use Rattle.fc_shell.specs.HostPromise.{IsIdle, MovesByGiving, MovesByOpening, MovesOver, ToldOver}
+use Rattle.fc_shell.specs.HostPromise.{MovesByGiving, MovesByOpening, MovesOver, ToldOver}
 use Rattle.fc_shell.specs.Modes.{plain_mode}
-use Rattle.fc_shell.specs.Moving.{LinesMove, move_cause}
+use Rattle.fc_shell.specs.Moving.{LinesMove}
 use Rattle.fc_shell.specs.Promise.{EndsOnFault, EndsWithout}
 use Rattle.fc_shell.specs.Reading.{IsUnwritten}
-use Rattle.fc_shell.specs.Replies.{blank_size, image_for}
+use Rattle.fc_shell.specs.Replies.{image_for}
 use Rattle.fc_shell.specs.Writing.{Wrote}
 use Rattle.fc_shell.proofs.KeptLemmas.{fresh_opens}
 use Rattle.fc_shell.proofs.PromiseLemmas.{fault_from, may_from, no_fresh, no_run, none, same_unwritten}

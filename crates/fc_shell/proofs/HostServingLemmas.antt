@@ -1,5 +1,5 @@
 -- Serving line after line, if lines may move files of a host.
-use Rattle.std.proofs.Common.{◌≡◌, ◌⊎◌, inl, inr, ⊎_elim, ℕ, ◌+◌, Bool, true, false, ◌&&◌, List, [], ◌∷◌, ◌++◌, ◌≤◌, take, Option, Some, Result, Ok, Err, cond, refl, sym, ap, subst, ◌∙◌, arith, append_assoc}
+use Rattle.std.proofs.Common.{◌≡◌, ◌⊎◌, inl, inr, ℕ, ◌+◌, Bool, true, false, List, [], ◌∷◌, ◌++◌, ◌≤◌, take, Option, Some, Result, Ok, Err, cond, sym, ap, subst, ◌∙◌, arith, append_assoc}
 use Rattle.std.specs.List.{list_all}
 use Rattle.fc_device.specs.declared.disk.Disk.{Ghosts}
 use Rattle.fc_device.specs.declared.streams.Sink.{Ghosts as Sinks}
@@ -25,7 +25,6 @@ use Rattle.std.proofs.lemmas.Bool.{and_parts as both_true}
 use Rattle.fc_tree.specs.Parts.{ArePartsOf}
 use Rattle.fc_volume.specs.Volume.{Volume, parts_of}
 use Rattle.fc_shell.specs.declared.moving.MoveFault.{MoveFault}
-use Rattle.fc_shell.specs.declared.moving.MoveFault.TheVariants as moves
 use Rattle.fc_shell.specs.declared.tally.Tally.{Tally}
 use Rattle.fc_shell.specs.Counted.{AreCounted, has_refused}
 use Rattle.fc_shell.specs.Modes.{plain_mode}

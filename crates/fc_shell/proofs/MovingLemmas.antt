@@ -1,10 +1,9 @@
 -- Lines that may move files of a host.
-use Rattle.std.proofs.Common.{◌≡◌, ◌≤◌, ◌⊎◌, inl, inr, ⊎_elim, ℕ, Bool, true, false, List, [], ◌++◌, take, Option, Some, None, Result, Ok, Err, IfOk, refl, sym, ap, subst, ◌∙◌, arith}
+use Rattle.std.proofs.Common.{◌≡◌, ◌≤◌, inl, inr, ⊎_elim, ℕ, Bool, true, false, List, [], ◌++◌, Option, Some, Result, Ok, Err, IfOk, refl, sym, ap, subst, ◌∙◌, arith}
 use Rattle.std.proofs.lemmas.List.{append-nil}
 use Rattle.fc_device.specs.declared.disk.Disk.{Ghosts}
 use Rattle.fc_device.specs.declared.streams.Sink.{Ghosts as Sinks}
 use Rattle.fc_device.specs.Calls.{OnlyReads}
-use Rattle.fc_device.specs.Faults.{Rose}
 use Rattle.fc_device.proofs.DiskLaws.{Laws}
 use Rattle.fc_device.proofs.StopLemmas.{weaker}
 use Rattle.fc_host.specs.declared.host.Host.{Ghosts as Hosts}
@@ -15,17 +14,17 @@ use Rattle.fc_names.specs.declared.refusal.Refusal.{Refusal}
 use Rattle.fc_record.specs.declared.Kind.{Kind}
 use Rattle.fc_model.specs.Command.{Command}
 use Rattle.fc_image.specs.Stays.{OpensAs}
-use Rattle.fc_image.specs.effects.Effect.{State, tree_in}
+use Rattle.fc_image.specs.effects.Effect.{State}
 use Rattle.fc_script.specs.HostLines.{HostLine}
 use Rattle.fc_script.specs.Lines.{command_of}
 use Rattle.fc_script.specs.Texts.{refusal_line}
 use Rattle.fc_runs.specs.AskedRun.{AskedTakes}
 use Rattle.fc_runs.specs.Early.{host_reply_begun, reply_begun}
-use Rattle.fc_runs.specs.HostServing.{IsBrokenOff, IsMoved}
+use Rattle.fc_runs.specs.HostServing.{IsMoved}
 use Rattle.fc_runs.specs.Meanwhile.{LeavesImage, LeavesTree}
 use Rattle.fc_runs.specs.Promises.{cuts_replies, spares_disk}
 use Rattle.fc_runs.specs.Run.{Mode, Takes, is_error, keeps_tree_or}
-use Rattle.fc_runs.specs.Stops.{host_leaves_image, leaves_image_or}
+use Rattle.fc_runs.specs.Stops.{leaves_image_or}
 use Rattle.fc_runs.proofs.HostServingLemmas.{none_asked}
 use Rattle.fc_tree.specs.Parts.{ArePartsOf}
 use Rattle.fc_volume.specs.Volume.{StandsFor, Volume, parts_of}
@@ -33,13 +32,13 @@ use Rattle.fc_shell.specs.declared.answer.LineFault.{LineFault}
 use Rattle.fc_shell.specs.declared.answer.LineFault.TheVariants as lines
 use Rattle.fc_shell.specs.declared.moving.MoveFault.{MoveFault}
 use Rattle.fc_shell.specs.Answered.{Answered, IsCaused, OnlyTells}
-use Rattle.fc_shell.specs.Line.{BreaksOff, IsAnswered, IsCutOff, IsDone, IsReady, KeepsGoing, LineEnds}
+use Rattle.fc_shell.specs.Line.{IsDone, IsReady, KeepsGoing, LineEnds}
 use Rattle.fc_shell.specs.Modes.{plain_mode}
 use Rattle.fc_shell.specs.MoveFaults.{move_fault, moved_result}
-use Rattle.fc_shell.specs.Moving.{AreCaused, IsServed, IsServedPart, IsStopped, KeepsServing, LineMoves, move_cause}
+use Rattle.fc_shell.specs.Moving.{AreCaused, KeepsServing, LineMoves, move_cause}
 use Rattle.fc_shell.specs.Reads.{is_reading_line}
-use Rattle.fc_shell.specs.Writing.{Wrote, WrotePart}
-use Rattle.fc_shell.proofs.StepLemmas.{ready_if, same_image, same_tree, stands_read}
+use Rattle.fc_shell.specs.Writing.{WrotePart}
+use Rattle.fc_shell.proofs.StepLemmas.{same_image, same_tree, stands_read}
 use Rattle.fc_shell.proofs.WritingLemmas.{wrote_nothing}
 
 -- ---- faults

@@ -44,7 +44,7 @@ use Rattle.fc_shell.specs.Writing.{Wrote, WrotePart}
 use Rattle.fc_shell.proofs.ChangeLemmas.{going}
 use Rattle.fc_shell.proofs.ShortageLemmas.{new_enough}
 use Rattle.fc_shell.proofs.StepLemmas.{left_ends}
-use Rattle.fc_shell.proofs.WritingLemmas.{part_of_first, part_of_second, wrote_both, wrote_nothing}
+use Rattle.fc_shell.proofs.WritingLemmas.{part_of_first, part_of_second, wrote_nothing}
 use Rattle.fc_runs.proofs.ErrorLemmas.{ok_no_error}
 use Rattle.fc_lost.proofs.KeepsLemmas.{one_some as some_same}
 

@@ -1,5 +1,5 @@
 -- The reply of a command, by what a volume answers.
-use Rattle.std.proofs.Common.{◌≡◌, ℕ, Bool, true, false, List, [], ◌∷◌, ◌++◌, map, refl, sym, ap, ap₂, ◌∙◌, Some, Option, Ok, Err}
+use Rattle.std.proofs.Common.{◌≡◌, ℕ, Bool, true, false, List, [], ◌∷◌, ◌++◌, map, refl, sym, ap, ap₂, ◌∙◌, Ok, Err}
 use Rattle.std.specs.List.{flat_map}
 use Rattle.fc_names.specs.declared.refusal.Refusal.{Refusal}
 use Rattle.fc_names.specs.declared.name.NameForm.{NameForm}
@@ -17,7 +17,6 @@ use Rattle.fc_script.specs.declared.command.Command.{Command as Told}
 use Rattle.fc_script.specs.Texts.{cat_reply, node_line, ok_line, refusal_line}
 use Rattle.fc_runs.specs.ReadLaw.{answered_reply, is_reading, served_reply}
 use Rattle.fc_runs.specs.Replies.{reply_to}
-use Rattle.fc_tree.specs.declared.node.Node.{Node}
 use Rattle.fc_volume.specs.declared.lines.Line.{Line}
 use Rattle.fc_volume.specs.Answers.{line_in, lines_in}
 use Rattle.fc_volume.specs.Volume.{Volume}

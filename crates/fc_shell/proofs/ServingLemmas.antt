@@ -1,15 +1,13 @@
 -- Serving line after line.
-use Rattle.std.proofs.Common.{◌≡◌, ◌⊎◌, inl, inr, ⊎_elim, ℕ, ◌+◌, ◌-◌, suc, min, Bool, true, false, ◌||◌, ◌&&◌, nat_le, List, [], ◌∷◌, ◌++◌, length, take, Option, Some, None, Ok, Err, cond, nat_lt, refl, sym, ap, ap₂, subst, ◌∙◌, arith, append_assoc}
-use Rattle.std.specs.Prelude.{if◌then◌else◌, slice_get}
+use Rattle.std.proofs.Common.{◌≡◌, ◌⊎◌, inl, inr, ⊎_elim, ℕ, ◌+◌, suc, Bool, true, false, ◌||◌, List, [], ◌∷◌, ◌++◌, length, take, Option, Some, None, Ok, Err, cond, nat_lt, refl, sym, ap, ap₂, subst, ◌∙◌, arith, append_assoc}
+use Rattle.std.specs.Prelude.{slice_get}
 use Rattle.std.specs.List.{count_by, list_any}
 use Rattle.std.proofs.lemmas.Bool.Decides.{nat_tests}
-use Rattle.std.proofs.lemmas.List.{append-nil, length-append, take-append-le, take_at}
+use Rattle.std.proofs.lemmas.List.{append-nil, length-append, take_at}
 use Rattle.std.proofs.lemmas.List.Sums.{sum_by-cons, sum_by_push}
-use Rattle.std.proofs.lemmas.Grind.{common_steps, flat_map-append}
 use Rattle.std.proofs.Math.Seq.{take-append-add}
 use Rattle.fc_device.specs.declared.disk.Disk.{Ghosts}
 use Rattle.fc_device.proofs.DiskLaws.{Laws}
-use Rattle.fc_device.proofs.StopLemmas.{goes_on, started}
 use Rattle.fc_record.specs.declared.Kind.{Kind}
 use Rattle.fc_image.specs.Stays.{IsNewLayout, OpensAs}
 use Rattle.fc_image.specs.effects.Effect.{State, tree_in}
@@ -18,7 +16,7 @@ use Rattle.fc_script.specs.Lines.{command_of}
 use Rattle.fc_runs.specs.Early.{reply_begun, text_begun}
 use Rattle.fc_runs.specs.Meanwhile.{GoesOn}
 use Rattle.fc_runs.specs.Promises.{spares_disk}
-use Rattle.fc_runs.specs.Run.{Mode, Step, Steps, all_keep_tree, commands_in, each_line, is_error, keeps_tree_or, text_of, whole_replies}
+use Rattle.fc_runs.specs.Run.{Mode, Step, Steps, all_keep_tree, commands_in, each_line, is_error, keeps_tree_or, text_of}
 use Rattle.fc_runs.specs.Stops.{MayHaveLeft, all_leave_image, is_kept_by_next, leaves_image_or}
 use Rattle.fc_runs.proofs.MeanwhileLemmas.{goes_then}
 use Rattle.fc_runs.proofs.RepliesLemmas.{taken_kept}

@@ -13,7 +13,7 @@ use Rattle.fc_record.specs.declared.Kind.TheVariants.{Boot, OneZone, DiscD, Disc
 use Rattle.fc_record.specs.Kinds.{old_units}
 use Rattle.fc_oldmap.specs.Holes.{first_fit_place, hole_limit, hole_sum}
 use Rattle.fc_oldmap.specs.OldMap.{OldMapContent, free_end, free_space, hole_fault, holes_of, is_free_end, map_units, stored_hole, stored_holes, wrong_hole}
-use Rattle.fc_newmap.specs.Map.{Map, bits_in, hole_runs}
+use Rattle.fc_newmap.specs.Map.{bits_in, hole_runs}
 use Rattle.fc_model.specs.Command.{Command}
 use Rattle.fc_model.specs.Answer.{first_of, when}
 use Rattle.fc_image.specs.declared.ImageFault.{ImageFault}

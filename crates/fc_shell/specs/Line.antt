@@ -1,5 +1,5 @@
 -- What a line of a script does, as a step from one image to the next, and what it keeps of disk and volume.
-use Rattle.std.specs.Prelude.{◌≡◌, ◌≤◌, ◌⊎◌, ℕ, Bool, true, false, List, Option, Some, Result, Ok, Err, IfOk}
+use Rattle.std.specs.Prelude.{◌≡◌, ◌⊎◌, ℕ, Bool, true, false, List, Option, Some, Result, Ok, Err, IfOk}
 use Rattle.fc_device.specs.declared.disk.Disk.{Ghosts}
 use Rattle.fc_device.specs.declared.streams.Sink.{Ghosts as Sinks}
 use Rattle.fc_device.specs.Calls.{OnlyReads}

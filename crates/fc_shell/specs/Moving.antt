@@ -14,7 +14,7 @@ use Rattle.fc_names.specs.declared.refusal.Refusal.{Refusal}
 use Rattle.fc_image.specs.effects.Effect.{State}
 use Rattle.fc_script.specs.HostLines.{HostLine}
 use Rattle.fc_runs.specs.Early.{host_reply_begun}
-use Rattle.fc_runs.specs.HostAsks.{LineAsks, LinesAsk}
+use Rattle.fc_runs.specs.HostAsks.{LinesAsk}
 use Rattle.fc_runs.specs.HostPromises.{AskedHasRun, AskedHasStopped}
 use Rattle.fc_runs.specs.HostRun.{served_line_of}
 use Rattle.fc_runs.specs.HostServing.{AreMoved, IsBrokenOff, IsMoved}

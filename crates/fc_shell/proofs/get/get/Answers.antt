@@ -1,4 +1,4 @@
-use Rattle.std.proofs.Common.{◌≡◌, ◌∙◌, List, ℕ, [], Bool, Option, Result, Ok, Err, inl, refl, sym, ap, subst}
+use Rattle.std.proofs.Common.{◌≡◌, ◌∙◌, List, ℕ, [], Bool, Result, Ok, Err, inl, refl, sym, ap, subst}
 use Rattle.std.proofs.lemmas.List.{append-nil}
 use Rattle.fc_device.specs.Calls.{OnlyReads}
 use Rattle.fc_device.proofs.DiskLaws.{laws}

@@ -1,4 +1,4 @@
-use Rattle.std.proofs.Common.{◌≡◌, ◌∙◌, List, ℕ, [], Bool, true, false, Option, Some, Result, Ok, Err, inl, inr, refl, sym, ap, subst}
+use Rattle.std.proofs.Common.{◌≡◌, ◌∙◌, [], Bool, true, false, Some, Result, Ok, Err, inl, inr, refl, sym, ap, subst}
 use Rattle.std.proofs.lemmas.List.{append-nil}
 use Rattle.std.proofs.lemmas.Result.{err_from_is_err_and}
 use Rattle.fc_export.specs.declared.file.ExportFault.{ExportFault}
@@ -74,8 +74,8 @@ returns-then-not-branch-clause-moved g c image told =
       x.0,
       x.1,
       subst (λ (r : Result Bool MoveFault). FileMoves name bytes x.0 files left (taken c.args.out.now) (taken c.tell.new.out) r) (sym c.moved.ensures)
-      (told_file name bytes x.0 files left (taken c.args.out.now) (taken c.tell.new.out) (refusal_line HostExists) (exported_there name known x.0 files left bytes made) c.tell.result c.tell.ensures.only.no_disk
-      (c.tell.ensures.answered (refusal_line HostExists) c.refusal.ensures)),
+          (told_file name bytes x.0 files left (taken c.args.out.now) (taken c.tell.new.out) (refusal_line HostExists) (exported_there name known x.0 files left bytes made) c.tell.result c.tell.ensures.only.no_disk
+          (c.tell.ensures.answered (refusal_line HostExists) c.refusal.ensures)),
     )
 
 pub returns-clause-moved : goal.returns-clause-moved
@@ -97,8 +97,8 @@ returns-clause-moved g c image told =
       x.0,
       x.1,
       subst (λ (r : Result Bool MoveFault). FileMoves name bytes x.0 files left (taken c.args.out.now) (taken c.tell_done.new.out) r) (sym c.moved-2.ensures)
-      (told_file name bytes x.0 files left (taken c.args.out.now) (taken c.tell_done.new.out) ok_line (exported_made name known x.0 files left bytes is made) c.tell_done.result c.tell_done.ensures.only.no_disk
-      c.tell_done.ensures.answered),
+          (told_file name bytes x.0 files left (taken c.args.out.now) (taken c.tell_done.new.out) ok_line (exported_made name known x.0 files left bytes is made) c.tell_done.result c.tell_done.ensures.only.no_disk
+          c.tell_done.ensures.answered),
     )
 
 pub returns-clause-asks : goal.returns-clause-asks

@@ -1,8 +1,7 @@
-use Rattle.std.proofs.Common.{◌≡◌, ◌<◌, ◌≤◌, ◌∙◌, List, ℕ, [], Bool, true, false, Option, Result, Ok, Err, length, inl, refl, sym, ap, subst, arith}
+use Rattle.std.proofs.Common.{◌≡◌, ◌<◌, ◌≤◌, ◌∙◌, List, ℕ, [], Bool, true, false, Result, Ok, Err, length, inl, refl, sym, ap, subst, arith}
 use Rattle.std.proofs.lemmas.List.{append-nil}
 use Rattle.fc_device.proofs.DiskLaws.{laws}
 use Rattle.fc_device.proofs.StopLemmas.{reads_start}
-use Rattle.fc_host.specs.Asked.{Asked}
 use Rattle.fc_image.specs.effects.Effect.{State}
 use Rattle.fc_names.specs.declared.refusal.Refusal.{Refusal}
 use Rattle.fc_names.specs.declared.refusal.Refusal.TheVariants as refusals
@@ -18,7 +17,7 @@ use Rattle.fc_shell.proofs.HostLineLemmas.{get_name, other_command}
 use Rattle.fc_tree.specs.Parts.{ArePartsOf}
 use Rattle.fc_volume.specs.Volume.{StandsFor, Volume, parts_of}
 use Rattle.fc_shell.specs.declared.moving.MoveFault.{MoveFault}
-use Rattle.fc_shell.specs.Moving.{AreCaused, AsksMore, KeepsServing, LineMoves}
+use Rattle.fc_shell.specs.Moving.{AreCaused, KeepsServing, LineMoves}
 use Rattle.fc_shell.proofs.AnsweredLemmas.{caused_alone}
 use Rattle.fc_shell.proofs.MovingLemmas.{caused_moved, command_moves, command_serves, reading_serves, refused_moves, unbegun_moves}
 use Rattle.fc_shell.proofs.host_line.answer_host_line.Goals as goal

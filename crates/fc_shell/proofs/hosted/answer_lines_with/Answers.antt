@@ -1,4 +1,4 @@
-use Rattle.std.proofs.Common.{◌≡◌, Option, List, ℕ, Some, Bool, sym, ap, subst, ◌∙◌, false}
+use Rattle.std.proofs.Common.{◌≡◌, List, ℕ, Some, Bool, sym, ap, subst, ◌∙◌, false}
 use Rattle.fc_image.specs.effects.Effect.{State}
 use Rattle.fc_shell.specs.declared.ending.End.{End}
 use Rattle.fc_shell.specs.Ends.{is_late, move_end}

@@ -1,4 +1,4 @@
-use Rattle.std.proofs.Common.{◌≡◌, ◌⊎◌, Option, None, Some, [], Err, inl, inr, refl, ap, map, sym, subst, ◌∙◌}
+use Rattle.std.proofs.Common.{◌≡◌, ◌⊎◌, Option, None, [], Err, inl, inr, refl, ap, map, sym, subst, ◌∙◌}
 use Rattle.std.specs.Prelude.{IsSome, string_bytes}
 use Rattle.std.proofs.lemmas.List.{append-nil}
 use Rattle.fc_device.proofs.DiskLaws.{laws}

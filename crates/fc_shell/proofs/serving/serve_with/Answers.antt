@@ -1,10 +1,9 @@
-use Rattle.std.proofs.Common.{◌≡◌, ◌<◌, ◌≤◌, ◌+◌, ◌++◌, ◌∷◌, List, ℕ, Bool, true, false, Option, Ok, Err, Result, IfOk, cond, length, refl, sym, ap, subst, ◌∙◌, [], arith, append_assoc}
+use Rattle.std.proofs.Common.{◌≡◌, ◌≤◌, ◌+◌, ◌++◌, ◌∷◌, List, ℕ, Bool, true, false, Ok, Err, Result, IfOk, cond, length, refl, sym, ap, subst, ◌∙◌, [], arith, append_assoc}
 use Rattle.std.proofs.lemmas.List.{append-nil}
 use Rattle.std.proofs.lemmas.Result.{err_from_is_err_and}
 use Rattle.fc_device.proofs.DiskLaws.{laws}
 use Rattle.fc_device.proofs.StopLemmas.{reads_start, reads_then}
 use Rattle.fc_host.specs.Answers.{all_asked}
-use Rattle.fc_host.specs.Asked.{Asked}
 use Rattle.fc_image.specs.effects.Effect.{State}
 use Rattle.fc_runs.specs.HostAsks.{LinesAsk}
 use Rattle.fc_runs.specs.HostRun.{served_line_of}
@@ -14,7 +13,7 @@ use Rattle.fc_shell.specs.declared.moving.MoveFault.{MoveFault}
 use Rattle.fc_shell.specs.declared.tally.Tally.{Tally}
 use Rattle.fc_shell.specs.Left.{commands_left}
 use Rattle.fc_shell.specs.Line.{IsReady}
-use Rattle.fc_shell.specs.Moving.{AsksMore, HasMoved, HostSpares, LineMoves, LinesMove}
+use Rattle.fc_shell.specs.Moving.{HasMoved, HostSpares, LineMoves, LinesMove}
 use Rattle.fc_shell.specs.Replies.{script_limit}
 use Rattle.fc_shell.proofs.HostServingLemmas.{all_ask_lines, all_ask_more, all_asked_more, asked_then, caused_all, caused_on, host_all, host_more, host_part, host_spares_first, host_spares_rest, host_start, one_move}
 use Rattle.fc_shell.proofs.LengthLemmas.{AreUpTo, commands_few, commands_up_to}
