@@ -1,5 +1,5 @@
 -- Steps with the files of a host answer as two maps do.
-use Rattle.std.proofs.Common.{◌≡◌, ℕ, Bool, true, false, List, [], ◌∷◌, length, refl, ap, sym, subst, ◌∙◌, Option, Some, None}
+use Rattle.std.proofs.Common.{◌≡◌, ℕ, Bool, true, false, List, [], ◌∷◌, length, refl, ap, subst, ◌∙◌, Option, Some, None}
 use Rattle.std.specs.Prelude.{is_some, nat_lt, Result, Ok, Err}
 use Rattle.std.specs.FinMap.{get}
 use Rattle.fc_host.specs.Files.{Files}

@@ -72,12 +72,5 @@ fn main(rt: HostRuntime) -> ExitCode {
     let mut script = StdSource::new(rt.reader());
     let mut out = StdSink::new(io::writer(&rt));
     let mut host = FileHost::new(folder, image.as_str());
-    ExitCode::from(program(
-        alloc,
-        &words,
-        &mut disk,
-        &mut script,
-        &mut out,
-        &mut host,
-    ))
+    ExitCode::from(program(alloc, &words, &mut disk, &mut script, &mut out, &mut host))
 }
