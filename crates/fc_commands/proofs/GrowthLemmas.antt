@@ -29,7 +29,8 @@ use Rattle.fc_change.specs.declared.job.Job.{Job}
 use Rattle.fc_change.specs.declared.job.Job.TheVariants as jobs
 use Rattle.fc_change.specs.declared.job.Wants.{Wants}
 use Rattle.fc_change.specs.Needs.{AreWants, HasRoomFor, HasRoomToMove, SaysAt, room_of}
-use Rattle.fc_course.specs.Jobs.{IsJobFor, NoneGrows}
+use Rattle.fc_course.specs.Jobs.{IsJobFor}
+use Rattle.fc_course.proofs.RoomyLemmas.{NoneGrows}
 use Rattle.fc_course.proofs.ArrivalLemmas as arrival
 use Rattle.fc_course.proofs.ArrivalLemmas.{Arrival}
 use Rattle.fc_course.proofs.EmptySpaceLemmas.{no_growth}

@@ -27,7 +27,7 @@ use Rattle.fc_change.specs.GrownSpace.{IsGrown, place_of_plan}
 use Rattle.fc_change.specs.Needs.{AreWants, HasRoomOf, is_copied, len_at, room_of}
 use Rattle.fc_change.specs.Places.{AreLeft, ArePlaced, IsCopiedFrom, IsPlaceFor, IsPlaceOf, IsPlacingFor, extents_in, is_directory, own_address, plan_in}
 use Rattle.fc_change.specs.Steps.{IsStep}
-use Rattle.fc_course.specs.Jobs.{NoneGrows}
+use Rattle.fc_course.proofs.RoomyLemmas.{NoneGrows}
 use Rattle.fc_course.proofs.NewSpotLemmas.{gives, takes}
 
 module _ (m : Map) (nodes : Nodes) (owners : List Owner) (r : Renaming) (name : List ℕ) where

@@ -31,7 +31,7 @@ use Rattle.fc_change.specs.After.{nodes_after}
 use Rattle.fc_change.specs.Directories.{Rewriting, TellAll}
 use Rattle.fc_change.specs.Needs.{is_copied}
 use Rattle.fc_course.specs.declared.stages.Prepared.{Prepared}
-use Rattle.fc_course.specs.Jobs.{NoneGrows}
+use Rattle.fc_course.proofs.RoomyLemmas.{NoneGrows}
 use Rattle.fc_course.specs.Stages.{IsPreparedFor}
 use Rattle.fc_course.proofs.CopyingEditLemmas.{IsCopied, copies, nodes_are, two_told}
 use Rattle.fc_course.proofs.CopyingFileLemmas.{IsCopiedFile, copied_file}

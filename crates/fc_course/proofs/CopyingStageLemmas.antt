@@ -24,7 +24,7 @@ use Rattle.fc_change.specs.Drafts.{CanDraft, CanTellJob, IsChangeOf, address_in,
 use Rattle.fc_change.specs.Needs.{AreWants, is_copied, len_at}
 use Rattle.fc_change.specs.Places.{CanPlace}
 use Rattle.fc_change.specs.Prepared.{CanPrepare, HasPlace}
-use Rattle.fc_course.specs.Jobs.{NoneGrows}
+use Rattle.fc_course.proofs.RoomyLemmas.{NoneGrows}
 use Rattle.fc_course.specs.Stages.{CanPrepareJob, IsSpaced}
 use Rattle.fc_course.proofs.ArrivalPlaceLemmas.{address_fits}
 use Rattle.fc_course.proofs.CopyingFileLemmas.{IsCopiedFile}

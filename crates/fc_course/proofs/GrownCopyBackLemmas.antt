@@ -2,8 +2,8 @@
 -- directory may be the last that had it.
 use Rattle.fc_alloc.specs.Owners.{is_node}
 use Rattle.fc_alloc.specs.declared.owner.Owner.{Owner}
-use Rattle.fc_change.specs.GrownSpace.{GrowsInto, IsGrownAt as IsGrownPlace, gone_at_once, has_rest, left_by_growth, left_of, root_of}
-use Rattle.fc_change.specs.Needs.{AreWants, is_copied, len_at}
+use Rattle.fc_change.specs.GrownSpace.{IsGrownAt as IsGrownPlace, gone_at_once, has_rest, left_by_growth, left_of, root_of}
+use Rattle.fc_change.specs.Needs.{is_copied}
 use Rattle.fc_change.specs.Places.{plan_in}
 use Rattle.fc_changes.proofs.BasicLemmas.{and_false, clash, or_false}
 use Rattle.fc_changes.proofs.BesideLemmas.{shared_stays}
@@ -12,7 +12,6 @@ use Rattle.fc_course.proofs.GrownBackLemmas as back_of
 use Rattle.fc_course.proofs.GrownChangeLemmas.{IsGrownStepped, taking_of, takings}
 use Rattle.fc_course.proofs.GrownCopyWantLemmas.{copy_is, file}
 use Rattle.fc_course.proofs.GrownMoveRestLemmas.{beside, beside_it, other_l, other_node, rest}
-use Rattle.fc_course.proofs.GrownMoveRestLemmas as rest_of
 use Rattle.fc_course.proofs.GrownMoveSaidLemmas.{anew, it, k, l, layout, listed}
 use Rattle.fc_course.proofs.GrownMoveWalkLemmas as walk
 use Rattle.fc_course.proofs.GrownMoveWantLemmas.{GrownRename}
@@ -31,7 +30,7 @@ use Rattle.fc_image.specs.effects.Sharing.{new_ids}
 use Rattle.fc_image.specs.effects.Steady.{is_given_back}
 use Rattle.fc_laws.specs.agree.Agreed.{parts_with}
 use Rattle.fc_newmap.specs.Map.{Map, is_used}
-use Rattle.fc_placing.proofs.LeavingLemmas.{any_append, any_owner, any_same}
+use Rattle.fc_placing.proofs.LeavingLemmas.{any_owner, any_same}
 use Rattle.fc_placing.specs.Places.{IsOwnPlan}
 use Rattle.fc_plan.specs.Applied.{IsOther, id_in, parts_in}
 use Rattle.fc_plan.specs.Giving.{is_one_of}

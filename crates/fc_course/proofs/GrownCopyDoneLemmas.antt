@@ -7,7 +7,7 @@ use Rattle.fc_course.proofs.CopyingLengthLemmas.{image_long}
 use Rattle.fc_course.proofs.GrownCopyEditLemmas.{dir_other}
 use Rattle.fc_course.proofs.GrownCopyMadeLemmas.{MadeCopy, copying_of}
 use Rattle.fc_course.proofs.GrownCopyOutLemmas as out_of
-use Rattle.fc_course.proofs.GrownCopyRunLemmas.{copying, its_space, lies_now, sectors_then, size_now, then_is}
+use Rattle.fc_course.proofs.GrownCopyRunLemmas.{copying, its_space, lies_now, sectors_then, size_now}
 use Rattle.fc_course.proofs.GrownCopyWantLemmas.{CopiedRename, IsCopyAt, bytes_is, copy_at, file, from_is, source}
 use Rattle.fc_course.proofs.GrownMoveDoneLemmas as done
 use Rattle.fc_course.proofs.GrownMoveEditLemmas.{IsSaidNow, become}
@@ -15,22 +15,22 @@ use Rattle.fc_course.proofs.GrownMoveGrowsLemmas.{its_grows}
 use Rattle.fc_course.proofs.GrownMoveMadeLemmas.{EditedRename, up_in}
 use Rattle.fc_course.proofs.GrownMoveNodeLemmas.{growing_in}
 use Rattle.fc_course.proofs.GrownMoveRunLemmas.{stepped}
-use Rattle.fc_course.proofs.GrownMoveSaidLemmas.{it, k, l, layout, listed, now}
+use Rattle.fc_course.proofs.GrownMoveSaidLemmas.{it, l, now}
 use Rattle.fc_course.proofs.GrownMoveWantLemmas.{GrownRename}
 use Rattle.fc_course.proofs.GrownMoveWantLemmas as want
 use Rattle.fc_course.proofs.MoveEditLemmas.{lies_there}
 use Rattle.fc_course.proofs.PutLemmas.{AreLong, put_of, puts_of, source_puts}
 use Rattle.fc_course.proofs.TargetLemmas as target_of
-use Rattle.fc_edits.specs.Copying.{copied, edit, new_path}
+use Rattle.fc_edits.specs.Copying.{copied, edit}
 use Rattle.fc_edits.specs.Edit.{Amended}
-use Rattle.fc_edits.specs.Growing.{Growing, grown as grown_with, regrown}
-use Rattle.fc_edits.specs.GrownCopying.{NewGrownCopying, grown_edit}
+use Rattle.fc_edits.specs.Growing.{regrown}
+use Rattle.fc_edits.specs.GrownCopying.{grown_edit}
 use Rattle.fc_image.proofs.EntriesLemmas.{cases as contains_cases, later as contains_later}
 use Rattle.fc_image.specs.Edits.{IsAt}
 use Rattle.fc_image.specs.Layout.{Layout, bytes_in, dir_form}
 use Rattle.fc_image.specs.Opening.{Opened}
 use Rattle.fc_image.specs.Stays.{OpensAs}
-use Rattle.fc_image.specs.Walk.{Listing, Object, object_bytes, object_size}
+use Rattle.fc_image.specs.Walk.{Object, object_bytes, object_size}
 use Rattle.fc_image.specs.effects.Short.{is_copied as is_copied_in}
 use Rattle.fc_image.specs.effects.Steady.{IsRewritten}
 use Rattle.fc_laws.proofs.lemmas.takeover.CopiedBytesLemmas.{copied_bytes_law}
@@ -38,13 +38,11 @@ use Rattle.fc_laws.proofs.lemmas.takeover.KindLemmas.{new_kind}
 use Rattle.fc_laws.specs.agree.Agreed.{parts_with}
 use Rattle.fc_laws.specs.takeover.Copied.{AreCopied}
 use Rattle.fc_model.specs.Command.{Command}
-use Rattle.fc_model.specs.Tree.{holder, last_name}
 use Rattle.fc_names.specs.Names.{is_same_path}
 use Rattle.fc_newmap.specs.Map.{Map}
 use Rattle.fc_objects.specs.Extents.{sectors_in}
 use Rattle.fc_outcomes.proofs.lemmas.GrownCopyingLemmas.{grown_copying_law}
-use Rattle.fc_outcomes.specs.GrownCopying.{IsToCopyGrown, NewGrownCopyingWritten, grown_view}
-use Rattle.fc_outcomes.specs.Growth.{holder_now}
+use Rattle.fc_outcomes.specs.GrownCopying.{IsToCopyGrown, NewGrownCopyingWritten}
 use Rattle.fc_outcomes.specs.NewImage.{Outcome}
 use Rattle.fc_outcomes.specs.Puts.{ArePutOut, IsDirectoryPut, Put}
 use Rattle.fc_record.specs.declared.Geometry.{Geometry}

@@ -1,17 +1,14 @@
 -- `rename` that copies its file into a directory that grows by it: what both directories are told, and that all others stay as they are.
-use Rattle.fc_change.specs.Directories.{Rewriting, TellAll, Tells, around, is_holder, is_told, numbers}
-use Rattle.fc_change.specs.Needs.{is_copied}
+use Rattle.fc_change.specs.Directories.{Rewriting, TellAll, numbers}
 use Rattle.fc_change.specs.declared.change.Says.{Says}
 use Rattle.fc_change.specs.declared.spaces.Place.{Place}
 use Rattle.fc_changes.proofs.BasicLemmas.{clash}
 use Rattle.fc_course.proofs.CopyingFileLemmas.{IsCopiedFile}
 use Rattle.fc_course.proofs.GrownCopyWantLemmas.{CopiedRename, IsCopyAt, base, copy_at, file}
-use Rattle.fc_course.proofs.GrownMoveEditLemmas.{AllSaidNow, IsPlainEdit, IsSaidNow, KeepsBody, become, is_free}
 use Rattle.fc_course.proofs.GrownMoveReadyLemmas.{IsHomeTold, about_cut, above_free, home_told_of, own_cut, pieces_are, told, whole, whole_home}
 use Rattle.fc_course.proofs.GrownMoveReadyLemmas as ready_of
-use Rattle.fc_course.proofs.GrownMoveSaidLemmas.{FirstSays, HomeSays, anew, entered_says, grown_numb, holder_numb, holding_says, home_numb, it, k, l, layout, listed, now, numb, plain_says, regrown_name, rewritten_own, unlike}
-use Rattle.fc_course.proofs.GrownMoveToldLemmas.{IsToldGrown, all_numbers, entry_now, home_told, last_told}
-use Rattle.fc_course.proofs.GrownMoveWalkLemmas as walk
+use Rattle.fc_course.proofs.GrownMoveSaidLemmas.{FirstSays, entered_says, it, layout, listed, now, rewritten_own}
+use Rattle.fc_course.proofs.GrownMoveToldLemmas.{IsToldGrown, all_numbers, entry_now, home_told}
 use Rattle.fc_course.proofs.GrownMoveWantLemmas.{GrownRename}
 use Rattle.fc_course.proofs.GrownMoveWantLemmas as want
 use Rattle.fc_course.proofs.GrownPieceLemmas.{AllPieces, IsGrownReady}
@@ -22,18 +19,16 @@ use Rattle.fc_dirs.specs.declared.Entry.{Entry}
 use Rattle.fc_drafts.specs.Draft.{directory_in}
 use Rattle.fc_drafts.specs.Entries.{renamed_entry}
 use Rattle.fc_drafts.specs.Rewriting.{HasEntered}
-use Rattle.fc_edits.proofs.lemmas.GrownPlaceLemmas as place
-use Rattle.fc_edits.specs.Copying.{Copies, Copying, copied, edit, from_it, new_path, to_it}
+use Rattle.fc_edits.specs.Copying.{Copying, copied, new_path}
 use Rattle.fc_image.proofs.EntriesLemmas.{later as contains_later}
 use Rattle.fc_image.proofs.PathsLemmas.{itself}
 use Rattle.fc_image.specs.Layout.{Layout}
 use Rattle.fc_image.specs.Walk.{Listing, Object, is_directory_object}
-use Rattle.fc_model.specs.Tree.{holder, last_name}
 use Rattle.fc_names.specs.Names.{is_same_path}
 use Rattle.fc_tree.proofs.MemberLemmas.{contains_here}
 use Rattle.fc_tree.proofs.SoundLemmas.{same_object}
 use Rattle.fc_tree.proofs.WalkedLemmas.{listed_directory}
-use Rattle.fc_tree.specs.Nodes.{is_directory_node, number_of}
+use Rattle.fc_tree.specs.Nodes.{is_directory_node}
 use Rattle.fc_writing.specs.declared.ready.Piece.{Piece}
 use Rattle.std.proofs.Common.{Bool, List, Option, Some, [], ap, ap₂, cond, false, map, refl, subst, ℕ, ◌++◌, ◌==◌, ◌∙◌, ◌∷◌, ◌≡◌}
 use Rattle.std.proofs.lemmas.Bool.{false_from_ne_true as unless, ne_eqb}

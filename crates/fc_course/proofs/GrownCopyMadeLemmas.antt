@@ -1,48 +1,39 @@
 -- `rename` that copies its file into a directory that grows by it: the edit that it is, with the growth.
-use Rattle.fc_change.specs.Directories.{Rewriting, TellAll, Tells, around, is_holder, is_told, numbers}
-use Rattle.fc_change.specs.Needs.{is_copied}
-use Rattle.fc_change.specs.Prepared.{IsNewPiece, IsPieceOf, IsReadyFor}
+use Rattle.fc_change.specs.Directories.{is_holder, is_told}
+use Rattle.fc_change.specs.Prepared.{IsNewPiece}
 use Rattle.fc_change.specs.declared.change.Says.{Says}
 use Rattle.fc_change.specs.declared.change.Turned.{Turned}
 use Rattle.fc_change.specs.declared.change.Turned.TheVariants as turns
 use Rattle.fc_change.specs.declared.spaces.Place.{Place}
-use Rattle.fc_change.specs.declared.spaces.SpaceError.TheVariants as spaces
 use Rattle.fc_course.proofs.GrownCopyBackLemmas.{back_unused}
 use Rattle.fc_course.proofs.GrownCopyEditLemmas.{all_stay, away, content, dir_other, entered, entry_at, home, is_b, its, lies_at, no_own, no_own_piece, ns_are, rd, says, stays_as, there, tl}
 use Rattle.fc_course.proofs.GrownCopyWantLemmas.{CopiedRename, base, copy_at}
-use Rattle.fc_course.proofs.GrownMoveAsideLemmas.{from_aim, from_home, held_in_it, holder_other, k_told, k_up, to_home}
-use Rattle.fc_course.proofs.GrownMoveCaseLemmas.{HoldsBoth}
-use Rattle.fc_course.proofs.GrownMoveEditLemmas.{AllSaidNow, IsPlainEdit, IsSaidNow, KeepsBody, become, is_free}
-use Rattle.fc_course.proofs.GrownMoveFirstLemmas.{first_said, home_said, in_told, told_in, untold_in}
+use Rattle.fc_course.proofs.GrownMoveAsideLemmas.{from_home, held_in_it, holder_other, k_told, k_up}
+use Rattle.fc_course.proofs.GrownMoveEditLemmas.{AllSaidNow, IsPlainEdit, IsSaidNow, KeepsBody, become}
+use Rattle.fc_course.proofs.GrownMoveFirstLemmas.{first_said, home_said, told_in, untold_in}
 use Rattle.fc_course.proofs.GrownMoveMadeLemmas.{EditedRename, MadeEdit, up_in}
 use Rattle.fc_course.proofs.GrownMovePartLemmas.{IsGrownMove, PlainMove}
-use Rattle.fc_course.proofs.GrownMoveReadyLemmas.{IsHomeTold, about_cut, above_free, home_told_of, own_cut, pieces_are, told, whole, whole_home}
-use Rattle.fc_course.proofs.GrownMoveReadyLemmas as ready_of
-use Rattle.fc_course.proofs.GrownMoveSaidLemmas.{FirstSays, HomeSays, anew, entered_says, grown_numb, holder_numb, holding_says, home_numb, it, k, l, layout, listed, now, numb, plain_says, regrown_name, rewritten_own, unlike}
-use Rattle.fc_course.proofs.GrownMoveToldLemmas.{IsToldGrown, all_numbers, entry_now, home_told, last_told}
-use Rattle.fc_course.proofs.GrownMoveWalkLemmas as walk
+use Rattle.fc_course.proofs.GrownMoveReadyLemmas.{about_cut, above_free, own_cut, pieces_are, told, whole, whole_home}
+use Rattle.fc_course.proofs.GrownMoveSaidLemmas.{anew, grown_numb, holder_numb, holding_says, home_numb, it, k, l, layout, listed, now, numb, plain_says, regrown_name, unlike}
+use Rattle.fc_course.proofs.GrownMoveToldLemmas.{all_numbers, entry_now}
 use Rattle.fc_course.proofs.GrownMoveWantLemmas.{GrownRename}
 use Rattle.fc_course.proofs.GrownMoveWantLemmas as want
 use Rattle.fc_course.proofs.GrownSpaceLemmas.{growing_of}
 use Rattle.fc_course.proofs.MoveDirectoryLemmas.{entries_entered}
 use Rattle.fc_course.proofs.MoveEditLemmas.{map_insert}
 use Rattle.fc_course.proofs.MoveLemmas as seen_of
-use Rattle.fc_course.proofs.MoveTellLemmas.{own_told}
 use Rattle.fc_dirs.specs.Directory.{Directory, entries_of}
 use Rattle.fc_dirs.specs.Entries.{entry_place, first_twin}
 use Rattle.fc_dirs.specs.declared.Entry.{Entry}
-use Rattle.fc_drafts.proofs.RewritingLemmas as drafted
 use Rattle.fc_drafts.specs.Draft.{directory_in}
-use Rattle.fc_drafts.specs.Entries.{renamed_entry}
 use Rattle.fc_edits.proofs.lemmas.CopyingLemmas.{is_copy}
 use Rattle.fc_edits.proofs.lemmas.GrownCopyingLemmas.{grown_copying_law}
 use Rattle.fc_edits.proofs.lemmas.ShapeLemmas.{kids_unlike, only}
-use Rattle.fc_edits.specs.Copying.{Copies, Copying, copied, edit, from_it, new_path, to_it}
-use Rattle.fc_edits.specs.Edit.{Amended, Edit}
-use Rattle.fc_edits.specs.Growing.{Growing, Told}
+use Rattle.fc_edits.specs.Copying.{Copies, Copying, copied, edit, from_it, to_it}
+use Rattle.fc_edits.specs.Edit.{Amended}
 use Rattle.fc_image.proofs.EntriesLemmas.{cases as contains_cases, later as contains_later}
 use Rattle.fc_image.specs.Walk.{Listing, Object}
-use Rattle.fc_image.specs.effects.Steady.{has_grown, holds_named, is_renamed_by, regrown_entry, with_made, without_name}
+use Rattle.fc_image.specs.effects.Steady.{holds_named, is_renamed_by, regrown_entry, with_made, without_name}
 use Rattle.fc_laws.proofs.lemmas.agree.CutLemmas.{cut_law}
 use Rattle.fc_laws.proofs.lemmas.agree.SayLemmas.{as_directory as says_it}
 use Rattle.fc_laws.proofs.lemmas.nodes.ListLemmas.{cut_at, map_remove, put_at}
@@ -55,7 +46,6 @@ use Rattle.fc_oldlaws.proofs.lemmas.moves.SayableLemmas.{twins_same}
 use Rattle.fc_tree.proofs.EndLemmas.{no_twin as apart_names}
 use Rattle.fc_tree.proofs.MemberLemmas.{contains_here, no_element}
 use Rattle.fc_tree.proofs.SoundLemmas.{children_stored}
-use Rattle.fc_tree.specs.Nodes.{is_directory_node, number_of}
 use Rattle.fc_writing.specs.declared.ready.Piece.{Piece}
 use Rattle.std.proofs.Common.{Bool, List, None, Option, Some, [], ap, ap₂, cond, false, inl, inr, insert, map, refl, remove, subst, sym, true, ℕ, ⊎_elim, ◌++◌, ◌||◌, ◌∙◌, ◌∷◌, ◌≡◌}
 use Rattle.std.proofs.lemmas.Bool.{or_right as or_second}

@@ -11,12 +11,11 @@ use Rattle.fc_course.proofs.GrownMoveMadeLemmas.{EditedRename}
 use Rattle.fc_course.proofs.GrownMoveMayLemmas as may
 use Rattle.fc_course.proofs.GrownMovePutLemmas as put
 use Rattle.fc_course.proofs.GrownMoveRestLemmas.{it_among}
-use Rattle.fc_course.proofs.GrownMoveSaidLemmas.{it, k, l, layout, listed}
+use Rattle.fc_course.proofs.GrownMoveSaidLemmas.{it, l, layout, listed}
 use Rattle.fc_course.proofs.GrownMoveWalkLemmas as walk
 use Rattle.fc_course.proofs.GrownMoveWantLemmas.{GrownRename}
 use Rattle.fc_course.proofs.GrownMoveWantLemmas as want
 use Rattle.fc_course.proofs.GrownPutLemmas.{apart_own, may_have, places}
-use Rattle.fc_course.proofs.GrownPutLemmas as grown_put
 use Rattle.fc_course.proofs.GrownSpaceLemmas.{IsToGrow}
 use Rattle.fc_course.proofs.MovePieceLemmas.{all_apart, among_flat}
 use Rattle.fc_course.proofs.NewPlaceLemmas.{IsRoomBeside, hole_room}
@@ -35,7 +34,7 @@ use Rattle.fc_image.specs.Layout.{Layout, dir_form, disc_sectors, hole_sectors, 
 use Rattle.fc_image.specs.Objects.{objects_of}
 use Rattle.fc_image.specs.Opening.{boot_place, reserved_in}
 use Rattle.fc_image.specs.Stays.{OpensAs}
-use Rattle.fc_image.specs.Walk.{Listing, Object, is_directory_object, object_size}
+use Rattle.fc_image.specs.Walk.{Listing, is_directory_object, object_size}
 use Rattle.fc_laws.proofs.lemmas.agree.BeforeLemmas.{agreed_law, disc_holds}
 use Rattle.fc_laws.proofs.lemmas.takeover.ApartLemmas.{places_law}
 use Rattle.fc_laws.proofs.lemmas.takeover.SaidLemmas.{apart_front}

@@ -17,17 +17,15 @@ use Rattle.fc_course.proofs.GrownCopyEditLemmas.{entry_at}
 use Rattle.fc_course.proofs.GrownCopyMadeLemmas.{MadeCopy, copying_of}
 use Rattle.fc_course.proofs.GrownCopyWantLemmas.{CopiedRename, IsCopyAt, bytes_is, copy_at, file}
 use Rattle.fc_course.proofs.GrownMoveGrowsLemmas.{lies_now as grown_lies}
-use Rattle.fc_course.proofs.GrownMoveMadeLemmas.{EditedRename, MadeEdit}
+use Rattle.fc_course.proofs.GrownMoveMadeLemmas.{EditedRename}
 use Rattle.fc_course.proofs.GrownMoveNodeLemmas.{growing_in}
 use Rattle.fc_course.proofs.GrownMoveNodeLemmas as move_of
 use Rattle.fc_course.proofs.GrownMoveRestLemmas as rest_of
 use Rattle.fc_course.proofs.GrownMoveRunLemmas.{grown_at, grown_some, kept, stepped}
-use Rattle.fc_course.proofs.GrownMoveSaidLemmas.{anew, it, k, l, layout, listed}
-use Rattle.fc_course.proofs.GrownMoveToldLemmas.{entry_now}
+use Rattle.fc_course.proofs.GrownMoveSaidLemmas.{anew, it, layout}
 use Rattle.fc_course.proofs.GrownMoveWalkLemmas as walk
 use Rattle.fc_course.proofs.GrownMoveWantLemmas.{GrownRename}
 use Rattle.fc_course.proofs.GrownMoveWantLemmas as want
-use Rattle.fc_course.proofs.MoveLemmas as seen_of
 use Rattle.fc_course.proofs.NewPlaceLemmas.{id_at}
 use Rattle.fc_course.proofs.NewSpotLemmas.{low_two}
 use Rattle.fc_course.proofs.PlanPlaceLemmas.{plan_leads}
@@ -37,7 +35,7 @@ use Rattle.fc_dirs.specs.declared.Entry.{Entry}
 use Rattle.fc_drafts.specs.Entries.{renamed_entry}
 use Rattle.fc_edits.proofs.lemmas.CopyingLemmas.{is_copy}
 use Rattle.fc_edits.proofs.lemmas.GrownCopyingLemmas.{grown_copying_law}
-use Rattle.fc_edits.specs.Copying.{Copying, copied, edit, new_path}
+use Rattle.fc_edits.specs.Copying.{copied}
 use Rattle.fc_edits.specs.Growing.{Growing}
 use Rattle.fc_edits.specs.GrownCopying.{NewGrownCopying, grown_edit}
 use Rattle.fc_edits.specs.GrownPlaces.{IsGrownAt}
@@ -51,13 +49,11 @@ use Rattle.fc_image.specs.effects.Placed.{file_low}
 use Rattle.fc_image.specs.effects.Steady.{is_given_back}
 use Rattle.fc_laws.proofs.lemmas.agree.BeforeLemmas.{agreed_law}
 use Rattle.fc_laws.specs.agree.Agreed.{parts_with}
-use Rattle.fc_laws.specs.nodes.Edits.{Nodes, owner_with}
 use Rattle.fc_names.specs.declared.name.NameForm.{NameForm}
 use Rattle.fc_names.specs.declared.name.NameForm.TheVariants as forms
 use Rattle.fc_newmap.specs.Map.{Map, ZoneRun, bits_in, id_runs, is_used}
 use Rattle.fc_objects.specs.Extents.{sectors_in}
 use Rattle.fc_placing.proofs.PlacedLemmas.{place_law}
-use Rattle.fc_placing.specs.Places.{IsOwnPlan, address_in, shared_id}
 use Rattle.fc_placing.specs.Space.{HasTaken}
 use Rattle.fc_plan.specs.Applied.{IsTakenIn, id_in, parts_in, parts_in_order}
 use Rattle.fc_plan.specs.Parts.{fronts}

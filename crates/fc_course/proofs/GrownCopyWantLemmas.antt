@@ -1,15 +1,13 @@
 -- `rename` that copies its file into a directory that grows by it, on a new map: what is wanted, and where the copy lies.
 use Rattle.fc_change.specs.Drafts.{IsChangeOf}
 use Rattle.fc_change.specs.GrownSpace.{place_of_plan}
-use Rattle.fc_change.specs.Needs.{AreWants, is_copied, len_at}
-use Rattle.fc_change.specs.Places.{AreLeft, ArePlaced, IsCopiedFrom, IsPlaceFor, IsPlaceOf, IsPlacingFor, extents_in, is_directory, own_address, plan_in}
+use Rattle.fc_change.specs.Needs.{is_copied, len_at}
+use Rattle.fc_change.specs.Places.{IsCopiedFrom, IsPlaceFor, IsPlaceOf, IsPlacingFor, extents_in, is_directory, own_address}
 use Rattle.fc_change.specs.Prepared.{IsReadyFor, IsSourceOf}
 use Rattle.fc_change.specs.declared.job.Job.TheVariants as jobs
 use Rattle.fc_change.specs.declared.spaces.Place.{Place}
-use Rattle.fc_change.specs.declared.spaces.SpaceError.TheVariants as spaces
 use Rattle.fc_course.proofs.CopyingFileLemmas.{IsCopiedFile, copied_file}
 use Rattle.fc_course.proofs.GrownMoveReadyLemmas.{ReadyRename}
-use Rattle.fc_course.proofs.GrownMoveWalkLemmas as walk
 use Rattle.fc_course.proofs.GrownMoveWantLemmas.{GrownRename}
 use Rattle.fc_course.proofs.TargetLemmas as target_of
 use Rattle.fc_course.specs.declared.stages.Prepared.{Prepared}
@@ -17,7 +15,7 @@ use Rattle.fc_device.specs.declared.disk.Extent.{Extent}
 use Rattle.fc_image.specs.Layout.{Layout}
 use Rattle.fc_laws.specs.agree.Agreed.{parts_with}
 use Rattle.fc_objects.specs.Extents.{sectors_in}
-use Rattle.fc_placing.specs.Places.{IsOwnPlan, address_in, shared_id}
+use Rattle.fc_placing.specs.Places.{IsOwnPlan, address_in}
 use Rattle.fc_placing.specs.declared.placing.Placing.{Placing}
 use Rattle.fc_placing.specs.declared.placing.Placing.TheVariants as placings
 use Rattle.fc_plan.specs.declared.plan.Plan.{Plan}

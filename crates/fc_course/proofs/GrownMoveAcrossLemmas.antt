@@ -1,14 +1,13 @@
 -- `rename` to another directory, which grows by the new entry: its edit, by what the directory says that loses the object.
-use Rattle.fc_change.specs.Directories.{Rewriting, TellAll, Tells, is_told, numbers}
-use Rattle.fc_course.proofs.GrownMoveEditLemmas.{AllSaidNow, IsPlainEdit, IsSaidNow, KeepsBody, become, flat_both, is_free}
-use Rattle.fc_course.proofs.GrownMoveFirstLemmas.{first_said, in_told, own_in, own_said_now, told_in, untold_in}
+use Rattle.fc_change.specs.Directories.{Rewriting, is_told, numbers}
+use Rattle.fc_course.proofs.GrownMoveEditLemmas.{AllSaidNow, IsPlainEdit, IsSaidNow, become, flat_both}
+use Rattle.fc_course.proofs.GrownMoveFirstLemmas.{first_said, own_in, own_said_now, told_in, untold_in}
 use Rattle.fc_course.proofs.GrownMoveMadeLemmas.{up_in}
-use Rattle.fc_course.proofs.GrownMovePartLemmas.{IsGrownMove, PlainMove}
+use Rattle.fc_course.proofs.GrownMovePartLemmas.{PlainMove}
 use Rattle.fc_course.proofs.GrownMoveReadyLemmas.{IsHomeTold, PlainRename, about_cut, above_free, base, home_told_of, own_cut, plain_entry, told}
 use Rattle.fc_course.proofs.GrownMoveReadyLemmas as ready_of
-use Rattle.fc_course.proofs.GrownMoveSaidLemmas.{FirstSays, IsOwnGrown, entered_says, grown_numb, holder_numb, home_numb, it, it_numb, k, l, layout, listed, not_in, now, numb, numb_is, own_grown, rewritten_own, sectors, unlike}
-use Rattle.fc_course.proofs.GrownMoveToldLemmas.{IsToldGrown, all_numbers, entry_now, home_told, last_told}
-use Rattle.fc_course.proofs.GrownMoveWalkLemmas as walk
+use Rattle.fc_course.proofs.GrownMoveSaidLemmas.{FirstSays, IsOwnGrown, entered_says, grown_numb, holder_numb, home_numb, it, k, l, layout, listed, not_in, now, numb, own_grown, rewritten_own, unlike}
+use Rattle.fc_course.proofs.GrownMoveToldLemmas.{IsToldGrown, all_numbers, entry_now, last_told}
 use Rattle.fc_course.proofs.GrownMoveWantLemmas.{GrownRename}
 use Rattle.fc_course.proofs.GrownMoveWantLemmas as want
 use Rattle.fc_course.proofs.GrownMoveWithinLemmas.{own_numbers}
@@ -22,7 +21,7 @@ use Rattle.fc_dirs.specs.Directory.{Directory, entries_of}
 use Rattle.fc_dirs.specs.Entries.{entry_place, first_twin}
 use Rattle.fc_dirs.specs.declared.Entry.{Entry}
 use Rattle.fc_drafts.specs.Draft.{directory_in}
-use Rattle.fc_drafts.specs.Rewriting.{HasEntered, HasMoved}
+use Rattle.fc_drafts.specs.Rewriting.{HasEntered}
 use Rattle.fc_edits.proofs.lemmas.ListLemmas.{map_map}
 use Rattle.fc_edits.proofs.lemmas.ShapeLemmas.{kids_unlike, none_flat, only}
 use Rattle.fc_edits.specs.Edit.{Amended, Edit}
@@ -44,7 +43,7 @@ use Rattle.fc_tree.proofs.EndLemmas.{no_twin as apart_names}
 use Rattle.fc_tree.proofs.MemberLemmas.{contains_here, from_map, in_map, no_element}
 use Rattle.fc_tree.proofs.SoundLemmas.{children_stored, same_object}
 use Rattle.fc_tree.proofs.WalkedLemmas.{listed_directory}
-use Rattle.fc_tree.specs.Nodes.{is_directory_node, number_of}
+use Rattle.fc_tree.specs.Nodes.{is_directory_node}
 use Rattle.std.proofs.Common.{Bool, List, None, [], ap, append_assoc, ap₂, cond, false, flat_map, insert, map, refl, remove, subst, sym, true, ℕ, ⊎_elim, ◌++◌, ◌==◌, ◌∙◌, ◌∷◌, ◌≡◌}
 use Rattle.std.proofs.lemmas.Bool.{false_from_ne_true as unless, ne_eqb}
 use Rattle.std.proofs.lemmas.List.{append-nil}

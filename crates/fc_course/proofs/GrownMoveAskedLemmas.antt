@@ -1,6 +1,6 @@
 -- `rename` by which a directory grows, by any view: that the command makes it grow, and is refused for want of space as what it wants is.
 use Rattle.fc_alloc.specs.declared.owner.Owner.{Owner}
-use Rattle.fc_change.specs.Needs.{AreWants, HasRoomOf, IsGrowthOf, is_copied as is_copied_job, len_at, room_of}
+use Rattle.fc_change.specs.Needs.{AreWants, HasRoomOf, IsGrowthOf, is_copied as is_copied_job, room_of}
 use Rattle.fc_change.specs.Shortage.{bytes_left, shortage}
 use Rattle.fc_change.specs.declared.job.Growth.{Growth}
 use Rattle.fc_change.specs.declared.job.Job.TheVariants as jobs
@@ -20,7 +20,7 @@ use Rattle.fc_image.specs.Opening.{Opened}
 use Rattle.fc_image.specs.Sound.{AreSound}
 use Rattle.fc_image.specs.Walk.{Listing, Object, is_directory_object, object_size}
 use Rattle.fc_image.specs.effects.Sharing.{units}
-use Rattle.fc_image.specs.effects.Short.{Gain, Growth as Grown, gain_in, gain_of, growth_in, growth_of, is_copied, is_full_with, is_sharing, new_length, object_units, short}
+use Rattle.fc_image.specs.effects.Short.{Gain, Growth as Grown, gain_in, gain_of, growth_of, is_copied, is_sharing, new_length, object_units, short}
 use Rattle.fc_laws.proofs.lemmas.agree.BeforeLemmas.{new_shape}
 use Rattle.fc_laws.specs.agree.Agreed.{parts_with}
 use Rattle.fc_laws.specs.nodes.Edits.{Nodes}

@@ -1,45 +1,36 @@
 -- `rename` without a copy by which a directory grows: its edit is made, to another directory or within one.
 use Rattle.fc_alloc.specs.declared.owner.Owner.{Owner}
-use Rattle.fc_change.specs.Directories.{Rewriting, Tells, is_holder, numbers}
+use Rattle.fc_change.specs.Directories.{is_holder}
 use Rattle.fc_change.specs.declared.change.Says.{Says}
 use Rattle.fc_course.proofs.GrownMoveAcrossLemmas as other_dir
 use Rattle.fc_course.proofs.GrownMoveAsideLemmas.{from_aim, from_home, held_in_it, holder_other, k_told, k_up, to_home}
-use Rattle.fc_course.proofs.GrownMoveCaseLemmas.{HoldsBoth}
-use Rattle.fc_course.proofs.GrownMoveEditLemmas.{AllSaidNow, IsSaidNow, KeepsBody, become, is_free}
-use Rattle.fc_course.proofs.GrownMoveFirstLemmas.{home_said, k_unlike, own_in, told_in}
+use Rattle.fc_course.proofs.GrownMoveEditLemmas.{AllSaidNow, IsSaidNow, become}
+use Rattle.fc_course.proofs.GrownMoveFirstLemmas.{home_said}
 use Rattle.fc_course.proofs.GrownMoveMadeLemmas.{MadeMove, none_made, up_in}
 use Rattle.fc_course.proofs.GrownMovePartLemmas.{IsGrownMove, PlainMove}
 use Rattle.fc_course.proofs.GrownMoveReadyLemmas.{IsHomeTold, PlainRename, about_cut, above_free, base, own_cut, pieces_are, plain_entry, told, whole, whole_home}
 use Rattle.fc_course.proofs.GrownMoveReadyLemmas as ready_of
-use Rattle.fc_course.proofs.GrownMoveSaidLemmas.{HomeSays, IsOwnGrown, anew, grown_numb, holder_numb, holding_says, home_numb, it, it_path, k, l, layout, listed, now, numb, numb_is, plain_says, regrown_name}
-use Rattle.fc_course.proofs.GrownMoveToldLemmas.{IsToldGrown, all_numbers, entry_now, home_told, last_told}
-use Rattle.fc_course.proofs.GrownMoveWalkLemmas as walk
+use Rattle.fc_course.proofs.GrownMoveSaidLemmas.{anew, grown_numb, holding_says, it, k, l, layout, numb, plain_says, regrown_name}
 use Rattle.fc_course.proofs.GrownMoveWantLemmas.{GrownRename}
 use Rattle.fc_course.proofs.GrownMoveWantLemmas as want
 use Rattle.fc_course.proofs.GrownMoveWholeLemmas.{made_within, own_named}
-use Rattle.fc_course.proofs.GrownMoveWithinLemmas as same_dir
 use Rattle.fc_course.proofs.GrownSpaceLemmas.{growing_of}
-use Rattle.fc_course.proofs.GrownToldLemmas as of
 use Rattle.fc_course.proofs.MoveLemmas as seen_of
-use Rattle.fc_course.proofs.MoveTellLemmas.{own_told}
 use Rattle.fc_dirs.specs.Directory.{Directory, entries_of}
 use Rattle.fc_dirs.specs.Entries.{first_twin}
 use Rattle.fc_dirs.specs.declared.Entry.{Entry}
-use Rattle.fc_drafts.proofs.RewritingLemmas as drafted
 use Rattle.fc_drafts.specs.Draft.{directory_in}
 use Rattle.fc_edits.proofs.lemmas.GrownMovingLemmas.{grown_moving_law}
-use Rattle.fc_edits.proofs.lemmas.ShapeLemmas.{none_flat, of_one, only}
+use Rattle.fc_edits.proofs.lemmas.ShapeLemmas.{none_flat, only}
 use Rattle.fc_edits.proofs.lemmas.TransferLemmas.{rename_law}
-use Rattle.fc_edits.specs.Edit.{Amended, Edit, owners_in, owners_joined, owners_left}
-use Rattle.fc_edits.specs.Growing.{Told}
-use Rattle.fc_edits.specs.Moving.{Moves, Moving, edit, itself as amended_own, moved}
-use Rattle.fc_edits.specs.Transfer.{Transfer, from_it, renaming_of, to_it, transfer_of, within}
+use Rattle.fc_edits.specs.Edit.{Amended, owners_in}
+use Rattle.fc_edits.specs.Moving.{Moves, edit, itself as amended_own, moved}
+use Rattle.fc_edits.specs.Transfer.{Transfer, from_it, to_it, transfer_of}
 use Rattle.fc_image.proofs.EntriesLemmas.{cases as contains_cases}
 use Rattle.fc_image.specs.Walk.{Listing}
 use Rattle.fc_image.specs.effects.Steady.{edited, holds_named, is_renamed_by, regrown_entry, with_made, without_name}
 use Rattle.fc_laws.proofs.lemmas.agree.RenamedLemmas.{moved_entry}
 use Rattle.fc_laws.proofs.lemmas.agree.SayLemmas.{as_directory as says_it}
-use Rattle.fc_laws.proofs.lemmas.nodes.ListLemmas.{cut_at}
 use Rattle.fc_laws.specs.nodes.Edits.{owners_with}
 use Rattle.fc_model.specs.Command.{Command}
 use Rattle.fc_model.specs.Tree.{holder, last_name}
@@ -48,8 +39,6 @@ use Rattle.fc_oldlaws.proofs.lemmas.moves.SayableLemmas.{twins_same}
 use Rattle.fc_outcomes.specs.Moving.{HasEntries}
 use Rattle.fc_tree.proofs.EndLemmas.{no_twin as apart_names}
 use Rattle.fc_tree.proofs.MemberLemmas.{from_map}
-use Rattle.fc_tree.proofs.SoundLemmas.{folds_alike, root_or_child, same_listing}
-use Rattle.fc_tree.specs.Nodes.{is_directory_node, number_of}
 use Rattle.fc_writing.specs.declared.ready.Piece.{Piece}
 use Rattle.std.proofs.Common.{Bool, List, None, Option, Some, [], ap, ap₂, cond, false, inl, inr, map, refl, remove, subst, sym, true, ⊎_elim, ◌++◌, ◌==◌, ◌||◌, ◌∙◌, ◌∷◌, ◌≡◌}
 use Rattle.std.proofs.lemmas.Bool.{cases_eq, or_right as or_second}
@@ -164,10 +153,8 @@ module _ (w : PlainRename) (away : w.q.r.holder ≡ w.q.r.target.holder → ⊥)
       };
       moves = its_moves;
       o_is = refl;
-      number_is = refl;
       name_is = refl;
       l_is = refl;
-      entry = moved_entry (l q).object.path q.name (it q);
       entries = across_entries;
     }
 

@@ -8,7 +8,7 @@ use Rattle.fc_course.proofs.GrownMoveAskedLemmas.{grows_to}
 use Rattle.fc_course.proofs.GrownWalkLemmas.{IsBigOne, big_one}
 use Rattle.fc_course.proofs.MoveLemmas.{IsSeen}
 use Rattle.fc_course.proofs.MoveShortLemmas as short_of
-use Rattle.fc_course.specs.Jobs.{NoneGrows}
+use Rattle.fc_course.proofs.RoomyLemmas.{NoneGrows}
 use Rattle.fc_drafts.specs.Draft.{names_of}
 use Rattle.fc_drafts.specs.Gains.{HasRoom}
 use Rattle.fc_drafts.specs.declared.room.Room.TheVariants as rooms

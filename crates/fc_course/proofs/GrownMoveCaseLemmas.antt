@@ -5,21 +5,20 @@ use Rattle.fc_change.specs.declared.change.Regrowth.{Regrowth}
 use Rattle.fc_change.specs.declared.change.Says.{Says}
 use Rattle.fc_changes.proofs.BasicLemmas.{clash, holder_pushed}
 use Rattle.fc_course.proofs.GrownAroundLemmas.{IsCutAround, in_filtered, one_first}
-use Rattle.fc_course.proofs.GrownMoveEditLemmas.{AllReady, AllSaidNow, IsSaidNow, OneReady, become, both_said_now, flat_both, is_free, other_path, plain_kid, stays}
-use Rattle.fc_course.proofs.GrownMovePartLemmas.{IsGrownMove, PlainMove, all_first, around_said, become_grown, enters_of, first_enters, first_joins, first_leaves, joins_of, kid_told, kids_said, kids_told, leaves_of, no_flat, rest_is, said_can, skipped, told_of, told_were}
-use Rattle.fc_course.proofs.GrownMoveSaidLemmas.{anew, it, l, listed, now, numb, numb_is, sectors}
+use Rattle.fc_course.proofs.GrownMoveEditLemmas.{AllReady, AllSaidNow, IsSaidNow, OneReady, become, both_said_now, is_free, other_path, plain_kid, stays}
+use Rattle.fc_course.proofs.GrownMovePartLemmas.{IsGrownMove, PlainMove, all_first, around_said, become_grown, enters_of, first_enters, first_joins, first_leaves, joins_of, kids_said, kids_told, leaves_of, no_flat, rest_is, said_can, skipped, told_of, told_were}
+use Rattle.fc_course.proofs.GrownMoveSaidLemmas.{anew, l, numb, numb_is}
 use Rattle.fc_course.proofs.GrownMoveWalkLemmas as walk
 use Rattle.fc_course.proofs.GrownMoveWantLemmas.{GrownRename}
 use Rattle.fc_course.proofs.GrownMoveWantLemmas as want
 use Rattle.fc_course.proofs.GrownNodeLemmas.{body_commute}
 use Rattle.fc_course.proofs.GrownSpaceLemmas.{growing_of}
-use Rattle.fc_course.proofs.GrownToldLemmas as of
 use Rattle.fc_course.proofs.MoveSaidLemmas.{last_first}
 use Rattle.fc_dirs.specs.Directory.{entries_of}
 use Rattle.fc_drafts.specs.Draft.{directory_in}
-use Rattle.fc_edits.specs.Edit.{Amended, Edit, joining, leaving, objects}
-use Rattle.fc_edits.specs.Growing.{Holder, IsTold, Told, amended_by, grown_by, holding, regrown, told, up_of}
-use Rattle.fc_edits.specs.NewNodes.{entering, tell}
+use Rattle.fc_edits.specs.Edit.{Amended, objects}
+use Rattle.fc_edits.specs.Growing.{Holder, IsTold, Told, holding, regrown, told}
+use Rattle.fc_edits.specs.NewNodes.{tell}
 use Rattle.fc_image.proofs.EntriesLemmas.{cases as contains_cases, later as contains_later}
 use Rattle.fc_image.specs.Layout.{Layout}
 use Rattle.fc_image.specs.Walk.{Listing, Object}

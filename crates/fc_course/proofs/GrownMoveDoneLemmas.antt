@@ -2,32 +2,29 @@
 use Rattle.fc_alloc.specs.declared.owner.Owner.{Owner}
 use Rattle.fc_change.specs.After.{AreOwnersAfter, nodes_after, owners_admitted}
 use Rattle.fc_change.specs.GrownSpace.{root_of}
-use Rattle.fc_change.specs.Needs.{is_copied}
 use Rattle.fc_change.specs.declared.change.Says.{Says}
 use Rattle.fc_changes.specs.Owed.{IsBefore}
 use Rattle.fc_course.proofs.GrownMapLemmas.{map_grows}
-use Rattle.fc_course.proofs.GrownMoveEditLemmas.{AllSaidNow, IsSaidNow, KeepsBody, back_now, become, said_now}
+use Rattle.fc_course.proofs.GrownMoveEditLemmas.{IsSaidNow, KeepsBody, back_now, become, said_now}
 use Rattle.fc_course.proofs.GrownMoveGrowsLemmas.{big, its_grows, step_of}
 use Rattle.fc_course.proofs.GrownMoveMadeLemmas.{EditedRename, MadeEdit, MadeMove, moving_of, none_given, up_in}
 use Rattle.fc_course.proofs.GrownMoveNodeLemmas.{growing_in}
 use Rattle.fc_course.proofs.GrownMoveReadyLemmas.{PlainRename}
 use Rattle.fc_course.proofs.GrownMoveRunLemmas.{grown_at, mv, stepped}
-use Rattle.fc_course.proofs.GrownMoveRunLemmas as run
-use Rattle.fc_course.proofs.GrownMoveSaidLemmas.{anew, it, k, l, layout, listed}
+use Rattle.fc_course.proofs.GrownMoveSaidLemmas.{anew, it, l, layout, listed}
 use Rattle.fc_course.proofs.GrownMoveWalkLemmas as walk
 use Rattle.fc_course.proofs.GrownMoveWantLemmas.{GrownRename}
 use Rattle.fc_course.proofs.GrownMoveWantLemmas as want
 use Rattle.fc_course.proofs.GrownPieceLemmas.{piece_put, put_back}
-use Rattle.fc_course.proofs.GrownRootLemmas.{HasVersion, version_by}
+use Rattle.fc_course.proofs.GrownRootLemmas.{version_by}
 use Rattle.fc_course.proofs.MoveEditLemmas.{lies_there}
 use Rattle.fc_course.proofs.NodeLemmas.{each_at}
 use Rattle.fc_course.proofs.PutLemmas.{AreLong, CopiesNone, put_of, put_out, puts_of, source_puts}
 use Rattle.fc_dirs.specs.Directory.{directory_size}
 use Rattle.fc_edits.specs.Edit.{Amended}
-use Rattle.fc_edits.specs.Growing.{Growing, grown as grown_with, regrown}
-use Rattle.fc_edits.specs.GrownMoving.{NewGrownMoving, grown_edit}
-use Rattle.fc_edits.specs.Moving.{edit, moved, new_path}
-use Rattle.fc_edits.specs.NewNodes as edited
+use Rattle.fc_edits.specs.Growing.{grown as grown_with, regrown}
+use Rattle.fc_edits.specs.GrownMoving.{NewGrownMoving}
+use Rattle.fc_edits.specs.Moving.{edit}
 use Rattle.fc_image.specs.Layout.{Layout, dir_form}
 use Rattle.fc_image.specs.Opening.{Opened}
 use Rattle.fc_image.specs.Stays.{IsNewKind, OpensAs}
@@ -38,13 +35,13 @@ use Rattle.fc_laws.proofs.lemmas.takeover.KindLemmas.{new_kind}
 use Rattle.fc_laws.proofs.lemmas.takeover.WriteLemmas.{written_bytes_law}
 use Rattle.fc_laws.specs.agree.Agreed.{parts_with}
 use Rattle.fc_model.specs.Command.{Command}
-use Rattle.fc_names.specs.Names.{Path, is_directory, is_same_path}
+use Rattle.fc_names.specs.Names.{is_directory, is_same_path}
 use Rattle.fc_names.specs.declared.name.NameForm.{NameForm}
 use Rattle.fc_names.specs.declared.name.NameForm.TheVariants as forms
 use Rattle.fc_newmap.specs.Map.{Map}
 use Rattle.fc_objects.specs.Extents.{sectors_in}
 use Rattle.fc_outcomes.proofs.lemmas.GrownMovingLemmas.{grown_moving_law as outcome_law}
-use Rattle.fc_outcomes.specs.GrownMoving.{IsToMoveGrown, NewGrownMovingWritten, grown_view, parent_now}
+use Rattle.fc_outcomes.specs.GrownMoving.{IsToMoveGrown, NewGrownMovingWritten}
 use Rattle.fc_outcomes.specs.Growth.{MapGrows}
 use Rattle.fc_outcomes.specs.NewImage.{Outcome}
 use Rattle.fc_outcomes.specs.Puts.{IsDirectoryPut, Put}

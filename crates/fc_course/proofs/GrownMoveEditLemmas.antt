@@ -5,8 +5,7 @@ use Rattle.fc_change.specs.Directories.{Rewriting, TellAll, around, is_told}
 use Rattle.fc_change.specs.declared.change.Regrowth.{Regrowth}
 use Rattle.fc_change.specs.declared.change.Says.{Says}
 use Rattle.fc_course.proofs.GrownAroundLemmas.{IsCutAround, cut_around, in_filtered, none_holds}
-use Rattle.fc_course.proofs.GrownMoveSaidLemmas.{anew, it, l, layout, listed, now, numb, numb_is, sectors}
-use Rattle.fc_course.proofs.GrownMoveSaidLemmas as said_of
+use Rattle.fc_course.proofs.GrownMoveSaidLemmas.{l, layout, listed, numb, sectors}
 use Rattle.fc_course.proofs.GrownMoveWalkLemmas as walk
 use Rattle.fc_course.proofs.GrownMoveWantLemmas.{GrownRename}
 use Rattle.fc_course.proofs.GrownMoveWantLemmas as want
@@ -17,11 +16,10 @@ use Rattle.fc_course.proofs.GrownToldLemmas.{all_pass}
 use Rattle.fc_course.proofs.GrownToldLemmas as of
 use Rattle.fc_dirs.specs.Directory.{Directory}
 use Rattle.fc_drafts.specs.Draft.{directory_in}
-use Rattle.fc_edits.specs.Edit.{Amended, Edit, joining, leaving, objects}
+use Rattle.fc_edits.specs.Edit.{Amended, Edit}
 use Rattle.fc_edits.specs.Growing.{regrown}
-use Rattle.fc_edits.specs.NewNodes.{entering, tell}
+use Rattle.fc_edits.specs.NewNodes.{tell}
 use Rattle.fc_image.proofs.EntriesLemmas.{cases as contains_cases, later as contains_later}
-use Rattle.fc_image.proofs.ShuffleLemmas.{IsPermutation-filter, filter-append}
 use Rattle.fc_image.specs.Layout.{Layout, dir_form}
 use Rattle.fc_image.specs.Walk.{Listing, Object, is_directory_object, object_size}
 use Rattle.fc_image.specs.effects.Steady.{AreWritten, IsRewritten}

@@ -1,22 +1,19 @@
 -- `rename` by which a directory grows: each directory that its edit tells, with what it is told and its piece.
-use Rattle.fc_change.specs.Directories.{Rewriting, TellAll, Tells, is_told, numbers}
+use Rattle.fc_change.specs.Directories.{Rewriting, Tells, is_told}
 use Rattle.fc_change.specs.Prepared.{IsDrafted, IsPieceOf}
 use Rattle.fc_change.specs.declared.change.Says.{Says}
 use Rattle.fc_changes.proofs.BasicLemmas.{clash}
 use Rattle.fc_course.proofs.GrownMoveEditLemmas.{AllSaidNow, IsSaidNow, KeepsBody, become}
-use Rattle.fc_course.proofs.GrownMoveSaidLemmas.{FirstSays, HomeSays, IsOwnGrown, anew, holder_numb, home_numb, it, it_numb, k, l, layout, listed, now, numb, numb_is, sectors, unlike}
-use Rattle.fc_course.proofs.GrownMoveToldLemmas.{all_numbers, home_told}
+use Rattle.fc_course.proofs.GrownMoveSaidLemmas.{FirstSays, HomeSays, IsOwnGrown, anew, holder_numb, home_numb, it, k, l, layout, listed, now, numb, numb_is, sectors, unlike}
 use Rattle.fc_course.proofs.GrownMoveWalkLemmas as walk
 use Rattle.fc_course.proofs.GrownMoveWantLemmas.{GrownRename}
 use Rattle.fc_course.proofs.GrownMoveWantLemmas as want
 use Rattle.fc_course.proofs.GrownPieceLemmas.{AllPieces}
 use Rattle.fc_course.proofs.GrownToldLemmas.{other_long}
-use Rattle.fc_course.proofs.GrownToldLemmas as of
 use Rattle.fc_course.proofs.MoveDirectoryLemmas.{form_moved}
 use Rattle.fc_course.proofs.MoveLemmas.{IsOwn}
 use Rattle.fc_course.proofs.MoveLemmas as seen_of
 use Rattle.fc_course.proofs.MoveSaidLemmas.{AreOwnSaid}
-use Rattle.fc_course.proofs.MoveTellLemmas.{own_told}
 use Rattle.fc_course.proofs.NodeLemmas.{sectors_are, size_of_form}
 use Rattle.fc_dirs.specs.Directory.{Directory, directory_size}
 use Rattle.fc_drafts.specs.Draft.{directory_in, size_of}
@@ -29,7 +26,6 @@ use Rattle.fc_edits.specs.Moving.{Moving, itself as amended_own, moved}
 use Rattle.fc_image.proofs.CommandLemmas.{same_by_folds}
 use Rattle.fc_image.proofs.EntriesLemmas.{cases as contains_cases, later as contains_later}
 use Rattle.fc_image.proofs.PathsLemmas.{is_at, itself}
-use Rattle.fc_image.specs.EditedWalk.{moved_object}
 use Rattle.fc_image.specs.Layout.{Layout, dir_form}
 use Rattle.fc_image.specs.Walk.{Listing, Object, object_size}
 use Rattle.fc_image.specs.effects.Steady.{AreWritten, IsRewritten, is_renamed_by}

@@ -1,6 +1,5 @@
 -- `rename` by which a directory grows: the command makes it grow, and tells the directories around it as its edit does.
 use Rattle.fc_change.specs.GrownSpace.{root_of}
-use Rattle.fc_change.specs.Needs.{is_copied}
 use Rattle.fc_change.specs.Places.{plan_in}
 use Rattle.fc_changes.proofs.BasicLemmas.{clash}
 use Rattle.fc_checks.specs.Checks.{is_big_size}
@@ -11,7 +10,7 @@ use Rattle.fc_course.proofs.GrownMapLemmas.{IsStepOf}
 use Rattle.fc_course.proofs.GrownMoveAskedLemmas.{grows_to}
 use Rattle.fc_course.proofs.GrownMoveMadeLemmas.{EditedRename, MadeEdit}
 use Rattle.fc_course.proofs.GrownMoveNodeLemmas.{growing_in}
-use Rattle.fc_course.proofs.GrownMoveSaidLemmas.{FirstSays, anew, it, k, l, layout, listed}
+use Rattle.fc_course.proofs.GrownMoveSaidLemmas.{FirstSays, l, layout, listed}
 use Rattle.fc_course.proofs.GrownMoveWalkLemmas as walk
 use Rattle.fc_course.proofs.GrownMoveWantLemmas.{GrownRename}
 use Rattle.fc_course.proofs.GrownMoveWantLemmas as want

@@ -16,7 +16,7 @@ use Rattle.fc_course.proofs.GrownMoveAskedLemmas as asked
 use Rattle.fc_course.proofs.GrownMoveAwayLemmas.{made}
 use Rattle.fc_course.proofs.GrownMoveBigLemmas.{big_by}
 use Rattle.fc_course.proofs.GrownMoveDoneLemmas as done
-use Rattle.fc_course.proofs.GrownMoveMadeLemmas.{MadeMove, moving_of}
+use Rattle.fc_course.proofs.GrownMoveMadeLemmas.{moving_of}
 use Rattle.fc_course.proofs.GrownMoveMayLemmas as may
 use Rattle.fc_course.proofs.GrownMovePutLemmas as put
 use Rattle.fc_course.proofs.GrownMoveReadyLemmas.{PlainRename}
@@ -30,8 +30,7 @@ use Rattle.fc_course.proofs.MoveShortLemmas.{full_short, plain as plain_is}
 use Rattle.fc_course.proofs.MoveStageLemmas.{IsRenamer, renamer}
 use Rattle.fc_course.proofs.MoveStageLemmas as move_stage
 use Rattle.fc_course.proofs.NodeLemmas as its_node
-use Rattle.fc_course.proofs.RemovalRunLemmas.{new_view, parts, sound_in}
-use Rattle.fc_course.proofs.RemovalStageLemmas.{view_of}
+use Rattle.fc_course.proofs.RemovalRunLemmas.{new_view, parts}
 use Rattle.fc_holdings.specs.Holdings.{TellsVersion}
 use Rattle.fc_course.specs.Laws.{JobLaws}
 use Rattle.fc_course.specs.Promises.{ChangesParts, WritesPlacesOf}
@@ -47,7 +46,7 @@ use Rattle.fc_image.specs.Opening.{Opened}
 use Rattle.fc_image.specs.Sound.{AreSound}
 use Rattle.fc_image.specs.Stays.{OpensAs}
 use Rattle.fc_image.specs.Walk.{Listing, Object, is_directory_object, object_size}
-use Rattle.fc_image.specs.effects.Short.{is_copied as is_copied_in, short}
+use Rattle.fc_image.specs.effects.Short.{short}
 use Rattle.fc_laws.proofs.lemmas.agree.BeforeLemmas.{agreed_law}
 use Rattle.fc_laws.specs.agree.Agreed.{AgreeOn}
 use Rattle.fc_laws.specs.nodes.Edits.{Nodes}

@@ -7,7 +7,6 @@ use Rattle.fc_change.specs.declared.change.Turned.{Turned}
 use Rattle.fc_change.specs.declared.change.Turned.TheVariants as turns
 use Rattle.fc_change.specs.declared.job.Job.TheVariants as jobs
 use Rattle.fc_change.specs.declared.spaces.Place.{Place}
-use Rattle.fc_change.specs.declared.spaces.SpaceError.TheVariants as spaces
 use Rattle.fc_course.proofs.GrownAroundLemmas.{IsCutAround}
 use Rattle.fc_course.proofs.GrownMoveEditLemmas.{AllSaidNow, KeepsBody, become}
 use Rattle.fc_course.proofs.GrownMoveReadyLemmas.{PlainRename}
@@ -21,10 +20,9 @@ use Rattle.fc_course.proofs.GrownSpaceLemmas.{growing_of}
 use Rattle.fc_course.specs.declared.stages.Prepared.{Prepared}
 use Rattle.fc_device.specs.declared.disk.Extent.{Extent}
 use Rattle.fc_drafts.specs.Draft.{directory_in}
-use Rattle.fc_drafts.specs.Entries.{renamed_entry}
 use Rattle.fc_edits.specs.Edit.{Amended, AreEdited, Edit, joining, leaving, objects, owners_joined, owners_left}
-use Rattle.fc_edits.specs.Growing.{Growing, Holder, IsGrowing, Told, amended_by, grown as grown_with, grown_by, up_of}
-use Rattle.fc_edits.specs.Moving.{Moves, Moving, edit, moved, new_path}
+use Rattle.fc_edits.specs.Growing.{Holder, IsGrowing, Told, amended_by, grown as grown_with, grown_by, up_of}
+use Rattle.fc_edits.specs.Moving.{Moves, Moving, edit, moved}
 use Rattle.fc_edits.specs.NewNodes.{enter, entering, tell}
 use Rattle.fc_image.specs.Layout.{Layout}
 use Rattle.fc_image.specs.Walk.{Listing, Object}
@@ -125,10 +123,8 @@ pub record MadeMove (w : PlainRename) : Type 0 where
   pub part : MadeEdit (moving_of w c)
   pub moves : Moves w.q.nodes w.q.listings c
   pub o_is : c.o ≡ w.q.seen.known.target.object
-  pub number_is : c.number ≡ w.q.r.target.node
   pub name_is : c.name ≡ w.q.name
   pub l_is : c.l.object ≡ w.q.seen.known.destination.listing.object
-  pub entry : (moved c w.q.seen.known.target.object).entry ≡ renamed_entry w.q.seen.known.target.object.entry w.q.name w.q.seen.known.target.object.entry.address
   pub entries : HasEntries w.q.from w.q.to c
 
 -- Nothing else is ready.

@@ -1,6 +1,5 @@
 -- `rename` by which a directory grows, at any moment: nothing else was written but what the command may write.
 use Rattle.fc_change.specs.GrownSpace.{IsGrownAt as IsGrownPlace}
-use Rattle.fc_change.specs.Needs.{is_copied}
 use Rattle.fc_change.specs.Places.{plan_in}
 use Rattle.fc_change.specs.declared.spaces.GrownPlace.{GrownPlace}
 use Rattle.fc_changes.proofs.BasicLemmas.{any_in}
@@ -8,11 +7,11 @@ use Rattle.fc_course.proofs.GrownAskedLemmas.{view_with}
 use Rattle.fc_course.proofs.GrownAskedLemmas as asked
 use Rattle.fc_course.proofs.GrownChangeLemmas.{taking_of}
 use Rattle.fc_course.proofs.GrownMayLemmas.{there_may}
-use Rattle.fc_course.proofs.GrownMoveEditLemmas.{AllSaidNow, IsSaidNow, back_now, become}
+use Rattle.fc_course.proofs.GrownMoveEditLemmas.{back_now, become}
 use Rattle.fc_course.proofs.GrownMoveGrowsLemmas.{growth_is, lies_now, used}
 use Rattle.fc_course.proofs.GrownMoveMadeLemmas.{EditedRename, MadeEdit, MadeMove, moving_of, none_given, up_in}
 use Rattle.fc_course.proofs.GrownMoveReadyLemmas.{PlainRename}
-use Rattle.fc_course.proofs.GrownMoveSaidLemmas.{anew, it, k, l, layout, listed}
+use Rattle.fc_course.proofs.GrownMoveSaidLemmas.{it, l, layout, listed}
 use Rattle.fc_course.proofs.GrownMoveWalkLemmas as walk
 use Rattle.fc_course.proofs.GrownMoveWantLemmas.{GrownRename}
 use Rattle.fc_course.proofs.GrownMoveWantLemmas as want

@@ -7,9 +7,9 @@ use Rattle.fc_course.proofs.GrownMoveBigLemmas.{grows_as, growth_to, none_old}
 use Rattle.fc_course.proofs.MoveRunLemmas.{new_seen, old_seen}
 use Rattle.fc_course.proofs.MoveStageLemmas.{IsRenamer}
 use Rattle.fc_course.proofs.RemovalRunLemmas.{parts}
-use Rattle.fc_course.specs.Jobs.{NoneGrows}
+use Rattle.fc_course.proofs.RoomyLemmas.{NoneGrows}
 use Rattle.fc_course.specs.Run.{IsMapOf}
-use Rattle.fc_image.specs.Layout.{Layout, dir_form}
+use Rattle.fc_image.specs.Layout.{Layout}
 use Rattle.fc_image.specs.Opening.{Opened}
 use Rattle.fc_image.specs.effects.Short.{Growth as Grown, growth_in}
 use Rattle.fc_laws.proofs.lemmas.agree.BeforeLemmas.{agreed_law}

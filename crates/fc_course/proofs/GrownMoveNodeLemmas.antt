@@ -7,11 +7,11 @@ use Rattle.fc_change.specs.declared.change.Regrowth.{Regrowth}
 use Rattle.fc_change.specs.declared.change.Turned.{Turned}
 use Rattle.fc_change.specs.declared.change.Turned.TheVariants as turns
 use Rattle.fc_changes.proofs.BasicLemmas.{holder_pushed}
-use Rattle.fc_course.proofs.GrownMoveEditLemmas.{AllSaidNow, become, tell_now}
+use Rattle.fc_course.proofs.GrownMoveEditLemmas.{become, tell_now}
 use Rattle.fc_course.proofs.GrownMoveMadeLemmas.{EditedRename, MadeEdit, up_in}
 use Rattle.fc_course.proofs.GrownMoveReadyLemmas.{node_other}
 use Rattle.fc_course.proofs.GrownMoveRestLemmas.{other_l, other_node, rest}
-use Rattle.fc_course.proofs.GrownMoveSaidLemmas.{anew, it, k, l, layout, listed, numb_is, sectors, unlike}
+use Rattle.fc_course.proofs.GrownMoveSaidLemmas.{anew, it, k, l, layout, listed}
 use Rattle.fc_course.proofs.GrownMoveToldLemmas.{entry_now}
 use Rattle.fc_course.proofs.GrownMoveWalkLemmas as walk
 use Rattle.fc_course.proofs.GrownMoveWantLemmas.{GrownRename}
@@ -27,18 +27,16 @@ use Rattle.fc_course.proofs.NodeLemmas as its
 use Rattle.fc_course.proofs.StayingLemmas.{owner_same}
 use Rattle.fc_course.proofs.TargetLemmas as target_of
 use Rattle.fc_dirs.specs.declared.Entry.{Entry}
-use Rattle.fc_drafts.specs.Entries.{regrown, renamed_entry}
+use Rattle.fc_drafts.specs.Entries.{regrown}
 use Rattle.fc_edits.specs.Edit.{AreEdited, owners_joined, owners_left}
-use Rattle.fc_edits.specs.Growing.{Growing, Holder, at_place, grown as grown_with, grown_by, up_of}
+use Rattle.fc_edits.specs.Growing.{Growing, grown as grown_with, grown_by, up_of}
 use Rattle.fc_edits.specs.NewNodes.{enter, entered, entering, tell}
-use Rattle.fc_edits.specs.NewNodes as edited
 use Rattle.fc_image.proofs.EntriesLemmas.{from_filter}
 use Rattle.fc_image.proofs.ShuffleLemmas.{IsPermutation-filter}
 use Rattle.fc_image.specs.Edits.{IsAt}
 use Rattle.fc_image.specs.Layout.{Layout}
 use Rattle.fc_image.specs.Objects.{has_sectors}
 use Rattle.fc_image.specs.Walk.{Object}
-use Rattle.fc_laws.proofs.lemmas.agree.KeptLemmas.{alone}
 use Rattle.fc_laws.proofs.lemmas.nodes.ListLemmas.{map_fixed}
 use Rattle.fc_laws.proofs.lemmas.nodes.OwnerLemmas.{owner_known}
 use Rattle.fc_laws.proofs.lemmas.nodes.ShapeLemmas.{put_other}

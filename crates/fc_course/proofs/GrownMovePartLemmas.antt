@@ -1,22 +1,19 @@
 -- The growth of a directory as a part of an edit by which one object leaves a directory and joins the one that grows.
-use Rattle.fc_change.specs.Directories.{is_told}
 use Rattle.fc_change.specs.declared.change.Regrowth.{Regrowth}
 use Rattle.fc_change.specs.declared.change.Says.{Says}
 use Rattle.fc_changes.proofs.BasicLemmas.{clash}
 use Rattle.fc_course.proofs.GrownAroundLemmas.{IsCutAround}
-use Rattle.fc_course.proofs.GrownMoveEditLemmas.{AllReady, AllSaidNow, IsPlainEdit, IsSaidNow, KeepsBody, OneReady, become, both_said_now, flat_both, is_free, none_pass, other_path, plain_kid, said_now, stays}
-use Rattle.fc_course.proofs.GrownMoveSaidLemmas.{anew, it, l, listed, now, numb, numb_is, sectors}
-use Rattle.fc_course.proofs.GrownMoveWalkLemmas as walk
+use Rattle.fc_course.proofs.GrownMoveEditLemmas.{AllReady, AllSaidNow, IsPlainEdit, IsSaidNow, OneReady, become, flat_both, is_free, none_pass, said_now}
+use Rattle.fc_course.proofs.GrownMoveSaidLemmas.{anew, l, now, numb, numb_is, sectors}
 use Rattle.fc_course.proofs.GrownMoveWantLemmas.{GrownRename}
 use Rattle.fc_course.proofs.GrownMoveWantLemmas as want
 use Rattle.fc_course.proofs.GrownSpaceLemmas.{growing_of}
 use Rattle.fc_course.proofs.GrownToldLemmas.{all_pass}
-use Rattle.fc_course.proofs.MoveSaidLemmas.{last_first}
 use Rattle.fc_dirs.specs.Directory.{directory_size}
 use Rattle.fc_drafts.specs.Draft.{directory_in}
 use Rattle.fc_edits.proofs.lemmas.ShapeLemmas.{none_flat}
 use Rattle.fc_edits.specs.Edit.{Amended, Edit, joining, leaving, objects}
-use Rattle.fc_edits.specs.Growing.{Growing, Holder, IsGrowing, IsTold, Told, amended_by, grown_by, holding, regrown, told, up_of}
+use Rattle.fc_edits.specs.Growing.{Growing, Holder, IsGrowing, Told, amended_by, grown_by, told, up_of}
 use Rattle.fc_edits.specs.NewNodes.{entering, tell}
 use Rattle.fc_image.proofs.CommandLemmas.{same_by_folds}
 use Rattle.fc_image.proofs.EntriesLemmas.{cases as contains_cases, later as contains_later}

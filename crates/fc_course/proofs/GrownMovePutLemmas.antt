@@ -1,7 +1,6 @@
 -- `rename` by which a directory grows: what is written of it, and, without a copy, that it can be written.
 use Rattle.fc_alloc.specs.declared.owner.Owner.{Owner}
 use Rattle.fc_change.specs.GrownSpace.{root_of}
-use Rattle.fc_change.specs.Needs.{is_copied}
 use Rattle.fc_change.specs.Places.{plan_in}
 use Rattle.fc_change.specs.declared.change.Says.{Says}
 use Rattle.fc_change.specs.declared.spaces.GrownPlace.{GrownPlace}
@@ -13,7 +12,7 @@ use Rattle.fc_course.proofs.GrownMoveGrowsLemmas.{big, rooted}
 use Rattle.fc_course.proofs.GrownMoveMadeLemmas.{EditedRename, MadeEdit, MadeMove, moving_of, none_given, up_in}
 use Rattle.fc_course.proofs.GrownMoveNodeLemmas.{growing_in}
 use Rattle.fc_course.proofs.GrownMoveReadyLemmas.{PlainRename}
-use Rattle.fc_course.proofs.GrownMoveSaidLemmas.{anew, it, k, l, layout, listed}
+use Rattle.fc_course.proofs.GrownMoveSaidLemmas.{it, l, layout, listed}
 use Rattle.fc_course.proofs.GrownMoveWalkLemmas as walk
 use Rattle.fc_course.proofs.GrownMoveWantLemmas.{GrownRename}
 use Rattle.fc_course.proofs.GrownMoveWantLemmas as want
@@ -25,9 +24,8 @@ use Rattle.fc_course.proofs.PieceLemmas.{all_low}
 use Rattle.fc_course.proofs.TwoPieceLemmas.{AreRoom, room_both}
 use Rattle.fc_holdings.specs.Holdings.{TellsVersion}
 use Rattle.fc_edits.proofs.lemmas.LeavingLemmas.{one_of_sector}
-use Rattle.fc_edits.specs.Edit.{Amended, Edit}
+use Rattle.fc_edits.specs.Edit.{Amended}
 use Rattle.fc_edits.specs.Growing.{grown as grown_with}
-use Rattle.fc_edits.specs.Moving.{edit, moved}
 use Rattle.fc_image.proofs.CommandLemmas.{same_by_folds}
 use Rattle.fc_image.proofs.EntriesLemmas.{later as contains_later}
 use Rattle.fc_image.proofs.HolesLemmas.{apart_at, apart_from}

@@ -1,7 +1,7 @@
 -- `rename` by which a directory grows, as it is prepared: what is ready of it, the pieces of all that are told, and who of those around
 -- the grown directory is told nothing else.
-use Rattle.fc_change.specs.Directories.{Rewriting, TellAll, Tells, around, children_of, holders_of, is_holder, is_told, numbers}
-use Rattle.fc_change.specs.Drafts.{IsChangeOf, address_in}
+use Rattle.fc_change.specs.Directories.{Rewriting, TellAll, Tells, around, children_of, holders_of, is_told, numbers}
+use Rattle.fc_change.specs.Drafts.{IsChangeOf}
 use Rattle.fc_change.specs.Needs.{is_copied}
 use Rattle.fc_change.specs.Prepared.{IsPieceOf, IsReadyFor}
 use Rattle.fc_change.specs.declared.change.Regrowth.{Regrowth}
@@ -11,12 +11,11 @@ use Rattle.fc_change.specs.declared.spaces.Place.{Place}
 use Rattle.fc_changes.proofs.BasicLemmas.{clash, holder_pushed}
 use Rattle.fc_course.proofs.GrownAroundLemmas.{IsCutAround}
 use Rattle.fc_course.proofs.GrownMoveCaseLemmas.{HoldsBoth, at_top, below, by_home}
-use Rattle.fc_course.proofs.GrownMoveEditLemmas.{AllReady, AllSaidNow, IsSaidNow, around_it, become, is_free, ready_about, stays}
+use Rattle.fc_course.proofs.GrownMoveEditLemmas.{AllReady, AllSaidNow, around_it, become, is_free, ready_about, stays}
 use Rattle.fc_course.proofs.GrownMoveFirstLemmas.{in_told, told_in}
 use Rattle.fc_course.proofs.GrownMovePartLemmas.{IsGrownMove, PlainMove}
-use Rattle.fc_course.proofs.GrownMoveSaidLemmas.{grown_numb, holder_numb, home_numb, it, it_numb, k, l, layout, listed, not_above, numb, numb_is, unlike}
+use Rattle.fc_course.proofs.GrownMoveSaidLemmas.{grown_numb, it, l, layout, not_above, numb, numb_is}
 use Rattle.fc_course.proofs.GrownMoveToldLemmas.{IsToldGrown, all_numbers, entry_now, home_told, last_told, told_grown}
-use Rattle.fc_course.proofs.GrownMoveWalkLemmas as walk
 use Rattle.fc_course.proofs.GrownMoveWantLemmas.{GrownRename}
 use Rattle.fc_course.proofs.GrownMoveWantLemmas as want
 use Rattle.fc_course.proofs.GrownPieceLemmas.{AllPieces, IsGrownReady, grown_ready}
@@ -42,7 +41,7 @@ use Rattle.fc_tree.proofs.MemberLemmas.{contains_here, from_map, no_element}
 use Rattle.fc_tree.proofs.PlaceLemmas.{one_path}
 use Rattle.fc_tree.proofs.SoundLemmas.{same_listing}
 use Rattle.fc_tree.proofs.WalkedLemmas.{child_path}
-use Rattle.fc_tree.specs.Nodes.{is_directory_node, number_of}
+use Rattle.fc_tree.specs.Nodes.{is_directory_node}
 use Rattle.fc_tree.specs.Parts.{Parts}
 use Rattle.fc_writing.specs.declared.ready.Piece.{Piece}
 use Rattle.std.proofs.Common.{Bool, List, Option, Some, [], ap, arith, cond, eq-eqb, false, filter, inl, inr, length, not, refl, subst, sym, true, ℕ, ⊎_elim, ◌++◌, ◌==◌, ◌∙◌, ◌∷◌, ◌≡◌, ◌⊎◌}

@@ -1,7 +1,7 @@
 -- `rename` by which a directory grows: the objects beside that directory and what is renamed.
 use Rattle.fc_changes.proofs.BasicLemmas.{clash}
 use Rattle.fc_course.proofs.GrownAroundLemmas.{one_first}
-use Rattle.fc_course.proofs.GrownMoveSaidLemmas.{it, k, l, layout, listed, unlike}
+use Rattle.fc_course.proofs.GrownMoveSaidLemmas.{it, l, layout, unlike}
 use Rattle.fc_course.proofs.GrownMoveWalkLemmas as walk
 use Rattle.fc_course.proofs.GrownMoveWantLemmas.{GrownRename}
 use Rattle.fc_course.proofs.GrownMoveWantLemmas as want

@@ -15,7 +15,7 @@ use Rattle.fc_course.proofs.GrownMoveNodeLemmas.{growing_in}
 use Rattle.fc_course.proofs.GrownMoveNodeLemmas as move_of
 use Rattle.fc_course.proofs.GrownMoveReadyLemmas.{PlainRename, plain_entry}
 use Rattle.fc_course.proofs.GrownMoveRestLemmas as rest_of
-use Rattle.fc_course.proofs.GrownMoveSaidLemmas.{anew, it, k, l, layout, listed}
+use Rattle.fc_course.proofs.GrownMoveSaidLemmas.{anew, it, l, layout}
 use Rattle.fc_course.proofs.GrownMoveWalkLemmas as walk
 use Rattle.fc_course.proofs.GrownMoveWantLemmas.{GrownRename}
 use Rattle.fc_course.proofs.GrownMoveWantLemmas as want
@@ -24,12 +24,9 @@ use Rattle.fc_course.proofs.MoveOwnerLemmas as mover
 use Rattle.fc_dirs.specs.declared.Entry.{Entry}
 use Rattle.fc_drafts.specs.Entries.{renamed_entry}
 use Rattle.fc_edits.proofs.lemmas.GrownMovingLemmas.{grown_moving_law}
-use Rattle.fc_edits.specs.Edit.{joining, leaving, objects}
-use Rattle.fc_edits.specs.Growing.{Growing, at_place, grown_by, up_of}
+use Rattle.fc_edits.specs.Growing.{Growing}
 use Rattle.fc_edits.specs.GrownMoving.{NewGrownMoving, grown_edit}
 use Rattle.fc_edits.specs.GrownPlaces.{IsGrownAt}
-use Rattle.fc_edits.specs.Moving.{edit, moved}
-use Rattle.fc_edits.specs.NewNodes as edited
 use Rattle.fc_edits.specs.NewPlaces.{GivesBack, IsSpaceChange, is_taken}
 use Rattle.fc_edits.specs.Placing.{takings_of}
 use Rattle.fc_image.specs.Edits.{IsAt}
@@ -39,7 +36,7 @@ use Rattle.fc_image.specs.Walk.{Object}
 use Rattle.fc_image.specs.effects.Steady.{is_given_back}
 use Rattle.fc_laws.proofs.lemmas.agree.BeforeLemmas.{agreed_law}
 use Rattle.fc_laws.specs.agree.Agreed.{parts_with}
-use Rattle.fc_laws.specs.nodes.Edits.{Nodes, owner_with}
+use Rattle.fc_laws.specs.nodes.Edits.{owner_with}
 use Rattle.fc_newmap.specs.Map.{Map}
 use Rattle.fc_plan.specs.Applied.{id_in, parts_in}
 use Rattle.fc_plan.specs.Giving.{is_one_of}

@@ -1,8 +1,8 @@
 -- `rename` by which a directory grows: each stage can follow on the one before.
 use Rattle.fc_alloc.specs.declared.owner.Owner.{Owner}
-use Rattle.fc_change.specs.Directories.{Amends, AmendsIf, CanAmend, CanBe, CanRegrow, CanTell, CanTellAround, IsGrownThere, Rewriting, above_of, around, is_holder}
-use Rattle.fc_change.specs.Drafts.{CanDraft, CanTellJob, IsChangeOf, IsPlaced, address_in, grown_in, told_first, told_last}
-use Rattle.fc_change.specs.Needs.{AreWants, CanWant, HasRoomOf, is_copied, len_at, room_of}
+use Rattle.fc_change.specs.Directories.{Amends, AmendsIf, CanAmend, CanBe, CanRegrow, CanTell, CanTellAround, IsGrownThere, Rewriting, around, is_holder}
+use Rattle.fc_change.specs.Drafts.{CanDraft, CanTellJob, IsChangeOf, address_in, grown_in, told_first, told_last}
+use Rattle.fc_change.specs.Needs.{AreWants, HasRoomOf, is_copied, len_at, room_of}
 use Rattle.fc_change.specs.Places.{CanPlace}
 use Rattle.fc_change.specs.Prepared.{CanPrepare, HasPlace}
 use Rattle.fc_change.specs.declared.change.Change.{Change}
@@ -14,7 +14,7 @@ use Rattle.fc_change.specs.declared.job.Wants.{Wants}
 use Rattle.fc_change.specs.declared.spaces.GrownPlace.{GrownPlace}
 use Rattle.fc_changes.proofs.BasicLemmas.{clash, holder_pushed}
 use Rattle.fc_course.proofs.GrownMoveBigLemmas.{big_by}
-use Rattle.fc_course.proofs.GrownMoveSaidLemmas.{anew, grown_numb, holder_numb, home_numb, it, it_holds_none, it_numb, k, l, layout, listed, numb, numb_is}
+use Rattle.fc_course.proofs.GrownMoveSaidLemmas.{grown_numb, holder_numb, home_numb, it, it_holds_none, it_numb, k, l, layout, listed, numb, numb_is}
 use Rattle.fc_course.proofs.GrownMoveToldLemmas.{IsToldGrown, all_numbers, entry_now, home_told, told_grown}
 use Rattle.fc_course.proofs.GrownMoveWalkLemmas as walk
 use Rattle.fc_course.proofs.GrownMoveWantLemmas.{GrownRename}
@@ -33,7 +33,7 @@ use Rattle.fc_course.proofs.TargetLemmas as target_of
 use Rattle.fc_dirs.specs.Directory.{Directory, entries_of}
 use Rattle.fc_dirs.specs.Entries.{has_name}
 use Rattle.fc_dirs.specs.declared.Entry.{Entry}
-use Rattle.fc_drafts.specs.Draft.{CanAddress, CanBeCalled, CanHold, CanName, names_of}
+use Rattle.fc_drafts.specs.Draft.{CanAddress, CanHold, CanName}
 use Rattle.fc_drafts.specs.Entries.{regrown}
 use Rattle.fc_edits.proofs.lemmas.ShapeLemmas.{of_one}
 use Rattle.fc_image.proofs.EntriesLemmas.{cases as contains_cases}

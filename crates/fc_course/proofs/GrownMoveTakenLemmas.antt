@@ -1,14 +1,13 @@
 -- `rename` by which a directory grows can be taken over: each directory that is told something is there, and so are both owners.
 use Rattle.fc_alloc.specs.Owners.{has_node, is_node}
 use Rattle.fc_alloc.specs.declared.owner.Owner.{Owner}
-use Rattle.fc_change.specs.After.{CanRegrowNode, CanTakeOver, CanTurnNode, CanTurnOwner, HasPlaceFor, owners_admitted}
-use Rattle.fc_change.specs.Needs.{is_copied}
+use Rattle.fc_change.specs.After.{CanRegrowNode, CanTakeOver, CanTurnNode, CanTurnOwner, owners_admitted}
 use Rattle.fc_change.specs.Owned.{owner_if}
 use Rattle.fc_change.specs.declared.change.Regrowth.{Regrowth}
 use Rattle.fc_change.specs.declared.change.Turned.{Turned}
 use Rattle.fc_course.proofs.GrownMoveMadeLemmas.{EditedRename, MadeEdit}
 use Rattle.fc_course.proofs.GrownMoveNodeLemmas as move_of
-use Rattle.fc_course.proofs.GrownMoveSaidLemmas.{it, k, l, layout, listed}
+use Rattle.fc_course.proofs.GrownMoveSaidLemmas.{it, l, layout, listed}
 use Rattle.fc_course.proofs.GrownMoveStageLemmas as stage
 use Rattle.fc_course.proofs.GrownMoveToldLemmas.{entry_now}
 use Rattle.fc_course.proofs.GrownMoveWalkLemmas as walk

@@ -1,14 +1,13 @@
 -- `rename` by which a directory grows: what its change tells, and whom. First the directory that grows, then those around it that are told
 -- nothing else, then the object itself if it is a directory, and last the directory that loses it.
 use Rattle.fc_change.specs.Directories.{Rewriting, TellAll, Tells, around, numbers}
-use Rattle.fc_change.specs.Drafts.{IsChangeOf, IsEntryOf, address_in, grown_in, told}
+use Rattle.fc_change.specs.Drafts.{IsChangeOf, address_in, grown_in, told}
 use Rattle.fc_change.specs.declared.change.Change.{Change}
 use Rattle.fc_change.specs.declared.change.Regrowth.{Regrowth}
 use Rattle.fc_change.specs.declared.change.Says.{Says}
 use Rattle.fc_change.specs.declared.change.Turned.TheVariants as turns
 use Rattle.fc_change.specs.declared.job.Job.TheVariants as jobs
 use Rattle.fc_change.specs.declared.spaces.GrownPlace.{GrownPlace}
-use Rattle.fc_course.proofs.GrownMoveWalkLemmas as walk
 use Rattle.fc_course.proofs.GrownMoveWantLemmas.{GrownRename}
 use Rattle.fc_course.proofs.GrownMoveWantLemmas as want
 use Rattle.fc_course.proofs.MoveTellLemmas.{own_told}

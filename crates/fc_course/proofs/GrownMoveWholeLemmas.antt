@@ -1,50 +1,38 @@
 -- `rename` within a directory that grows: its edit, with the growth, is made.
 use Rattle.fc_alloc.specs.declared.owner.Owner.{Owner}
-use Rattle.fc_change.specs.Directories.{Rewriting, Tells, is_holder, numbers}
 use Rattle.fc_change.specs.declared.change.Says.{Says}
-use Rattle.fc_course.proofs.GrownMoveAcrossLemmas as other_dir
-use Rattle.fc_course.proofs.GrownMoveCaseLemmas.{HoldsBoth}
-use Rattle.fc_course.proofs.GrownMoveEditLemmas.{AllSaidNow, IsSaidNow, KeepsBody, become, is_free}
-use Rattle.fc_course.proofs.GrownMoveFirstLemmas.{home_said, k_unlike, own_in, told_in}
+use Rattle.fc_course.proofs.GrownMoveEditLemmas.{AllSaidNow, become}
+use Rattle.fc_course.proofs.GrownMoveFirstLemmas.{own_in}
 use Rattle.fc_course.proofs.GrownMoveMadeLemmas.{MadeMove, none_made, up_in}
-use Rattle.fc_course.proofs.GrownMovePartLemmas.{IsGrownMove, PlainMove}
+use Rattle.fc_course.proofs.GrownMovePartLemmas.{IsGrownMove}
 use Rattle.fc_course.proofs.GrownMoveReadyLemmas.{PlainRename, about_cut, above_free, base, own_cut, pieces_are, plain_entry, told, whole, whole_home}
 use Rattle.fc_course.proofs.GrownMoveReadyLemmas as ready_of
-use Rattle.fc_course.proofs.GrownMoveSaidLemmas.{HomeSays, IsOwnGrown, anew, grown_numb, holder_numb, holding_says, home_numb, it, it_path, k, l, layout, listed, now, numb, numb_is, plain_says, regrown_name}
-use Rattle.fc_course.proofs.GrownMoveToldLemmas.{IsToldGrown, all_numbers, entry_now, home_told, last_told}
-use Rattle.fc_course.proofs.GrownMoveWalkLemmas as walk
+use Rattle.fc_course.proofs.GrownMoveSaidLemmas.{IsOwnGrown, grown_numb, it, k, l, layout}
 use Rattle.fc_course.proofs.GrownMoveWantLemmas.{GrownRename}
 use Rattle.fc_course.proofs.GrownMoveWantLemmas as want
 use Rattle.fc_course.proofs.GrownMoveWithinLemmas as same_dir
 use Rattle.fc_course.proofs.GrownSpaceLemmas.{growing_of}
-use Rattle.fc_course.proofs.GrownToldLemmas as of
 use Rattle.fc_course.proofs.MoveLemmas as seen_of
-use Rattle.fc_course.proofs.MoveTellLemmas.{own_told}
 use Rattle.fc_dirs.specs.Directory.{entries_of}
-use Rattle.fc_dirs.specs.Entries.{first_twin}
 use Rattle.fc_dirs.specs.declared.Entry.{Entry}
 use Rattle.fc_edits.proofs.lemmas.GrownMovingLemmas.{grown_moving_law}
-use Rattle.fc_edits.proofs.lemmas.ShapeLemmas.{none_flat, of_one, only}
+use Rattle.fc_edits.proofs.lemmas.ShapeLemmas.{none_flat, of_one}
 use Rattle.fc_edits.proofs.lemmas.TransferLemmas.{rename_law}
-use Rattle.fc_edits.specs.Edit.{Amended, Edit, owners_in, owners_joined, owners_left}
-use Rattle.fc_edits.specs.Growing.{Told}
+use Rattle.fc_edits.specs.Edit.{Amended, owners_in}
 use Rattle.fc_edits.specs.Moving.{Moves, Moving, edit, itself as amended_own, moved}
-use Rattle.fc_edits.specs.Transfer.{Transfer, from_it, renaming_of, to_it, transfer_of, within}
+use Rattle.fc_edits.specs.Transfer.{renaming_of, within}
 use Rattle.fc_image.proofs.CommandLemmas.{same_by_folds}
 use Rattle.fc_image.proofs.EntriesLemmas.{cases as contains_cases}
 use Rattle.fc_image.specs.Walk.{Listing, Object}
 use Rattle.fc_image.specs.effects.Steady.{edited, holds_named, is_renamed_by, with_made, without_name}
 use Rattle.fc_laws.proofs.lemmas.agree.RenamedLemmas.{moved_entry}
-use Rattle.fc_laws.proofs.lemmas.nodes.ListLemmas.{cut_at}
 use Rattle.fc_laws.specs.nodes.Edits.{owners_with}
 use Rattle.fc_model.specs.Command.{Command}
 use Rattle.fc_model.specs.Tree.{holder, last_name}
 use Rattle.fc_names.specs.Names.{is_same_path}
-use Rattle.fc_oldlaws.proofs.lemmas.moves.SayableLemmas.{twins_same}
 use Rattle.fc_outcomes.specs.Moving.{HasEntries}
 use Rattle.fc_tree.proofs.MemberLemmas.{from_map}
-use Rattle.fc_tree.proofs.SoundLemmas.{folds_alike, root_or_child, same_listing}
-use Rattle.fc_tree.specs.Nodes.{is_directory_node, number_of}
+use Rattle.fc_tree.proofs.SoundLemmas.{folds_alike}
 use Rattle.fc_writing.specs.declared.ready.Piece.{Piece}
 use Rattle.std.proofs.Common.{Bool, List, Some, [], ap, ap₂, cond, inl, inr, map, refl, subst, sym, true, ℕ, ⊎_elim, ◌++◌, ◌==◌, ◌||◌, ◌∙◌, ◌∷◌, ◌≡◌}
 use Rattle.std.proofs.lemmas.Bool.{or_right as or_second}
@@ -150,9 +138,7 @@ module _ (w : PlainRename) (here : w.q.r.holder ≡ w.q.r.target.holder) where
     };
     moves = its_moves;
     o_is = refl;
-    number_is = refl;
     name_is = refl;
     l_is = ap (λ (d : Listing). d.object) (sym (q.seen.known.within here).0);
-    entry = moved_entry (k q).object.path q.name (it q);
     entries = within_entries;
   }

@@ -1,13 +1,12 @@
 -- `rename` within a directory that grows by the longer name: its edit, with the growth as a part of it.
 use Rattle.fc_change.specs.Directories.{Rewriting, is_told, numbers}
-use Rattle.fc_course.proofs.GrownMoveEditLemmas.{AllSaidNow, IsPlainEdit, IsSaidNow, KeepsBody, become, is_free}
-use Rattle.fc_course.proofs.GrownMoveFirstLemmas.{first_said, in_told, own_in, own_said_now, told_in, untold_in}
+use Rattle.fc_course.proofs.GrownMoveEditLemmas.{AllSaidNow, IsPlainEdit, IsSaidNow, become}
+use Rattle.fc_course.proofs.GrownMoveFirstLemmas.{first_said, own_in, own_said_now, told_in, untold_in}
 use Rattle.fc_course.proofs.GrownMovePartLemmas.{IsGrownMove, PlainMove}
 use Rattle.fc_course.proofs.GrownMoveReadyLemmas.{PlainRename, about_cut, above_free, base, none_more, own_cut, plain_entry, told, whole}
 use Rattle.fc_course.proofs.GrownMoveReadyLemmas as ready_of
-use Rattle.fc_course.proofs.GrownMoveSaidLemmas.{FirstSays, IsOwnGrown, grown_numb, holder_numb, it, it_numb, k, l, layout, listed, not_in, now, numb, numb_is, own_grown, renamed_says, rewritten_own, sectors, unlike}
-use Rattle.fc_course.proofs.GrownMoveToldLemmas.{IsToldGrown, all_numbers, entry_now, home_told, last_told}
-use Rattle.fc_course.proofs.GrownMoveWalkLemmas as walk
+use Rattle.fc_course.proofs.GrownMoveSaidLemmas.{FirstSays, IsOwnGrown, grown_numb, holder_numb, it, it_numb, k, l, layout, not_in, now, numb, own_grown, renamed_says, rewritten_own, unlike}
+use Rattle.fc_course.proofs.GrownMoveToldLemmas.{IsToldGrown, all_numbers, entry_now, last_told}
 use Rattle.fc_course.proofs.GrownMoveWantLemmas.{GrownRename}
 use Rattle.fc_course.proofs.GrownMoveWantLemmas as want
 use Rattle.fc_course.proofs.GrownPieceLemmas.{IsGrownReady}
@@ -20,7 +19,7 @@ use Rattle.fc_dirs.specs.Directory.{Directory, entries_of}
 use Rattle.fc_dirs.specs.Entries.{entry_place}
 use Rattle.fc_dirs.specs.declared.Entry.{Entry}
 use Rattle.fc_drafts.specs.Draft.{directory_in}
-use Rattle.fc_drafts.specs.Rewriting.{HasMoved, HasRenamed}
+use Rattle.fc_drafts.specs.Rewriting.{HasRenamed}
 use Rattle.fc_edits.proofs.lemmas.ListLemmas.{map_map}
 use Rattle.fc_edits.proofs.lemmas.ShapeLemmas.{kids_unlike, none_flat, of_one}
 use Rattle.fc_edits.specs.Edit.{Amended, Edit}

@@ -17,7 +17,8 @@ use Rattle.fc_change.specs.declared.job.FileWords.{FileWords}
 use Rattle.fc_change.specs.declared.job.Job.{Job}
 use Rattle.fc_change.specs.declared.job.Job.TheVariants as jobs
 use Rattle.fc_holdings.specs.Holdings.{TellsVersion}
-use Rattle.fc_course.specs.Jobs.{HasLaws, IsJobFor, IsJudged, NoneGrows}
+use Rattle.fc_course.specs.Jobs.{HasLaws, IsJobFor, IsJudged}
+use Rattle.fc_course.proofs.RoomyLemmas.{NoneGrows}
 use Rattle.fc_course.specs.Laws.{JobLaws}
 use Rattle.fc_course.specs.Run.{IsMapOf}
 use Rattle.fc_course.proofs.ArrivalLemmas.{Arrival, IsShort, job_of}

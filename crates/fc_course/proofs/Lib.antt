@@ -1,3 +1,4 @@
+pub mod RoomyLemmas
 pub mod RowLemmas
 pub mod StepLemmas
 pub mod SpaceLemmas

@@ -46,7 +46,7 @@ use Rattle.fc_change.specs.Drafts.{told}
 use Rattle.fc_change.specs.Needs.{HasRoomOf, is_copied as is_copied_job, room_of}
 use Rattle.fc_change.specs.Prepared.{ArePiecesOf, IsGrownPiece, IsNewPiece, IsReadyFor, IsSourceOf, PiecesMatch}
 use Rattle.fc_course.specs.declared.stages.Prepared.{Prepared}
-use Rattle.fc_course.specs.Jobs.{NoneGrows}
+use Rattle.fc_course.proofs.RoomyLemmas.{NoneGrows}
 use Rattle.fc_course.specs.Stages.{IsPreparedFor}
 use Rattle.fc_course.proofs.EmptySpaceLemmas.{IsEmptySpace, WantsNoSpace, empty_space}
 use Rattle.fc_course.proofs.MoveAcrossLemmas as across

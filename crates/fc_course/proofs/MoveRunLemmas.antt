@@ -43,7 +43,7 @@ use Rattle.fc_change.specs.Needs.{AreWants, HasRoomOf, is_copied as is_copied_jo
 use Rattle.fc_change.specs.OldSpace.{LieBehind}
 use Rattle.fc_change.specs.Shortage.{shortage}
 use Rattle.fc_course.specs.declared.stages.Prepared.{Prepared}
-use Rattle.fc_course.specs.Jobs.{NoneGrows}
+use Rattle.fc_course.proofs.RoomyLemmas.{NoneGrows}
 use Rattle.fc_course.specs.Laws.{HasFront, JobLaws}
 use Rattle.fc_course.specs.Promises.{ChangesParts, WritesPlacesOf}
 use Rattle.fc_course.specs.Run.{IsMapIn, IsMapOf, IsRun, KeepsBehind}

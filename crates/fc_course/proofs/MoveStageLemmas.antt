@@ -7,12 +7,10 @@ use Rattle.std.proofs.lemmas.Bool.{eqb-true}
 use Rattle.std.proofs.lemmas.List.Elements.{Contains-append_cases}
 use Rattle.std.proofs.lemmas.Option.{slice_get_within}
 use Rattle.fc_names.specs.Names.{Path, is_writable}
-use Rattle.fc_names.specs.declared.refusal.Refusal.{Refusal}
-use Rattle.fc_names.specs.declared.refusal.Refusal.TheVariants as refusals
 use Rattle.fc_record.specs.declared.Kind.{Kind}
 use Rattle.fc_oldmap.specs.OldMap.{OldMapContent}
 use Rattle.fc_newmap.specs.Map.{Map}
-use Rattle.fc_model.specs.Answer.{first_of, is_root, reasons, when}
+use Rattle.fc_model.specs.Answer.{first_of, is_root, reasons}
 use Rattle.fc_model.specs.Command.{Command}
 use Rattle.fc_model.specs.Tree.{last_name}
 use Rattle.fc_dirs.specs.declared.Entry.{Entry}
@@ -50,7 +48,8 @@ use Rattle.fc_change.specs.Needs.{AreWants, CanWant, is_copied, len_at}
 use Rattle.fc_change.specs.OldSpace.{LieBehind}
 use Rattle.fc_change.specs.Places.{ArePlacesFor, ArePlacesOn, CanPlace, IsOldPlaced, IsPlaceFor}
 use Rattle.fc_change.specs.Prepared.{CanPrepare, HasPlace}
-use Rattle.fc_course.specs.Jobs.{NoneGrows, IsJobFor}
+use Rattle.fc_course.specs.Jobs.{IsJobFor}
+use Rattle.fc_course.proofs.RoomyLemmas.{NoneGrows}
 use Rattle.fc_course.specs.Stages.{CanPrepareJob, IsSpaced}
 use Rattle.fc_course.specs.Run.{IsMapIn}
 use Rattle.fc_course.proofs.EmptySpaceLemmas.{WantsNoSpace, empty_space, none_grown}

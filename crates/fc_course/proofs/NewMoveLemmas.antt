@@ -49,7 +49,7 @@ use Rattle.fc_change.specs.Places.{AreLeft, ArePlaced, plan_in}
 use Rattle.fc_change.specs.Shortage.{is_grown_alone}
 use Rattle.fc_change.specs.Steps.{IsStep}
 use Rattle.fc_course.specs.declared.stages.Prepared.{Prepared}
-use Rattle.fc_course.specs.Jobs.{NoneGrows}
+use Rattle.fc_course.proofs.RoomyLemmas.{NoneGrows}
 use Rattle.fc_course.specs.Promises.{WritesPlaces}
 use Rattle.fc_course.specs.Stages.{IsPreparedFor}
 use Rattle.fc_course.proofs.EmptySpaceLemmas.{IsEmptySpace, WantsNoSpace, none_planned, placed_nowhere, takes_none}

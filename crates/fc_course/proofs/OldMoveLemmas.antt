@@ -41,7 +41,7 @@ use Rattle.fc_change.specs.Needs.{is_copied as is_copied_job}
 use Rattle.fc_change.specs.OldSpace.{map_given, map_taken}
 use Rattle.fc_change.specs.Places.{ArePlacedOld, IsOldStep}
 use Rattle.fc_course.specs.declared.stages.Prepared.{Prepared}
-use Rattle.fc_course.specs.Jobs.{NoneGrows}
+use Rattle.fc_course.proofs.RoomyLemmas.{NoneGrows}
 use Rattle.fc_course.specs.Promises.{WritesPlaces}
 use Rattle.fc_course.specs.Stages.{IsPreparedFor}
 use Rattle.fc_course.specs.Written.{map_after}

@@ -12,8 +12,7 @@ use Rattle.fc_image.specs.Opening.{Opened}
 use Rattle.fc_image.specs.Sound.{AreSound}
 use Rattle.fc_tree.specs.Parts.{ArePartsOf, Parts}
 use Rattle.fc_change.specs.Jobs.{IsJob}
-use Rattle.fc_change.specs.Needs.{AreWants, len_at}
-use Rattle.fc_change.specs.declared.job.Wants.{Wants}
+use Rattle.fc_change.specs.Needs.{len_at}
 use Rattle.fc_change.specs.declared.job.Job.{Job}
 use Rattle.fc_change.specs.declared.job.Job.TheVariants as jobs
 
@@ -36,10 +35,6 @@ abbrev pub FitAttributes : NameForm → ℕ → Type 0
 FitAttributes forms.Seven attrs = attrs < attrs_limit Bytes1280
 FitAttributes forms.Ten attrs = attrs < attrs_limit Bytes2048
 FitAttributes forms.Long attrs = Unit {0}
-
--- By what it wants no directory has to grow.
-abbrev pub NoneGrows : Parts → Job → List ℕ → Type 0
-NoneGrows h job name = (w : Wants) → AreWants h job name w → w.grows ≡ None
 
 -- The laws of these jobs stand, if an entry can hold the access bits, the attributes and the length that they give.
 abbrev pub HasLaws : Parts → Job → List ℕ → Type 0

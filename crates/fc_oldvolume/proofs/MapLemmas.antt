@@ -39,7 +39,8 @@ use Rattle.fc_change.specs.declared.job.Job.TheVariants as jobs
 use Rattle.fc_change.specs.Jobs.{IsJob}
 use Rattle.fc_change.specs.Needs.{AreWants, copied_on, is_copied}
 use Rattle.fc_change.specs.OldSpace.{units_given, units_of}
-use Rattle.fc_course.specs.Jobs.{IsJobFor, NoneGrows}
+use Rattle.fc_course.specs.Jobs.{IsJobFor}
+use Rattle.fc_course.proofs.RoomyLemmas.{NoneGrows}
 use Rattle.fc_course.specs.Promises.{IsUnderWay, SameMap}
 use Rattle.fc_course.specs.Run.{IsMapIn}
 use Rattle.fc_course.proofs.MoveStageLemmas.{renamer, wants_none}
