@@ -21,9 +21,6 @@ use Rattle.fc_safe.specs.Extents.{stretch_left}
 pub one_row : (old new : List Extent) (row : Extent) → new ≡ old ++ row ∷ [] → sectors_in new ≡ sectors_in old ++ extent_sectors row
 one_row old new row e = ap sectors_in e ∙ flat_map-append extent_sectors old (row ∷ []) ∙ ap (λ (xs : List ℕ). sectors_in old ++ xs) (append-nil (extent_sectors row))
 
-pub no_row : (old : List Extent) (row : Extent) → row.sectors ≡ 0 → sectors_in old ≡ sectors_in old ++ extent_sectors row
-no_row old row e = sym (ap (λ (n : ℕ). sectors_in old ++ range_with_len row.first n) e ∙ append-nil (sectors_in old))
-
 pub row_taken : (old new : List ℕ) (row : Extent) (wanted : Stretch) (passed kept : ℕ) → passed ≡ min wanted.skip row.sectors → kept ≡ min wanted.need (row.sectors - passed)
     → new ≡ old ++ range_with_len (row.first + passed) kept → new ≡ old ++ take wanted.need (drop wanted.skip (extent_sectors row))
 row_taken old new row wanted passed kept p k e = e ∙ ap (λ (xs : List ℕ). old ++ xs) (part_sectors row.first row.sectors wanted.skip wanted.need passed kept p k)

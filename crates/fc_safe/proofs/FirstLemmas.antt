@@ -53,18 +53,6 @@ use Rattle.fc_safe.proofs.ZoneLemmas.{in_range}
 
 -- ---- the first plan
 
--- An object that has bytes has the first.
-pub some_plan : (m : Map) (bytes : ℕ) (rest : List Need) (plans : List Plan) → AreMet m (own_need bytes ++ rest) plans → 0 < bytes → 0 < length plans
-some_plan m bytes rest plans met some = by (bytes == 0) refl met.ids
-  where
-    long : (need : Need) (needs : List Need) (ps : List Plan) → HaveIds (new_ids m) (need ∷ needs) ps met.left → 0 < length ps
-    long need needs [] have = absurd have
-    long need needs (p ∷ ps) have = omega arith
-
-    by : (b : Bool) → (bytes == 0) ≡ b → HaveIds (new_ids m) (cond b [] ((let n : Need = record { id = None; bytes = bytes } in n) ∷ []) ++ rest) plans met.left → 0 < length plans
-    by true e have = absurd (let none = eqb-true bytes 0 e in omega (arith, none, some))
-    by false e have = long (record { id = None; bytes = bytes }) rest plans have
-
 -- Its identifier is a new one.
 first_new : (m : Map) (bytes : ℕ) (rest : List Need) (plans : List Plan) (plan : Plan) → AreMet m (own_need bytes ++ rest) plans → 0 < bytes → IsFirstOf plans plan → Contains (new_ids m) plan.id
 first_new m bytes rest plans plan met some first = by (bytes == 0) refl met.ids

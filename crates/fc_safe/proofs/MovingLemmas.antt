@@ -55,14 +55,6 @@ paired_more (id ∷ ids) (e ∷ ends) (suc i) low long =
     ap (λ (n : ℕ). paired_needs (take n (id ∷ ids)) (take n (e ∷ ends))) (let e : suc i + 1 ≡ suc (i + 1) = omega arith in e)
     ∙ ap (λ (ns : List Need). (let n : Need = record { id = Some id; bytes = e } in n) ∷ ns) (paired_more ids ends i (omega (arith, low)) (omega (arith, long)))
 
-pub paired_all : (ids ends : List ℕ) (i : ℕ) → length ids ≤ i → length ends ≡ length ids → paired_needs (take i ids) (take i ends) ≡ paired_needs ids ends
-paired_all [] [] zero low long = refl
-paired_all [] [] (suc i) low long = refl
-paired_all [] (e ∷ ends) i low long = absurd (omega (arith, long))
-paired_all (id ∷ ids) [] i low long = absurd (omega (arith, long))
-paired_all (id ∷ ids) (e ∷ ends) zero low long = absurd (omega (arith, low))
-paired_all (id ∷ ids) (e ∷ ends) (suc i) low long = ap (λ (ns : List Need). (let n : Need = record { id = Some id; bytes = e } in n) ∷ ns) (paired_all ids ends i (omega (arith, low)) (omega (arith, long)))
-
 pub paired_map : (f : ℕ → ℕ) (ids : List ℕ) → paired_needs ids (map f ids) ≡ map (λ (id : ℕ). let n : Need = record { id = Some id; bytes = f id } in n) ids
 paired_map f [] = refl
 paired_map f (id ∷ ids) = ap (λ (ns : List Need). (let n : Need = record { id = Some id; bytes = f id } in n) ∷ ns) (paired_map f ids)

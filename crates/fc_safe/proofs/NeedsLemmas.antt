@@ -73,10 +73,6 @@ met_more m bits needs holes done parts all before fit =
     push None xs e = refl
     push (Some others) xs e = ap (λ (ps : List (List Part)). Some ps) (ap (λ (p : List Part). done ++ p ∷ map (map part_of) others) e ∙ sym (append_assoc done (parts ∷ []) (map (map part_of) others)))
 
-none_met : (all : Option (List (List Part))) → all ≡ option_map (λ (others : List (List Part)). [] ++ others) all
-none_met None = refl
-none_met (Some x) = refl
-
 pub drop_next : (xs : List Need) (i : ℕ) (d : Need) → i < length xs → drop i xs ≡ get_or xs i d ∷ drop (i + 1) xs
 drop_next [] i d low = absurd (omega (arith, low))
 drop_next (x ∷ xs) zero d low = refl
@@ -141,9 +137,6 @@ pub record AreMetSoFar (m : Map) (needs : List Need) (i : ℕ) (plans : List Pla
   pub met : fits_left m needs (hole_runs m) ≡ option_map (λ (others : List (List Part)). items_of plans ++ others) (fits_left m (drop i needs) left.holes)
   pub ids : HaveIds (new_ids m) (take i needs) plans left.ids
   pub enough : count_by is_new (drop i needs) ≤ length left.ids
-
-pub set_off : (m : Map) (needs : List Need) (s : Stock) → s ≡ record { geometry = m.geometry; holes = hole_runs m; ids = new_ids m } → count_by is_new needs ≤ length (new_ids m) → AreMetSoFar m needs 0 [] s
-set_off m needs s is enough = subst (λ (x : Stock). AreMetSoFar m needs 0 [] x) (sym is) (record { geometry = refl; met = none_met (fits_left m needs (hole_runs m)); ids = refl; enough = enough })
 
 module _ (m : Map) (needs : List Need) (i : ℕ) (d : Need) (plans : List Plan) (s : Stock) (low : i < length needs) (before : AreMetSoFar m needs i plans s) where
   abbrev n : Need

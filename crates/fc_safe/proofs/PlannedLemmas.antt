@@ -184,9 +184,6 @@ module _ (m : Map) (of : IsOfRecord m.geometry) (h : Parts) (job : Job) (w : Wan
 
 -- ---- refusals
 
-pub ids_full : (m : Map) (needs : List Need) (n : ℕ) → count_by is_new needs ≡ n → nat_le n (length (new_ids m)) ≡ false → short_of_needs m needs ≡ Some (SafeRefusal.Refused refusals.IdsFull)
-ids_full m needs n e few = ap (λ (b : Bool). cond b (full_for m (bits_of m.geometry needs)) (Some (SafeRefusal.Refused refusals.IdsFull))) (ap (λ (k : ℕ). nat_le k (length (new_ids m))) e ∙ few)
-
 pub ids_enough : (m : Map) (needs : List Need) (n : ℕ) → count_by is_new needs ≡ n → nat_le n (length (new_ids m)) ≡ true → short_of_needs m needs ≡ full_for m (bits_of m.geometry needs)
 ids_enough m needs n e enough = ap (λ (b : Bool). cond b (full_for m (bits_of m.geometry needs)) (Some (SafeRefusal.Refused refusals.IdsFull))) (ap (λ (k : ℕ). nat_le k (length (new_ids m))) e ∙ enough)
 

@@ -190,19 +190,3 @@ raised_there g moving ids o old new place rising low here stays now others k bel
       ap (λ (b : Bool). b && not (is_one_of moving.leaving.items o.node)) (ne_eqb o.id (get_or ids k 0) (λ e. apart (one_place ids k place rising below low (sym e ∙ sym here)))) in
       others k apart ∙ ap (λ (b : Bool). cond b (max (get_or old k 0) (end_then g moving.longer o)) (get_or old k 0)) (sym other))
 ]
-
--- and if it leaves, or its identifier isn't one of them
-pub raised_nowhere : (g : Geometry) (moving : Moving) (ids : List ℕ) (o : Owner) (old : List ℕ) → ((k : ℕ) → k < length ids → remains moving.leaving.items (get_or ids k 0) o ≡ false) → AreRaised g moving ids o old old
-raised_nowhere g moving ids o old none k low = ap (λ (b : Bool). cond b (max (get_or old k 0) (end_then g moving.longer o)) (get_or old k 0)) (sym (none k low))
-
-pub leaves_all : (leaving : List ℕ) (o : Owner) (id : ℕ) → is_one_of leaving o.node ≡ true → remains leaving id o ≡ false
-leaves_all leaving o id h = by (o.id == id)
-  where
-    by : (b : Bool) → (b && not (is_one_of leaving o.node)) ≡ false
-    by true = ap not h
-    by false = refl
-
-pub not_among : (leaving ids : List ℕ) (o : Owner) (k : ℕ) → is_one_of ids o.id ≡ false → k < length ids → remains leaving (get_or ids k 0) o ≡ false
-not_among leaving ids o k none low =
-    ap (λ (b : Bool). b && not (is_one_of leaving o.node))
-    (ne_eqb o.id (get_or ids k 0) (λ e. (let bad : true ≡ false = sym (one_of ids o.id (subst (λ (n : ℕ). Contains ids n) (sym e) (Contains-get_or ids k 0 low))) ∙ none in cc)))

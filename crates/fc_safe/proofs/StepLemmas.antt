@@ -144,9 +144,3 @@ spread_few n e = by (nat_lt 9 n) refl e
     by : (b : Bool) → nat_lt 9 n ≡ b → (let o : Option SafeRefusal = cond b (Some (SafeRefusal.Spread n)) None in o) ≡ None → n ≤ 9
     by true t f = absurd (cc)
     by false t f = ltb-false 9 n t
-
-pub few_spread : (n : ℕ) → nat_lt 9 n ≡ false → spread_or n ≡ None
-few_spread n few = ap (λ (b : Bool). let o : Option SafeRefusal = cond b (Some (SafeRefusal.Spread n)) None in o) few
-
-pub more_spread : (n : ℕ) → nat_lt 9 n ≡ true → spread_or n ≡ Some (SafeRefusal.Spread n)
-more_spread n more = ap (λ (b : Bool). let o : Option SafeRefusal = cond b (Some (SafeRefusal.Spread n)) None in o) more

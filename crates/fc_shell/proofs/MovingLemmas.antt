@@ -82,20 +82,7 @@ caused_moved d k h old new before after host r caused = record {
   host = λ is. absurd (no_host r is);
 }
 
--- a file was copied, and then a reply was written
-pub caused_told : {D K H : Type 0} (d : Ghosts D) (k : Sinks K) (h : Hosts H) (old new : D) (before after : K) (host left : H) (r : Result Bool LineFault) → h.faults host ≤ h.faults left
-    → OnlyTells k before after r → AreCaused d k h old new before after host left (moved_result r)
-caused_told d k h old new before after host left r later only = record {
-  later = only.later;
-  host_later = later;
-  disk = λ is. absurd (only.no_disk (disk_line r is));
-  out = λ is. only.out (out_line r is);
-  host = λ is. absurd (no_host r is);
 }
-
--- nothing was asked
-pub asks_none : (old : List Asked) → old ≡ old ++ []
-asks_none old = sym (append-nil old)
 
 -- ---- lines that leave the disk
 
