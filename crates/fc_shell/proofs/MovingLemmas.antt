@@ -82,8 +82,6 @@ caused_moved d k h old new before after host r caused = record {
   host = λ is. absurd (no_host r is);
 }
 
-}
-
 -- ---- lines that leave the disk
 
 module _ {D : Type 0} {d : Ghosts D} (law : Laws d) (kind : Kind) (v : Volume) (s : State) (line : Result HostLine Refusal) (old new : D) (before after : Option (List ℕ))
