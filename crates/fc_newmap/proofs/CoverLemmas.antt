@@ -234,7 +234,6 @@ order_Distinct g id =
 
 same_runs : (m m' : Map) (z : ℕ) (zones : List ℕ) → is_in zones z ≡ false → ((y : ℕ) → is_in zones y ≡ true → (y ≡ z → ⊥) → runs_of m' y ≡ runs_of m y) → runs_in m' zones ≡ runs_in m zones
 same_runs m m' z [] out same = refl
-
 same_runs m m' z (x ∷ zones) out same = by (x == z) refl out (λ g. same_runs m m' z zones g (λ y i. same y (in_back (x ∷ []) zones y i)))
   where
     by : (b : Bool) → (x == z) ≡ b → (b || is_in zones z) ≡ false → (is_in zones z ≡ false → runs_in m' zones ≡ runs_in m zones) → runs_in m' (x ∷ zones) ≡ runs_in m (x ∷ zones)
