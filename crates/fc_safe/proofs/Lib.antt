@@ -1,0 +1,9 @@
+pub mod ExtentLemmas
+pub mod GoneLemmas
+pub mod HoleLemmas
+pub mod ListLemmas
+pub mod MovingLemmas
+pub mod NeedsLemmas
+pub mod SetLemmas
+pub mod StayingLemmas
+pub mod ZoneLemmas

@@ -1,0 +1,23 @@
+//! The safe mode's places: what a command needs of space if each directory that it changes is written anew, where first fit finds it, and
+//! what goes back.
+#![tactic(auto)]
+
+mod changed;
+mod error;
+mod extents;
+mod gone;
+mod lists;
+mod moving;
+mod needs;
+mod sets;
+mod staying;
+mod zones;
+
+pub use changed::changed_nodes;
+pub use error::SafeError;
+pub use extents::{Stretch, extents_at};
+pub use gone::gone_ids;
+pub use moving::{Moved, moved_of, moving_of, needs_of};
+pub use needs::{Need, plan_needs};
+pub use staying::{Longer, Moving};
+pub use zones::zones_of;
