@@ -86,3 +86,8 @@ module _ (kind : Kind) (space : OldMapContent) (nodes : Nodes) (owners : List Ow
         once = written_bytes_law.apart space o agreed.is_map lies.placed;
         beside = apart_front o.sectors (map_place (Layout.Old space)) (hole_sectors (Layout.Old space)) lies.apart;
       }
+
+-- by its place
+pub spot : (space : OldMapContent) (w : Wants) (place : Place) (o : Object) → o.entry.address ≡ place.address → IsOldAt space w place → IsFileAt space w.bytes o
+spot space w place o same at =
+    ⊎_elim (λ fits. inl (fits.0, fits.1 ∙ ap (λ (a : ℕ). let r : Option ℕ = Some a in r) (sym same))) (λ none. inr (none.0, same ∙ none.1)) at.address

@@ -22,3 +22,19 @@ use Rattle.fc_course.proofs.ArrivalPartsLemmas.{IsAlike}
 use Rattle.fc_course.proofs.OverOwnersLemmas.{can_turn}
 use Rattle.fc_course.proofs.OverStageLemmas.{IsOverChange, turns_it}
 use Rattle.fc_course.proofs.TargetLemmas as target_of
+
+-- The nodes are there, and there is memory for its owner.
+pub can_take : (layout layout' : Layout) (nodes : Nodes) (listings : List Listing) (owners : List Owner) (path : Path) (t : Target) (words : FileWords) (address number room : ℕ) (c : Change) (sound : AreSound layout listings)
+    (held : HoldObjects nodes listings) (file : IsFile nodes listings path t) → IsAlike layout layout' → IsOverChange nodes t words address c
+    → CanTakeOver layout' nodes (owners_admitted layout c.object number owners) room c
+can_take layout layout' nodes listings owners path t words address number room c sound held file alike ch =
+    let e = saved_entry file.target.object.entry words.load words.exec words.len address in
+    let turned = turns_it layout nodes listings sound held path t file words address c ch in
+    record {
+      says = λ s at.
+          subst (λ (n : ℕ). IsSome (get nodes n)) (sym ch.tells.number ∙ ap (λ (y : Says). y.node) (only ch.said s (subst (λ (ss : List Says). Contains ss s) ch.says at)))
+          (target_of.has_dir layout nodes listings sound held path t file.target);
+      object = subst (CanTurnNode nodes room) (sym turned) (target_of.has_node layout nodes listings sound held path t file.target);
+      owner = subst (λ (x : Turned). CanTurnOwner layout' (owners_admitted layout x number owners) x) (sym turned) (can_turn layout layout' alike owners t.node t.holder e);
+      grown = subst (CanRegrowNode nodes (owners_admitted layout c.object number owners)) (sym ch.none) tt;
+    }

@@ -145,3 +145,10 @@ module _ (layout : Layout) (nodes : Nodes) (listings : List Listing) (sound : Ar
       let own = owner_law nodes layout listings l t.at o t.holder t.node (record { sound = sound; held = held }) (record { listed = target.listed; at = target.at; dir_is = target.holder_is; number_is = target.node_is }) in
       let found = owner_is layout nodes listings owners o t.node sound held owned target.node_is (target_of.among layout nodes listings sound held path t target) ∙ ap (λ (w : Owner). cond (has_sectors o) (Some w) None) own in
       owners_left (has_sectors o) t.node owners owners' (owner_with layout t.holder t.node o) found goes.gone goes.none
+
+-- The owners that are taken over are those without the one of the object that goes.
+pub owners_after : (layout : Layout) (nodes : Nodes) (c : Change) (n : ℕ) (owners owners' : List Owner) → c.grown ≡ None → c.object ≡ turns.Goes n → AreOwnersAfter layout nodes c owners owners'
+    → HasNoOwner n owners owners'
+owners_after layout nodes c n owners owners' none goes after =
+    let middle : after.middle ≡ owners = subst (λ (g : Option Regrowth). IsRegrownOwner layout nodes g owners after.middle) none after.grown in
+    subst (λ (ws : List Owner). HasNoOwner n ws owners') middle (subst (λ (x : Turned). IsTurnedOwner layout x after.middle owners') goes after.object)

@@ -209,3 +209,20 @@ module _ (law : EntriesLaw) (kind : Kind) (m : Map) (nodes : Nodes) (owners : Li
         ∙ ap₂ (λ (a r : Bool). short_of m 0 a (if r then 0 else len))
         (alone_is m nodes owners view.listings x.object n is_node has_some ∙ ap (λ (e : Entry). is_alone_by owners n e.address) x_entry)
         (room_is m nodes owners view.listings x.object n is_node len some ∙ ap (λ (e : Entry). has_room_by m owners n e.address len) x_entry)
+
+-- ---- the directory that gets the name
+
+pub gets_name : (kind : Kind) (m : Map) (nodes : Nodes) (owners : List Owner) (root : Node) (listings : List Listing) → EntriesLaw → AgreeOn kind m nodes owners root listings → (from to : Path) (rn : Renaming)
+    → IsRenaming nodes listings from to rn → CanGetName nodes rn
+gets_name kind m nodes owners root listings law agree from to rn known =
+    let is_sound = sound kind m nodes owners root listings agree in
+    let y = known.destination.listing in
+    record {
+      node = target_of.node nodes (Layout.New m) listings is_sound agree.walked.held y known.destination.listed rn.holder known.destination.holder_is;
+      content = y.content;
+      there = target_of.there nodes (Layout.New m) listings is_sound agree.walked.held y known.destination.listed rn.holder known.destination.holder_is;
+      says = target_of.says nodes (Layout.New m) listings is_sound agree.walked.held y known.destination.listed rn.holder known.destination.holder_is;
+      entry = λ same. subst (λ (x : Listing). rn.target.at < length (entries_of x.content)) (sym (known.within same).0)
+          (slice_get_within (entries_of known.target.listing.content) rn.target.at known.target.object.entry
+          (target_of.child_entry (Layout.New m) listings known.target.listing rn.target.at known.target.object law is_sound known.target.listed known.target.at));
+    }

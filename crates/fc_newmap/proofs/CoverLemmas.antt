@@ -231,3 +231,44 @@ order_Distinct g id =
     let home = home_zone g id in
     Distinct-append (range_with_len home (g.zones - home)) (range_with_len 0 home) (Distinct-range home (g.zones - home)) (Distinct-range 0 home)
     (λ s i j. let a = range_in home (g.zones - home) s i in let b = range_in 0 home s j in omega (arith, a.0, b.1))
+
+same_runs : (m m' : Map) (z : ℕ) (zones : List ℕ) → is_in zones z ≡ false → ((y : ℕ) → is_in zones y ≡ true → (y ≡ z → ⊥) → runs_of m' y ≡ runs_of m y) → runs_in m' zones ≡ runs_in m zones
+same_runs m m' z [] out same = refl
+
+same_runs m m' z (x ∷ zones) out same = by (x == z) refl out (λ g. same_runs m m' z zones g (λ y i. same y (in_back (x ∷ []) zones y i)))
+  where
+    by : (b : Bool) → (x == z) ≡ b → (b || is_in zones z) ≡ false → (is_in zones z ≡ false → runs_in m' zones ≡ runs_in m zones) → runs_in m' (x ∷ zones) ≡ runs_in m (x ∷ zones)
+    by true h g more = absurd (cc)
+    by false h g more =
+        ap₂ (λ (xs ys : List ZoneRun). xs ++ ys) (ap (placed x) (same x (ap (λ b. b || is_in zones x) (eq-eqb x x refl)) (eqb-false x z h))) (more g)
+
+parts_of_id : (m : Map) (g : Geometry) (t : ZoneRun → Bool) (z : ℕ) (front rest : List ℕ)
+    → sectors_of g (filter t (runs_in m (front ++ z ∷ rest)))
+    ≡ sectors_of g (filter t (runs_in m front)) ++ (sectors_of g (filter t (placed z (runs_of m z))) ++ sectors_of g (filter t (runs_in m rest)))
+parts_of_id m g t z front rest =
+    ap (λ (ps : List ZoneRun). sectors_of g (filter t ps)) (flat_map-append (λ y. placed y (runs_of m y)) front (z ∷ rest))
+    ∙ ap (sectors_of g) (filter-append t (runs_in m front) (placed z (runs_of m z) ++ runs_in m rest))
+    ∙ flat_map-append (run_sectors g) (filter t (runs_in m front)) (filter t (placed z (runs_of m z) ++ runs_in m rest))
+    ∙ ap (λ (xs : List ℕ). sectors_of g (filter t (runs_in m front)) ++ xs)
+    (ap (sectors_of g) (filter-append t (placed z (runs_of m z)) (runs_in m rest)) ∙ flat_map-append (run_sectors g) (filter t (placed z (runs_of m z))) (filter t (runs_in m rest)))
+
+pub one_zone : (m m' : Map) (z id : ℕ) → m'.geometry ≡ m.geometry → 1 ≤ m.geometry.zones → z < m.geometry.zones
+    → ((y : ℕ) → y < m.geometry.zones → (y ≡ z → ⊥) → runs_of m' y ≡ runs_of m y)
+    → (front rest : List ℕ)
+    × (sectors_of m.geometry (id_runs m id) ≡ front ++ (sectors_of m.geometry (filter (λ p. has_id id p.1.kind) (placed z (runs_of m z))) ++ rest))
+    × (sectors_of m.geometry (id_runs m' id) ≡ front ++ (sectors_of m.geometry (filter (λ p. has_id id p.1.kind) (placed z (runs_of m' z))) ++ rest))
+one_zone m m' z id e some low same =
+    let g = m.geometry in
+    let t : ZoneRun → Bool = λ p. has_id id p.1.kind in
+    let order = search_order g id in
+    let cut = split_once order z (order_Distinct g id) (in_order_of g id z some low) in
+    let in_cut : (y : ℕ) → is_in (cut.0 ++ z ∷ cut.1) y ≡ true → y < g.zones = λ y i. order_in g id y some (subst (λ (ys : List ℕ). is_in ys y ≡ true) (sym cut.2) i) in
+    let first : runs_in m' cut.0 ≡ runs_in m cut.0 = same_runs m m' z cut.0 cut.3 (λ y i n. same y (in_cut y (in_front cut.0 (z ∷ cut.1) y i)) n) in
+    let last : runs_in m' cut.1 ≡ runs_in m cut.1 = same_runs m m' z cut.1 cut.4 (λ y i n. same y (in_cut y (in_back cut.0 (z ∷ cut.1) y (in_back (z ∷ []) cut.1 y i))) n) in
+    let old : sectors_of g (id_runs m id) ≡ sectors_of g (filter t (runs_in m cut.0)) ++ (sectors_of g (filter t (placed z (runs_of m z))) ++ sectors_of g (filter t (runs_in m cut.1))) =
+    ap (λ (zs : List ℕ). sectors_of g (filter t (runs_in m zs))) cut.2 ∙ parts_of_id m g t z cut.0 cut.1 in
+    let new : sectors_of g (id_runs m' id) ≡ sectors_of g (filter t (runs_in m cut.0)) ++ (sectors_of g (filter t (placed z (runs_of m' z))) ++ sectors_of g (filter t (runs_in m cut.1))) =
+    ap (λ (h : Geometry). sectors_of g (filter t (runs_in m' (search_order h id)))) e
+    ∙ ap (λ (zs : List ℕ). sectors_of g (filter t (runs_in m' zs))) cut.2 ∙ parts_of_id m' g t z cut.0 cut.1
+    ∙ ap₂ (λ (ps qs : List ZoneRun). sectors_of g (filter t ps) ++ (sectors_of g (filter t (placed z (runs_of m' z))) ++ sectors_of g (filter t qs))) first last in
+    (sectors_of g (filter t (runs_in m cut.0)), sectors_of g (filter t (runs_in m cut.1)), old, new)

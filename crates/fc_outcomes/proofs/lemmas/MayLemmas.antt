@@ -67,3 +67,45 @@ module _ (x : OldAddition) (c : Command) (path : Path) (image : List ℕ) (opens
       (old_places_law.directory x.kind image (old_view x) x.space c x.c.l before (memory.l_in x.nodes (Layout.Old x.space) x.listings x.c (memory.old_held x) x.addition)
       (may_rewrite x.nodes (Layout.Old x.space) x.listings x.c x.addition (old_view x) c path holds same)) own in
       (may, old_places_law.spared x.kind image (old_view x) x.space c (x.c.l.object.sectors ++ x.c.o.sectors) before may)
+
+-- a new directory's size
+new_size : (layout layout' : Layout) (path : Path) (a : Addition) (d : Listing) → dir_form layout' ≡ dir_form layout → IsItsDirectory path layout a d → object_size (dir_form layout') a.o.entry ≡ new_dir_size (dir_form layout)
+new_size layout layout' path a d form is =
+    ap (λ (b : Bool). cond b (directory_size (dir_form layout') a.o.entry.len) a.o.entry.len) (ap is_directory is.attrs)
+    ∙ ap₂ (λ (f : NameForm) (k : ℕ). directory_size f k) form is.len ∙ size_of_new (dir_form layout)
+
+pub new_may_file : (x : NewAddition) (c : Command) (path : Path) (load exec : ℕ) (bytes stored image : List ℕ) → OpensAs image x.kind (new_view x) → Joins c path (Layout.New x.m) x.listings x.c bytes stored
+    → IsItsFile c path load exec x.c stored → IsFileAt x.m (objects_of x.listings) (holder path) (length stored) x.id x.parts x.c.o
+    → MayBeWritten x.kind (new_view x) x.m c (x.c.l.object.sectors ++ x.c.o.sectors)
+new_may_file x c path load exec bytes stored image opens joins f place =
+    let holds = (makes_file (new_view x) c path load exec stored (over_it x.c) joins.stood f.makes).holds x.c.l.object.path in
+    both_new x c path image opens holds joins.path_is
+    (places_law.file x.kind image (new_view x) x.m x.m' c (holder path) (length stored) x.id x.parts x.gone x.c.o x.stay (record { opens = opens; layout = refl })
+    (new_object x c path image opens holds joins.path_is (length stored) (ap (λ (f' : NameForm). object_size f' x.c.o.entry) (form x c path image opens holds joins.path_is) ∙ sym joins.stored_long)) place)
+
+pub new_may_directory : (x : NewAddition) (path : Path) (d : Listing) (bytes stored image : List ℕ) → OpensAs image x.kind (new_view x)
+    → Joins (Command.Cdir path) path (Layout.New x.m) x.listings x.c bytes stored → IsItsDirectory path (Layout.New x.m) x.c d
+    → IsInNewSpace x.m (new_dir_size (dir_form (Layout.New x.m))) 0 x.id x.parts x.c.o → MayBeWritten x.kind (new_view x) x.m (Command.Cdir path) (x.c.l.object.sectors ++ x.c.o.sectors)
+new_may_directory x path d bytes stored image opens joins is place =
+    both_new x (Command.Cdir path) path image opens refl joins.path_is
+    (places_law.new_directory x.kind image (new_view x) x.m x.m' (Command.Cdir path) (new_dir_size (dir_form (Layout.New x.m))) 0 x.id x.parts x.gone x.c.o x.stay (omega arith)
+    (record { opens = opens; layout = refl })
+    (new_object x (Command.Cdir path) path image opens refl joins.path_is (new_dir_size (dir_form (Layout.New x.m)))
+    (new_size (Layout.New x.m) (Layout.New x.m') path x.c d (form x (Command.Cdir path) path image opens refl joins.path_is) is)) place)
+
+pub old_may_file : (x : OldAddition) (c : Command) (path : Path) (load exec : ℕ) (bytes stored image : List ℕ) → OpensAs image x.kind (old_view x) → Joins c path (Layout.Old x.space) x.listings x.c bytes stored
+    → IsItsFile c path load exec x.c stored → IsOldFileAt x.space (length stored) x.c.o → OldMayBeWritten (old_view x) x.space c (x.c.l.object.sectors ++ x.c.o.sectors)
+    × AreSpared (old_view x) x.space c (x.c.l.object.sectors ++ x.c.o.sectors)
+old_may_file x c path load exec bytes stored image opens joins f place =
+    let holds = (makes_file (old_view x) c path load exec stored (over_it x.c) joins.stood f.makes).holds x.c.l.object.path in
+    both_old x c path image opens holds joins.path_is
+    (old_places_law.file x.kind image (old_view x) x.space c (length stored) x.c.o (before x c path image opens holds joins.path_is) (sym joins.stored_long) x.at place)
+
+pub old_may_directory : (x : OldAddition) (path : Path) (d : Listing) (bytes stored image : List ℕ) → OpensAs image x.kind (old_view x)
+    → Joins (Command.Cdir path) path (Layout.Old x.space) x.listings x.c bytes stored → IsItsDirectory path (Layout.Old x.space) x.c d
+    → IsFirstFitted x.space (new_dir_size (dir_form (Layout.Old x.space))) x.c.o → OldMayBeWritten (old_view x) x.space (Command.Cdir path) (x.c.l.object.sectors ++ x.c.o.sectors)
+    × AreSpared (old_view x) x.space (Command.Cdir path) (x.c.l.object.sectors ++ x.c.o.sectors)
+old_may_directory x path d bytes stored image opens joins is place =
+    both_old x (Command.Cdir path) path image opens refl joins.path_is
+    (old_places_law.fitted x.kind image (old_view x) x.space (Command.Cdir path) (new_dir_size (dir_form (Layout.Old x.space))) x.c.o (before x (Command.Cdir path) path image opens refl joins.path_is)
+    (new_size (Layout.Old x.space) (Layout.Old x.space) path x.c d refl is) x.at place)

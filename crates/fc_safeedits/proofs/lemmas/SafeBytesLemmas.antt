@@ -25,6 +25,7 @@ use Rattle.fc_edits.proofs.lemmas.LeavingLemmas.{left_among}
 use Rattle.fc_edits.proofs.lemmas.ListLemmas.{is_in}
 use Rattle.fc_edits.proofs.lemmas.NumberLemmas as n_
 use Rattle.fc_edits.proofs.lemmas.ShapeLemmas.{only}
+use Rattle.fc_image.proofs.MapEditLemmas.{stays_listed}
 use Rattle.fc_outcomes.proofs.lemmas.OpenedLemmas as opened
 use Rattle.fc_safelaws.specs.Free.{AreFree, MappedImage}
 use Rattle.fc_safelaws.specs.Relaid.{AreCopied}
@@ -159,7 +160,7 @@ module _ (y : SafeImage) where
 
   pub said : (k : Listing) → Contains listings k → reader_of y.image (Layout.New m) k.object ≡ Ok k.content
   said k at =
-      (opened.stays_listed (reader_of y.image (Layout.New m)) (Layout.New m) listings k (opened.had y.kind y.image (Layout.New m) listings y.opens).say at).0
+      (stays_listed (reader_of y.image (Layout.New m)) (Layout.New m) listings k (opened.had y.kind y.image (Layout.New m) listings y.opens).say at).0
 
   pub told_says : (k : Listing) → Contains e.same k → reader_of y.image' (Layout.New m') (turned_in x k.object) ≡ Ok k.content
   told_says k at = (λ i. directory_of (form i) (told_body k at i)) ∙ said k (same_listed x k at)
