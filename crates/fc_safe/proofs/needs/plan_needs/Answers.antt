@@ -1,6 +1,6 @@
 use Rattle.std.proofs.Common.{ap, refl}
-use Rattle.std.specs.Prelude.{Err}
-use Rattle.std.specs.Global.{Vec}
+use Rattle.std.specs.Prelude.{Err, Vec}
+use Rattle.std.specs.declared.alloc.Global.{Global}
 use Rattle.fc_plan.specs.declared.plan.Plan.{Plan}
 use Rattle.fc_safe.specs.Needs.{full_if}
 use Rattle.fc_safe.proofs.NeedsLemmas.{all_met, met_on, refused}
@@ -8,7 +8,7 @@ use Rattle.fc_safe.proofs.needs.plan_needs.Goals as goal
 
 pub returns-in-Err-clause-refused : goal.returns-in-Err-clause-refused
 returns-in-Err-clause-refused c =
-    refused {T = Vec Plan} c.args.map.now c.args.needs.now c.loop-need.need-index _ c.loop-need.plans.items c.loop-need.supply c.loop-need-test.true c.loop-need.invariant c.in-Err.error (Err c.in-Err.error) c.in-Err.ensures.unmet refl
+    refused c.args.map.now c.args.needs.now c.loop-need.need-index _ c.loop-need.plans.items c.loop-need.supply c.loop-need-test.true c.loop-need.invariant {T = Vec Plan Global} c.in-Err.error (Err c.in-Err.error) c.in-Err.ensures.unmet refl
 
 pub loop-need-preserved : goal.loop-need-preserved
 loop-need-preserved c =
