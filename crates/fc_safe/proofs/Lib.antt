@@ -6,4 +6,5 @@ pub mod MovingLemmas
 pub mod NeedsLemmas
 pub mod SetLemmas
 pub mod StayingLemmas
+pub mod SuitsLemmas
 pub mod ZoneLemmas

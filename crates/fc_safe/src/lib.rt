@@ -11,6 +11,7 @@ mod moving;
 mod needs;
 mod sets;
 mod staying;
+mod suitability;
 mod zones;
 
 pub use changed::changed_nodes;
@@ -20,4 +21,5 @@ pub use gone::gone_ids;
 pub use moving::{Moved, moved_of, moving_of, needs_of};
 pub use needs::{Need, plan_needs};
 pub use staying::{Longer, Moving};
+pub use suitability::suits;
 pub use zones::zones_of;
