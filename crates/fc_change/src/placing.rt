@@ -12,6 +12,11 @@ mod room;
 mod shortage;
 mod steps;
 
+pub use growth::{Growing, extents_in, judge};
+pub use new::{address_for, bytes_left, copied_from, object_place, placing_of, share_for, shared_id};
+pub use shortage::has_ids;
+pub use steps::root_of;
+
 use crate::held::Held;
 use crate::job::Wants;
 use crate::spaces::{SpaceError, Spaces};

@@ -1,10 +1,13 @@
+pub mod CoverLemmas
 pub mod ExtentLemmas
 pub mod GoneLemmas
 pub mod HoleLemmas
 pub mod ListLemmas
 pub mod MovingLemmas
 pub mod NeedsLemmas
+pub mod PlannedLemmas
 pub mod SetLemmas
 pub mod StayingLemmas
 pub mod SuitsLemmas
+pub mod TakingLemmas
 pub mod ZoneLemmas

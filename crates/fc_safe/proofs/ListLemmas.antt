@@ -97,12 +97,12 @@ most_from : {X : Type 0} (f : X → ℕ) (n : ℕ) (xs : List X) → n ≤ fold 
 most_from f n [] = omega arith
 most_from f n (x ∷ xs) = let more = most_from f (max n (f x)) xs in omega (arith, more)
 
-most_above : {X : Type 0} (f : X → ℕ) (n : ℕ) (xs : List X) (x : X) → Contains xs x → f x ≤ fold (λ k y. max k (f y)) n xs
+pub most_above : {X : Type 0} (f : X → ℕ) (n : ℕ) (xs : List X) (x : X) → Contains xs x → f x ≤ fold (λ k y. max k (f y)) n xs
 most_above f n [] x (k, low, e) = absurd (omega (arith, low))
 most_above f n (y ∷ xs) x (zero, low, e) = let more = most_from f (max n (f y)) xs in let same = ap f e in omega (arith, more, same)
 most_above f n (y ∷ xs) x (suc k, low, e) = most_above f (max n (f y)) xs x (k, omega (arith, low), e)
 
-most_below : {X : Type 0} (f : X → ℕ) (n m : ℕ) (xs : List X) → n ≤ m → ((x : X) → Contains xs x → f x ≤ m) → fold (λ k x. max k (f x)) n xs ≤ m
+pub most_below : {X : Type 0} (f : X → ℕ) (n m : ℕ) (xs : List X) → n ≤ m → ((x : X) → Contains xs x → f x ≤ m) → fold (λ k x. max k (f x)) n xs ≤ m
 most_below f n m [] low all = low
 most_below f n m (x ∷ xs) low all =
     most_below f (max n (f x)) m xs (let first = all x (0, omega arith, refl) in omega (arith, low, first)) (λ y at. all y (suc at.0, (let l = at.1 in omega (arith, l)), at.2))

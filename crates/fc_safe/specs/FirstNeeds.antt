@@ -19,7 +19,7 @@ use Rattle.fc_change.specs.GrownSpace.{has_room, is_alone}
 use Rattle.fc_change.specs.Shortage.{bytes_left, slack_for}
 use Rattle.fc_safe.specs.Changed.{changed_in}
 use Rattle.fc_safe.specs.Gone.{is_lost_by}
-use Rattle.fc_safe.specs.Needs.{bits_of, is_new}
+use Rattle.fc_safe.specs.Needs.{bits_of, full_for, is_new}
 use Rattle.fc_safe.specs.Staying.{changed_ids, holds_changed, last_end}
 use Rattle.fc_safe.specs.declared.needs.Need.{Need}
 use Rattle.fc_safe.specs.declared.staying.Longer.{Longer}
@@ -117,8 +117,16 @@ spread_if m gone root (Some parts) = spread_or (zones_turned m parts gone root)
 abbrev pub unfit : Map → List Need → List ℕ → Bool → Option SafeRefusal
 unfit m needs gone root = spread_if m gone root (fitted m (bits_of m.geometry needs) (hole_runs m))
 
+-- whether so many identifiers are left
+abbrev pub has_ids_for : Map → List Need → Bool
+has_ids_for m needs = nat_le (count_by is_new needs) (length (new_ids m))
+
+-- Too few identifiers are left, or a need finds too little.
+abbrev pub short_of_needs : Map → List Need → Option SafeRefusal
+short_of_needs m needs = if has_ids_for m needs then full_for m (bits_of m.geometry needs) else Some (SafeRefusal.Refused refusals.IdsFull)
+
 -- Too few identifiers are left, or a need finds too little, or too many zones would change. DirFull is the answer of `wants`.
 abbrev pub first_shortage : Map → Parts → Job → Wants → Option SafeRefusal
 first_shortage m h job w =
-    if nat_le (count_by is_new (first_needs m h job w)) (length (new_ids m)) then unfit m (first_needs m h job w) (first_gone m h job w) (turns_root w.grows)
+    if has_ids_for m (first_needs m h job w) then unfit m (first_needs m h job w) (first_gone m h job w) (turns_root w.grows)
     else Some (SafeRefusal.Refused refusals.IdsFull)

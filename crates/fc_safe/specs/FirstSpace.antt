@@ -1,16 +1,18 @@
 -- Places for what a job wants of a new map in the safe mode.
-use Rattle.std.specs.Prelude.{◌≡◌, ◌<◌, ◌≤◌, ℕ, ◌+◌, ◌*◌, ◌^◌, Bool, true, false, List, [], ◌∷◌, ◌++◌, AllPairs, Contains, IsPermutation, drop, filter, is_some, length, take, Option, Some, None, if◌then◌else◌}
+use Rattle.std.specs.Prelude.{◌≡◌, ◌<◌, ◌≤◌, ℕ, ◌+◌, ◌*◌, ◌^◌, Bool, true, false, All, List, [], ◌∷◌, ◌++◌, AllPairs, Contains, IsPermutation, IsSome, drop, filter, is_some, length, take, Option, Some, None, if◌then◌else◌}
+use Rattle.std.specs.FinMap.{get}
 use Rattle.std.specs.Int.{div_ceil}
 use Rattle.std.specs.List.{flat_map}
 use Rattle.fc_alloc.specs.declared.owner.Owner.{Owner}
 use Rattle.fc_newmap.specs.Map.{Map, zone_numbers}
-use Rattle.fc_image.specs.Layout.{Layout, id_of, low_of, low_start, sectors_at}
+use Rattle.fc_newmap.specs.Walk.{IsInZone}
+use Rattle.fc_image.specs.Layout.{Layout, id_of, low_of, low_start}
 use Rattle.fc_image.specs.effects.Placed.{BeginsBefore}
 use Rattle.fc_objects.specs.Extents.{sectors_in}
 use Rattle.fc_plan.specs.declared.plan.Part.{Part}
 use Rattle.fc_plan.specs.declared.plan.Plan.{Plan}
 use Rattle.fc_plan.specs.Giving.{is_one_of}
-use Rattle.fc_plan.specs.Parts.{fronts}
+use Rattle.fc_plan.specs.Parts.{front_at, fronts}
 use Rattle.fc_placing.specs.declared.placing.Placing.{Placing}
 use Rattle.fc_placing.specs.declared.placing.Placing.TheVariants as placings
 use Rattle.fc_tree.specs.Counts.{address_in}
@@ -23,31 +25,29 @@ use Rattle.fc_change.specs.declared.job.Growth.{Growth}
 use Rattle.fc_change.specs.declared.job.Job.{Job}
 use Rattle.fc_change.specs.declared.job.Wants.{Wants}
 use Rattle.fc_change.specs.declared.spaces.GrownPlace.{GrownPlace}
-use Rattle.fc_change.specs.declared.spaces.Place.{Place}
 use Rattle.fc_change.specs.declared.spaces.Spaces.{Spaces}
-use Rattle.fc_change.specs.GrownSpace.{place_of_plan, plan_sectors, root_of}
-use Rattle.fc_change.specs.Places.{IsCopiedFrom, address_for, extents_in}
+use Rattle.fc_change.specs.GrownSpace.{plan_sectors, root_of}
+use Rattle.fc_change.specs.Places.{IsCopiedFrom, IsPlaceFor, IsPlacingFor, extents_in}
+use Rattle.fc_change.specs.Prepared.{HasPlace}
 use Rattle.fc_change.specs.Shortage.{slack_for}
 use Rattle.fc_slack.specs.Slack.{place_in}
-use Rattle.fc_safe.specs.FirstNeeds.{first_gone, first_needs, moving_out}
+use Rattle.fc_safe.specs.FirstNeeds.{first_gone, first_needs, ids_of, longer_of, moving_out, stir_of}
+use Rattle.fc_safe.specs.Moving.{IsPlacedOwner}
 use Rattle.fc_safe.specs.Needs.{AreMet}
 use Rattle.fc_safe.specs.Zones.{is_turned}
 
 -- ---- the object
 
+-- the first plan's identifier and parts
+abbrev pub IsFirstOf : List Plan → Plan → Type 0
+IsFirstOf [] plan = ⊥
+IsFirstOf (first ∷ rest) plan = (plan.id ≡ first.id) × (plan.parts.items ≡ first.parts.items)
+
 -- In slack if it may have any and there is some, else in the space of the first plan, and without bytes nowhere.
 abbrev pub IsFirstPlacing : Map → List Owner → Wants → List Plan → Placing → Type 0
 IsFirstPlacing m owners w plans placings.Nowhere = w.bytes ≡ 0
 IsFirstPlacing m owners w plans (placings.Shared share) = slack_for m owners w ≡ Some (place_in share)
-IsFirstPlacing m owners w plans (placings.New plan) = (slack_for m owners w ≡ None) × ((rest : List Plan) × (plans ≡ plan ∷ rest))
-
-abbrev pub AreFirstSectors : Map → ℕ → Placing → ℕ → List ℕ → Type 0
-AreFirstSectors m bytes (placings.New plan) address sectors = sectors ≡ place_of_plan m.geometry plan bytes
-AreFirstSectors m bytes _ address sectors = sectors_at (Layout.New m) address bytes ≡ Some sectors
-
-abbrev pub IsFirstPlace : Map → Wants → Placing → Option Place → Type 0
-IsFirstPlace m w placing (Some p) = (p.address ≡ address_for m w placing) × AreFirstSectors m w.bytes placing p.address (sectors_in p.extents.items)
-IsFirstPlace m w placing None = (w.bytes ≡ 0) × (w.shares ≡ None)
+IsFirstPlacing m owners w plans (placings.New plan) = (slack_for m owners w ≡ None) × IsFirstOf plans plan
 
 -- ---- the directory that grows
 
@@ -99,8 +99,36 @@ pub record ArePlacedFirst (m : Map) (h : Parts) (job : Job) (w : Wants) (s : Spa
   pub placing : Placing
   pub met : AreMet m (first_needs m h job w) plans
   pub placed : IsFirstPlacing m h.owners w plans placing
-  pub object : IsFirstPlace m w placing s.object
+  pub object : IsPlaceFor m w placing s.object
   pub copied : IsCopiedFrom (Layout.New m) h.nodes w.copied (extents_in s.copied)
   pub grown : IsGrownFirst m h w.grows plans s.grown
   pub take : IsStepFirst m plans (first_gone m h job w) (root_of s.grown) s.take
   pub give : s.give ≡ steps.Nothing
+
+-- ---- what has to be known
+
+-- The directory has a node, and unless it gets a new identifier its own is one of those that hold a changed directory.
+pub record CanGrowFirst (m : Map) (h : Parts) (job : Job) (w : Wants) (g : Growth) : Type 0 where
+  pub longer : 0 < g.len
+  pub few : g.len < 2 ^ 32
+  pub there : IsSome (get h.nodes g.node)
+  pub stays : moving_out m h (Some g) ≡ None → Contains (ids_of m h (stir_of m h job w)) (id_of (address_in h.nodes g.node))
+
+-- A copied file has a place. Each owner has some sectors of an identifier that an object may have, and a directory that grows then too.
+pub record CanPlaceFirst (m : Map) (h : Parts) (job : Job) (w : Wants) : Type 0 where
+  pub few : w.bytes < 2 ^ 32
+  pub copied : (n : ℕ) → w.copied ≡ Some n → HasPlace h n
+  pub placed : (o : Owner) → Contains h.owners o → IsPlacedOwner m.geometry (longer_of m.geometry w.grows) o
+  pub grows : (g : Growth) → w.grows ≡ Some g → CanGrowFirst m h job w g
+
+-- ---- on the way
+
+-- The parts of a plan lie in zones.
+abbrev pub LiesInZones : Map → Plan → Type 0
+LiesInZones m plan = All (λ part. IsInZone m.geometry (front_at part)) plan.parts.items
+
+-- An object that is placed so can be told where it lies.
+abbrev pub CanLie : Map → List Owner → Wants → Placing → Type 0
+CanLie m owners w placings.Nowhere = IsPlacingFor m owners w placings.Nowhere
+CanLie m owners w (placings.Shared share) = IsPlacingFor m owners w (placings.Shared share)
+CanLie m owners w (placings.New plan) = (0 < w.bytes) × LiesInZones m plan

@@ -31,8 +31,8 @@ use std::alloc::Global;
 
 // ---- the object
 
-// The slack that a new object gets, if it may have any and there is some.
-fn share_for(
+/// The slack that a new object gets, if it may have any and there is some.
+pub fn share_for(
     alloc: Global,
     map: &NewMap,
     owners: &Owners,
@@ -46,8 +46,8 @@ fn share_for(
     slack(alloc, map, owners, dir, u64::from(wants.bytes))
 }
 
-// The bytes of the object that need new space: none in slack.
-fn bytes_left(share: &Option<Share>, bytes: u32) -> u32
+/// The bytes of the object that need new space: none in slack.
+pub fn bytes_left(share: &Option<Share>, bytes: u32) -> u32
     ensures { result ≡ (if is_some share.now then 0 else bytes) }
 {
     match share {
@@ -56,8 +56,8 @@ fn bytes_left(share: &Option<Share>, bytes: u32) -> u32
     }
 }
 
-// Where the object is to lie: in slack if there is some, else in new space; without bytes nowhere.
-fn placing_of(share: Option<Share>, own: Option<Plan>) -> Placing
+/// Where the object is to lie: in slack if there is some, else in new space; without bytes nowhere.
+pub fn placing_of(share: Option<Share>, own: Option<Plan>) -> Placing
     ensures { result ≡ placing_of share own }
 {
     match share {
@@ -69,8 +69,8 @@ fn placing_of(share: Option<Share>, own: Option<Plan>) -> Placing
     }
 }
 
-// The address of an object that is placed so: a directory begins with its identifier.
-fn address_for(map: &NewMap, wants: &Wants, placing: &Placing) -> u32
+/// The address of an object that is placed so: a directory begins with its identifier.
+pub fn address_for(map: &NewMap, wants: &Wants, placing: &Placing) -> u32
     requires few { wants.now.bytes < 2 ^ 32 }
     requires id { id_in placing.now < 2 ^ 24 }
     ensures { result ≡ address_for map.now wants.now placing.now }
@@ -108,8 +108,8 @@ fn extents_for(
     }
 }
 
-// The identifier of others that it shares.
-fn shared_id(placing: &Placing) -> Option<u32>
+/// The identifier of others that it shares.
+pub fn shared_id(placing: &Placing) -> Option<u32>
     ensures { result ≡ shared_id placing.now }
 {
     match placing {
@@ -130,8 +130,8 @@ fn plan_in(placing: Placing) -> Option<Plan>
     }
 }
 
-// The object's place, if it has one: a file without bytes has one, too.
-fn object_place(
+/// The object's place, if it has one: a file without bytes has one, too.
+pub fn object_place(
     alloc: Global,
     held: &Held,
     map: &NewMap,
@@ -152,8 +152,8 @@ fn object_place(
     Ok(Some(Place { address, extents }))
 }
 
-// Where the file lies that is copied, if one is.
-fn copied_from(
+/// Where the file lies that is copied, if one is.
+pub fn copied_from(
     alloc: Global,
     held: &Held,
     copied: Option<u64>,

@@ -51,8 +51,8 @@ fn ids_for(object: u64, alone: bool, dir: u64) -> u64
     one_if(object > 0) + one_if(dir > 0 && !alone)
 }
 
-// Whether so many identifiers are left for new objects.
-fn has_ids(map: &NewMap, count: u64) -> bool
+/// Whether so many identifiers are left for new objects.
+pub fn has_ids(map: &NewMap, count: u64) -> bool
     ensures { result ≡ nat_le count (length (new_ids map.now)) }
 {
     map.is_map();
