@@ -8,6 +8,7 @@ pub mod NeedsLemmas
 pub mod PlannedLemmas
 pub mod SetLemmas
 pub mod StayingLemmas
+pub mod StepLemmas
 pub mod SuitsLemmas
 pub mod TakingLemmas
 pub mod ZoneLemmas

@@ -4,7 +4,7 @@ use Rattle.std.specs.FinMap.{get}
 use Rattle.std.specs.Int.{div_ceil}
 use Rattle.std.specs.List.{flat_map}
 use Rattle.fc_alloc.specs.declared.owner.Owner.{Owner}
-use Rattle.fc_newmap.specs.Map.{Map, zone_numbers}
+use Rattle.fc_newmap.specs.Map.{Map, ZoneRun, zone_numbers}
 use Rattle.fc_newmap.specs.Walk.{IsInZone}
 use Rattle.fc_image.specs.Layout.{Layout, id_of, low_of, low_start}
 use Rattle.fc_image.specs.effects.Placed.{BeginsBefore}
@@ -71,6 +71,10 @@ IsGrownFirst m h (Some g) plans None = ⊥
 IsGrownFirst m h (Some g) plans (Some p) = IsFirstGrown m h g plans p
 
 -- ---- the step
+
+-- all parts of plans
+abbrev pub all_fronts : List Plan → List ZoneRun
+all_fronts plans = flat_map (λ (p : Plan). fronts p.parts.items) plans
 
 -- the parts of the plans whose identifiers go back
 abbrev pub parts_kept : List Plan → List ℕ → List Part

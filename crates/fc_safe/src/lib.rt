@@ -5,6 +5,7 @@
 mod changed;
 mod error;
 mod extents;
+mod first;
 mod gone;
 mod lists;
 mod moving;
@@ -12,6 +13,7 @@ mod needs;
 mod planned;
 mod sets;
 mod staying;
+mod step;
 mod suitability;
 mod zones;
 
