@@ -13,7 +13,7 @@ mod LeavingsLemmas
 mod OldCopyLemmas
 mod OldTakingLemmas
 mod OldGivingLemmas
-mod PlaceLemmas
+pub mod PlaceLemmas
 mod RefusalLemmas
 mod NeedsLemmas
 mod ToldLemmas

@@ -26,8 +26,8 @@ pub use job::{FileWords, Growth, Job, ObjectWords, Wants};
 pub use needs::wants;
 pub use pieces::prepare;
 pub use placing::{
-    Growing, address_for, bytes_left, copied_from, extents_in, has_ids, judge, object_place, place, placing_of, root_of, share_for,
-    shared_id,
+    address_for, bytes_left, copied_from, extents_in, has_ids, object_place, place, placing_of,
+    share_for, shared_id,
 };
 pub use spaces::{GrownPlace, Place, SpaceError, Spaces};
 pub use takeover::{admit, take_over};

@@ -12,17 +12,17 @@ mod room;
 mod shortage;
 mod steps;
 
-pub use growth::{Growing, extents_in, judge};
-pub use new::{address_for, bytes_left, copied_from, object_place, placing_of, share_for, shared_id};
-pub use shortage::has_ids;
-pub use steps::root_of;
-
 use crate::held::Held;
 use crate::job::Wants;
 use crate::spaces::{SpaceError, Spaces};
 use fc_space::Space;
+pub use growth::extents_in;
 use new::place_new;
+pub use new::{
+    address_for, bytes_left, copied_from, object_place, placing_of, share_for, shared_id,
+};
 use old::place_old;
+pub use shortage::has_ids;
 use std::alloc::Global;
 
 /// Finds the space that a job wants, and what goes back. The map stays as it is. Refused exactly as the command is for want of space.

@@ -41,14 +41,14 @@ covered_rest h holes z s n (k, (zero, low, e), covers) = inl (subst (λ (x : Zon
 covered_rest h holes z s n (k, (suc i, low, e), covers) = inr (k, (i, omega (arith, low), e), covers)
 
 covered_both : (xs ys : List ZoneRun) (z s n : ℕ) → AreCovered (xs ++ ys) z s n → AreCovered xs z s n ⊎ AreCovered ys z s n
-covered_both xs ys z s n (h, at, covers) = elim (Contains-append_cases xs ys h at) [ | inl here ↦ inl (h, here, covers) | inr there ↦ inr (h, there, covers) ]
+covered_both xs ys z s n (h, at, covers) = elim (Contains-append_cases xs ys h at) [ inl here ↦ inl (h, here, covers) | inr there ↦ inr (h, there, covers) ]
 
 no_cover : (z s n : ℕ) → AreCovered [] z s n → ⊥
 no_cover z s n (h, (i, low, e), covers) = omega (arith, low)
 
 -- What is left of a hole lies in it, behind the part that was taken.
 behind_one : (h : ZoneRun) (o : Option ZoneRun) (z s n : ℕ) → AreCovered (left_behind h o) z s n → Covers h z s n × ((p : ZoneRun) → o ≡ Some p → h.1.start + p.1.len ≤ s)
-behind_one h None z s n c = elim (covered_rest h [] z s n c) [ | inl covers ↦ (covers, λ p e. absurd (cc)) | inr none ↦ absurd (no_cover z s n none) ]
+behind_one h None z s n c = elim (covered_rest h [] z s n c) [ inl covers ↦ (covers, λ p e. absurd (cc)) | inr none ↦ absurd (no_cover z s n none) ]
 behind_one h (Some q) z s n c = by (q.1.len == h.1.len) c
   where
     rest : ZoneRun

@@ -1,5 +1,6 @@
 pub mod CoverLemmas
 pub mod ExtentLemmas
+pub mod FirstLemmas
 pub mod GoneLemmas
 pub mod HoleLemmas
 pub mod ListLemmas

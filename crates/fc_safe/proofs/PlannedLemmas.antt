@@ -79,9 +79,9 @@ all_can : (g : Geometry) (changed leaving : List ℕ) (longer : Option Longer) (
     → ((id : ℕ) → Contains ids id → holds_changed changed leaving owners id ≡ true) → AllByRecursion CanNeed (map (need_of (last_end g leaving longer owners)) ids)
 all_can g changed leaving longer owners [] is sized holds = tt
 all_can g changed leaving longer owners (id ∷ ids) is sized holds = (
-    need_can g changed leaving longer owners id is sized (holds id (0, omega arith, refl)),
-    all_can g changed leaving longer owners ids is sized (λ k at. holds k (suc at.0, (let low = at.1 in omega (arith, low)), at.2)),
-  )
+  need_can g changed leaving longer owners id is sized (holds id (0, omega arith, refl)),
+  all_can g changed leaving longer owners ids is sized (λ k at. holds k (suc at.0, (let low = at.1 in omega (arith, low)), at.2)),
+)
 
 own_can : (bytes : ℕ) → bytes < 2 ^ 32 → AllByRecursion CanNeed (own_need bytes)
 own_can bytes few = by (bytes == 0) refl
@@ -133,6 +133,18 @@ grows_out m h (Some k) g e = by (Rattle.fc_change.specs.GrownSpace.has_room m h 
     by true f = absurd (cc)
     by false f = f
 
+pub needs_can : (m : Map) (of : IsOfRecord m.geometry) (h : Parts) (job : Job) (w : Wants) (bytes : ℕ) → bytes < 2 ^ 32
+    → ((o : Owner) → Contains h.owners o → IsPlacedOwner m.geometry (longer_of m.geometry w.grows) o) → ((g : Growth) → w.grows ≡ Some g → (0 < g.len) × (g.len < 2 ^ 32))
+    → All CanNeed (needs_by m h (stir_of m h job w) bytes)
+needs_can m of h job w bytes few placed longer =
+    let s : Stir = stir_of m h job w in
+    let moved : List Need = map (need_of (last_end m.geometry s.leaving s.longer h.owners)) (ids_of m h s) in
+    All-from_recursion CanNeed (needs_by m h s bytes)
+    (both_all CanNeed (own_need bytes) (moved ++ out_need s.out) (own_can bytes few)
+    (both_all CanNeed moved (out_need s.out)
+    (all_can m.geometry s.changed s.leaving s.longer h.owners (ids_of m h s) of (λ o at. (placed o at).sized) (λ id at. passes (holds_changed s.changed s.leaving h.owners) (range_with_len 0 (Rattle.fc_record.specs.Record.id_limit m.geometry)) id at))
+    (out_can s.out (λ g e. longer g (grows_out m h w.grows g e)))))
+
 module _ (m : Map) (of : IsOfRecord m.geometry) (h : Parts) (job : Job) (w : Wants) (bytes : ℕ) (out : Option Growth) (x : Moving) (p : Moved)
     (moving : IsMovingFor m.geometry h.nodes job w out x) (moved : AreMoved m.geometry h.owners x p) (goes : out ≡ moving_out m h w.grows) where
   abbrev s : Stir
@@ -155,15 +167,6 @@ module _ (m : Map) (of : IsOfRecord m.geometry) (h : Parts) (job : Job) (w : Wan
       are
       ∙ ap₂ (λ (ns : List Need) (o : Option Growth). own_need bytes ++ (ns ++ out_need o))
       (ap (paired_needs p.ids.items) ends_are ∙ paired_map (last_end m.geometry s.leaving s.longer h.owners) p.ids.items ∙ ap (map (need_of (last_end m.geometry s.leaving s.longer h.owners))) ids_are) goes
-
-  pub needs_can : bytes < 2 ^ 32 → ((o : Owner) → Contains h.owners o → IsPlacedOwner m.geometry (longer_of m.geometry w.grows) o) → ((g : Growth) → w.grows ≡ Some g → (0 < g.len) × (g.len < 2 ^ 32))
-      → All CanNeed (needs_by m h s bytes)
-  needs_can few placed longer =
-      All-from_recursion CanNeed (needs_by m h s bytes)
-      (both_all CanNeed (own_need bytes) (map (need_of (last_end m.geometry s.leaving s.longer h.owners)) (ids_of m h s) ++ out_need s.out) (own_can bytes few)
-      (both_all CanNeed (map (need_of (last_end m.geometry s.leaving s.longer h.owners)) (ids_of m h s)) (out_need s.out)
-      (all_can m.geometry s.changed s.leaving s.longer h.owners (ids_of m h s) of (λ o at. (placed o at).sized) (λ id at. passes (holds_changed s.changed s.leaving h.owners) (range_with_len 0 (Rattle.fc_record.specs.Record.id_limit m.geometry)) id at))
-      (out_can s.out (λ g e. longer g (grows_out m h w.grows g e)))))
 
   pub news_are : count_by is_new (needs_by m h s bytes) ≡ one_if (nat_lt 0 bytes) + one_if (is_some out)
   news_are =

@@ -30,9 +30,9 @@ Rises (x ∷ xs) = ((y : ℕ) → is_one_of xs y ≡ true → x < y) × Rises xs
 rises_of : (xs : List ℕ) → AllPairs (λ x y. x < y) xs → Rises xs
 rises_of [] pairs = tt
 rises_of (x ∷ xs) pairs = (
-    λ y h. (let at = of_one xs y h in let less = pairs 0 (suc at.0) y (omega arith) (let low = at.1 in omega (arith, low)) in let here = at.2 in omega (arith, less, here)),
-    rises_of xs (λ i j d lt low. pairs (suc i) (suc j) d (omega (arith, lt)) (omega (arith, low))),
-  )
+  λ y h. (let at = of_one xs y h in let less = pairs 0 (suc at.0) y (omega arith) (let low = at.1 in omega (arith, low)) in let here = at.2 in omega (arith, less, here)),
+  rises_of xs (λ i j d lt low. pairs (suc i) (suc j) d (omega (arith, lt)) (omega (arith, low))),
+)
 
 one_first : (x : ℕ) (xs : List ℕ) → is_one_of (x ∷ xs) x ≡ true
 one_first x xs = one_of (x ∷ xs) x (0, omega arith, refl)
@@ -51,9 +51,9 @@ same_lists (x ∷ xs) [] a b same = absurd (let h = sym (one_first x xs) ∙ sam
 same_lists (x ∷ xs) (y ∷ ys) a b same = elim (cases_order x y) [
   | inl e ↦ joined e (same_lists xs ys a.1 b.1)
   | inr apart ↦ elim apart [
-      | inl less ↦ absurd (not_less y ys x b less (sym (same x) ∙ one_first x xs))
-      | inr more ↦ absurd (not_less x xs y a more (same y ∙ one_first y ys))
-    ]
+    | inl less ↦ absurd (not_less y ys x b less (sym (same x) ∙ one_first x xs))
+    | inr more ↦ absurd (not_less x xs y a more (same y ∙ one_first y ys))
+  ]
 ]
   where
     rest : (p q : ℕ) (ps qs : List ℕ) → p ≡ q → Rises (p ∷ ps) → ((n : ℕ) → is_one_of (p ∷ ps) n ≡ is_one_of (q ∷ qs) n) → (n : ℕ) → is_one_of ps n ≡ true → is_one_of qs n ≡ true
@@ -83,9 +83,9 @@ pub one_place : (xs : List ℕ) (i j : ℕ) → IsStrictlyIncreasing xs → i < 
 one_place xs i j rising low high e = elim (cases_order i j) [
   | inl same ↦ same
   | inr apart ↦ elim apart [
-      | inl less ↦ absurd (let h = AllPairs-from_increasing xs rising i j 0 less high in omega (arith, h, e))
-      | inr more ↦ absurd (let h = AllPairs-from_increasing xs rising j i 0 more low in omega (arith, h, e))
-    ]
+    | inl less ↦ absurd (let h = AllPairs-from_increasing xs rising i j 0 less high in omega (arith, h, e))
+    | inr more ↦ absurd (let h = AllPairs-from_increasing xs rising j i 0 more low in omega (arith, h, e))
+  ]
 ]
 
 -- ---- a search in a set
@@ -94,9 +94,9 @@ no_falls : (xs : List ℕ) → IsStrictlyIncreasing xs → (i j : ℕ) → i ≤
 no_falls xs rising i j order low = elim (cases_order i j) [
   | inl same ↦ (let e = ap (λ (n : ℕ). get_or xs n 0) same in omega (arith, e))
   | inr apart ↦ elim apart [
-      | inl less ↦ (let h = AllPairs-from_increasing xs rising i j 0 less low in omega (arith, h))
-      | inr more ↦ absurd (omega (arith, order, more))
-    ]
+    | inl less ↦ (let h = AllPairs-from_increasing xs rising i j 0 less low in omega (arith, h))
+    | inr more ↦ absurd (omega (arith, order, more))
+  ]
 ]
 
 pub search_found : (xs : List ℕ) (x i : ℕ) (r : Result ℕ ℕ) → IsStrictlyIncreasing xs → IsBinarySearchResult (λ y. nat_cmp y x) xs r → r ≡ Ok i → (i < length xs) × (get_or xs i 0 ≡ x)
@@ -122,9 +122,9 @@ search_missed xs x i r rising found e =
     nowhere facts at = elim (cases_order at.0 i) [
       | inl same ↦ (let h = facts.2 at.0 (omega (arith, same)) at.1 in let z = at_zero xs at.0 at.1 in let here = at.2 in omega (arith, h, z, here))
       | inr apart ↦ elim apart [
-          | inl less ↦ (let h = facts.1 at.0 less in let z = at_zero xs at.0 at.1 in let here = at.2 in omega (arith, h, z, here))
-          | inr more ↦ (let h = facts.2 at.0 (omega (arith, more)) at.1 in let z = at_zero xs at.0 at.1 in let here = at.2 in omega (arith, h, z, here))
-        ]
+        | inl less ↦ (let h = facts.1 at.0 less in let z = at_zero xs at.0 at.1 in let here = at.2 in omega (arith, h, z, here))
+        | inr more ↦ (let h = facts.2 at.0 (omega (arith, more)) at.1 in let z = at_zero xs at.0 at.1 in let here = at.2 in omega (arith, h, z, here))
+      ]
     ]
 
 pub searched_one : (xs : List ℕ) (x : ℕ) (r : Result ℕ ℕ) → IsStrictlyIncreasing xs → IsBinarySearchResult (λ y. nat_cmp y x) xs r → is_ok r ≡ is_one_of xs x

@@ -99,7 +99,7 @@ module _ (m : Map) (is : IsNewMap m) where
       let id = id_of_need n.id ids have.0 p.id have.1 new (λ k e. old n k (0, omega arith, refl) e) in (
         record { cut = cut_of holes (fronts p.parts.items) fits; rising = pairs_of (fronts p.parts.items) fits.2; some = id.0.some; fits = id.0.fits },
         take_from needs plans have.0 left (holes_left holes (fronts p.parts.items)) (left_free holes (fronts p.parts.items) free fits)
-        (λ k at. some k (suc at.0, (let low = at.1 in omega (arith, low)), at.2)) first.1 have.2 id.1 (λ k j at e. old k j (suc at.0, (let low = at.1 in omega (arith, low)), at.2) e),
+            (λ k at. some k (suc at.0, (let low = at.1 in omega (arith, low)), at.2)) first.1 have.2 id.1 (λ k j at e. old k j (suc at.0, (let low = at.1 in omega (arith, low)), at.2) e),
       )
 
   new_can : (id : ℕ) → Contains (new_ids m) id → CanHave m id

@@ -1,6 +1,5 @@
 -- Places for what a job wants of a new map in the safe mode.
-use Rattle.std.specs.Prelude.{◌≡◌, ◌<◌, ◌≤◌, ℕ, ◌+◌, ◌*◌, ◌^◌, Bool, true, false, All, List, [], ◌∷◌, ◌++◌, AllPairs, Contains, IsPermutation, IsSome, drop, filter, is_some, length, take, Option, Some, None, if◌then◌else◌}
-use Rattle.std.specs.FinMap.{get}
+use Rattle.std.specs.Prelude.{◌≡◌, ◌<◌, ◌≤◌, ℕ, ◌+◌, ◌*◌, ◌^◌, Bool, true, false, All, List, [], ◌∷◌, ◌++◌, AllPairs, Contains, IsPermutation, drop, filter, is_some, length, take, Option, Some, None, if◌then◌else◌}
 use Rattle.std.specs.Int.{div_ceil}
 use Rattle.std.specs.List.{flat_map}
 use Rattle.fc_alloc.specs.declared.owner.Owner.{Owner}
@@ -31,7 +30,7 @@ use Rattle.fc_change.specs.Places.{IsCopiedFrom, IsPlaceFor, IsPlacingFor, exten
 use Rattle.fc_change.specs.Prepared.{HasPlace}
 use Rattle.fc_change.specs.Shortage.{slack_for}
 use Rattle.fc_slack.specs.Slack.{place_in}
-use Rattle.fc_safe.specs.FirstNeeds.{first_gone, first_needs, ids_of, longer_of, moving_out, stir_of}
+use Rattle.fc_safe.specs.FirstNeeds.{first_gone, first_needs, longer_of, moving_out}
 use Rattle.fc_safe.specs.Moving.{IsPlacedOwner}
 use Rattle.fc_safe.specs.Needs.{AreMet}
 use Rattle.fc_safe.specs.Zones.{is_turned}
@@ -111,19 +110,12 @@ pub record ArePlacedFirst (m : Map) (h : Parts) (job : Job) (w : Wants) (s : Spa
 
 -- ---- what has to be known
 
--- The directory has a node, and unless it gets a new identifier its own is one of those that hold a changed directory.
-pub record CanGrowFirst (m : Map) (h : Parts) (job : Job) (w : Wants) (g : Growth) : Type 0 where
-  pub longer : 0 < g.len
-  pub few : g.len < 2 ^ 32
-  pub there : IsSome (get h.nodes g.node)
-  pub stays : moving_out m h (Some g) ≡ None → Contains (ids_of m h (stir_of m h job w)) (id_of (address_in h.nodes g.node))
-
--- A copied file has a place. Each owner has some sectors of an identifier that an object may have, and a directory that grows then too.
-pub record CanPlaceFirst (m : Map) (h : Parts) (job : Job) (w : Wants) : Type 0 where
+-- No directory grows. A copied file has a place. Each owner has some sectors of an identifier that an object may have.
+pub record CanPlaceFirst (m : Map) (h : Parts) (w : Wants) : Type 0 where
   pub few : w.bytes < 2 ^ 32
+  pub still : w.grows ≡ None
   pub copied : (n : ℕ) → w.copied ≡ Some n → HasPlace h n
   pub placed : (o : Owner) → Contains h.owners o → IsPlacedOwner m.geometry (longer_of m.geometry w.grows) o
-  pub grows : (g : Growth) → w.grows ≡ Some g → CanGrowFirst m h job w g
 
 -- ---- on the way
 

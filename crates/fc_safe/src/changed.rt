@@ -86,7 +86,12 @@ fn push_child(nodes: &mut Vec<u64>, tree: &Tree, n: u64, e: &Entry) -> Result<()
 }
 
 // Adds the objects of entries that are directories.
-fn push_children(nodes: &mut Vec<u64>, tree: &Tree, n: u64, entries: &[Entry]) -> Result<(), NoMemory>
+fn push_children(
+    nodes: &mut Vec<u64>,
+    tree: &Tree,
+    n: u64,
+    entries: &[Entry],
+) -> Result<(), NoMemory>
     ensures { OnOk result (nodes.new.items ≡ nodes.old.items ++ flat_map (child_of (nodes_of tree.now) n) entries.now) }
 {
     for e in entries {

@@ -100,7 +100,13 @@ fn push_met(
 
 /// So many sectors of a plan's space after the first ones, in the order in which an object's bytes lie there, once the plan's parts are all the runs of its identifier.
 /// If it has fewer, all from there on.
-pub fn extents_at(alloc: Global, map: &NewMap, plan: &Plan, first: u64, need: u64) -> Result<Vec<Extent>, NoMemory>
+pub fn extents_at(
+    alloc: Global,
+    map: &NewMap,
+    plan: &Plan,
+    first: u64,
+    need: u64,
+) -> Result<Vec<Extent>, NoMemory>
     requires { All (λ part. IsInZone map.now.geometry (front_at part)) plan.now.parts.items }
     ensures { IfOk result (λ place. sectors_in place.items ≡ take need (drop first (plan_sectors map.now.geometry plan.now))) }
 {

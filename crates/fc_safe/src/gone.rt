@@ -49,7 +49,13 @@ fn is_left(owners: &Owners, own: Owner, leaving: &[u64], shared: Option<u32>) ->
 }
 
 // Adds the identifier of a node that leaves it, if that goes back.
-fn push_left(gone: &mut Vec<u32>, owners: &Owners, n: u64, leaving: &[u64], shared: Option<u32>) -> Result<(), NoMemory>
+fn push_left(
+    gone: &mut Vec<u32>,
+    owners: &Owners,
+    n: u64,
+    leaving: &[u64],
+    shared: Option<u32>,
+) -> Result<(), NoMemory>
     requires { is_one_of leaving.now n ≡ true }
     ensures { OnOk result (gone.new.items ≡ gone.old.items ++ left_of leaving.now shared owners.now n) }
 {

@@ -20,6 +20,7 @@ mod zones;
 pub use changed::changed_nodes;
 pub use error::SafeError;
 pub use extents::{Stretch, extents_at};
+pub use first::place_first;
 pub use gone::gone_ids;
 pub use moving::{Moved, moved_of, moving_of, needs_of};
 pub use needs::{Need, plan_needs};

@@ -88,7 +88,12 @@ pub struct Moved {
 }
 
 /// The identifiers that hold a directory which is written anew and stays in them, each with its end.
-pub fn moved_of(alloc: Global, g: &Geometry, owners: &Owners, moving: &Moving) -> Result<Moved, NoMemory>
+pub fn moved_of(
+    alloc: Global,
+    g: &Geometry,
+    owners: &Owners,
+    moving: &Moving,
+) -> Result<Moved, NoMemory>
     requires record { IsOfRecord g.now }
     requires placed { (o : Owner) → Contains owners.now o → IsPlacedOwner g.now moving.now.longer o }
     ensures { IfOk result (AreMoved g.now owners.now moving.now) }
@@ -128,14 +133,25 @@ fn push_moved(needs: &mut Vec<Need>, moved: &Moved) -> Result<(), NoMemory>
 {
     for i in 0..moved.ids.len() {
         let id = Some(moved.ids[i]);
-        push(needs, Need { id, bytes: moved.ends[i] })?;
+        push(
+            needs,
+            Need {
+                id,
+                bytes: moved.ends[i],
+            },
+        )?;
     }
     Ok(())
 }
 
 /// What is needed: new space for so many bytes of an object, each identifier that moves up to its end, and new space for a directory that
 /// gets a new identifier.
-pub fn needs_of(alloc: Global, bytes: u32, moved: &Moved, out: Option<Growth>) -> Result<Vec<Need>, NoMemory>
+pub fn needs_of(
+    alloc: Global,
+    bytes: u32,
+    moved: &Moved,
+    out: Option<Growth>,
+) -> Result<Vec<Need>, NoMemory>
     requires { length moved.now.ends.items ≡ length moved.now.ids.items }
     ensures { IfOk result (λ needs. needs.items ≡ own_need bytes ++ (paired_needs moved.now.ids.items moved.now.ends.items ++ out_need out)) }
 {

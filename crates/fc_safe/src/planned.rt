@@ -3,11 +3,8 @@ ghost use Rattle.std.specs.Prelude.{◌≡◌, ◌<◌, ◌≤◌, ◌^◌, ◌+
 ghost use Rattle.fc_alloc.specs.declared.owner.Owner.{Owner};
 ghost use Rattle.fc_image.specs.effects.Sharing.{new_ids};
 ghost use Rattle.fc_image.specs.effects.Short.{one_if};
-ghost use Rattle.fc_newmap.specs.Map.{Map};
 ghost use Rattle.fc_change.specs.declared.job.Growth.{Growth};
 ghost use Rattle.fc_change.specs.Held.{parts_of};
-ghost use Rattle.fc_change.specs.Planning.{IsJudged};
-ghost use Rattle.fc_tree.specs.Parts.{Parts};
 ghost use Rattle.fc_safe.specs.Answers.{AnswersSafe};
 ghost use Rattle.fc_safe.specs.FirstNeeds.{longer_of, moving_out, short_of_needs, needs_by, stir_of};
 ghost use Rattle.fc_safe.specs.Moving.{IsPlacedOwner};
@@ -17,29 +14,12 @@ use crate::error::SafeError;
 use crate::moving::{moved_of, moving_of, needs_of};
 use crate::needs::plan_needs;
 use crate::staying::Moving;
-use fc_change::{Growing, Growth, Held, Job, Wants, has_ids};
+use fc_change::{Growth, Held, Job, Wants, has_ids};
 use fc_device::NoMemory;
 use fc_names::Refusal;
 use fc_newmap::NewMap;
 use fc_plan::Plan;
 use std::alloc::Global;
-
-/// A directory that grows, if it gets a new identifier: it has no room where it lies, and isn't alone.
-pub fn moving_out(growing: &Growing) -> Option<Growth>
-    ensures { (m : Map) (h : Parts) (grows : Option Growth) → IsJudged m h grows growing.now → result ≡ moving_out m h grows }
-{
-    match growing {
-        Growing::Nothing => None,
-        Growing::There(_) => None,
-        Growing::Moves(growth, _, alone) => {
-            if *alone {
-                None
-            } else {
-                Some(*growth)
-            }
-        }
-    }
-}
 
 // 1 if a test holds.
 fn one_if(test: bool) -> u64

@@ -55,7 +55,11 @@ fn push_staying(found: &mut Vec<Owner>, own: Option<Owner>, leaving: &[u64]) -> 
 }
 
 /// The owners of the directories that are written anew and stay in their identifiers.
-pub fn staying_owners(alloc: Global, owners: &Owners, moving: &Moving) -> Result<Vec<Owner>, NoMemory>
+pub fn staying_owners(
+    alloc: Global,
+    owners: &Owners,
+    moving: &Moving,
+) -> Result<Vec<Owner>, NoMemory>
     ensures { IfOk result (λ found. found.items ≡ flat_map (staying_of owners.now moving.now.leaving.items) moving.now.changed.items) }
 {
     let mut found = Vec::new(alloc);
@@ -77,7 +81,12 @@ fn ids_of(alloc: Global, found: &[Owner]) -> Result<Vec<u32>, NoMemory>
 }
 
 /// The identifiers that hold a directory which is written anew and stays in them. `found` are these directories' owners.
-pub fn moved_ids(alloc: Global, owners: &Owners, moving: &Moving, found: &[Owner]) -> Result<Vec<u32>, NoMemory>
+pub fn moved_ids(
+    alloc: Global,
+    owners: &Owners,
+    moving: &Moving,
+    found: &[Owner],
+) -> Result<Vec<u32>, NoMemory>
     requires { found.now ≡ flat_map (staying_of owners.now moving.now.leaving.items) moving.now.changed.items }
     ensures rising { IfOk result (λ ids. IsStrictlyIncreasing ids.items) }
     ensures same { IfOk result (λ ids. (id : ℕ) → is_one_of ids.items id ≡ holds_changed moving.now.changed.items moving.now.leaving.items owners.now id) }
@@ -138,7 +147,13 @@ fn no_ends(alloc: Global, ids: &[u32]) -> Result<Vec<u64>, NoMemory>
 }
 
 // Where identifiers end by these owners.
-fn ends_among(alloc: Global, g: &Geometry, list: &[Owner], ids: &[u32], moving: &Moving) -> Result<Vec<u64>, NoMemory>
+fn ends_among(
+    alloc: Global,
+    g: &Geometry,
+    list: &[Owner],
+    ids: &[u32],
+    moving: &Moving,
+) -> Result<Vec<u64>, NoMemory>
     requires record { IsOfRecord g.now }
     requires sized { (o : Owner) → Contains list.now o → IsSized moving.now.longer o }
     requires rising { IsStrictlyIncreasing ids.now }
@@ -160,7 +175,14 @@ fn are_shared(owners: &Owners, ids: &[u32]) -> bool
 
 /// Where the identifiers of `moved_ids` end then, in bytes: each at the end of its last owner that stays. The owners are gone over once, and only if one of
 /// these identifiers has more than one.
-pub fn moved_ends(alloc: Global, g: &Geometry, owners: &Owners, moving: &Moving, found: &[Owner], ids: &[u32]) -> Result<Vec<u64>, NoMemory>
+pub fn moved_ends(
+    alloc: Global,
+    g: &Geometry,
+    owners: &Owners,
+    moving: &Moving,
+    found: &[Owner],
+    ids: &[u32],
+) -> Result<Vec<u64>, NoMemory>
     requires record { IsOfRecord g.now }
     requires sized { (o : Owner) → Contains owners.now o → IsSized moving.now.longer o }
     requires found { found.now ≡ flat_map (staying_of owners.now moving.now.leaving.items) moving.now.changed.items }

@@ -50,8 +50,7 @@ pub plan_needs-requires-clause-needs : goal.plan_needs-requires-clause-needs
 plan_needs-requires-clause-needs c =
     let s = (goal.at.plan_needs-requires-clause-needs c).After-deref in
     subst (λ (ns : List Need). All CanNeed ns) (sym (found s))
-    (needs_can c.args.map.now c.is_map.ensures.of_record (parts_of c.args.held.now) c.args.job.now c.args.wants.now c.args.bytes c.args.out c.in_ok-moving.moving c.in_ok-moved.moved (moving_is s) (moved_is s) c.requires.out
-    c.ranges.bytes.fits c.requires.placed c.requires.longer)
+    (needs_can c.args.map.now c.is_map.ensures.of_record (parts_of c.args.held.now) c.args.job.now c.args.wants.now c.args.bytes c.ranges.bytes.fits c.requires.placed c.requires.longer)
 
 pub plan_needs-requires-clause-ids : goal.plan_needs-requires-clause-ids
 plan_needs-requires-clause-ids c =

@@ -18,6 +18,6 @@ returns-else-are_shared c =
     let ids = c.args.ids.now in
     IfOk-weaker c.ends_among-else-are_shared.result (λ ends. ends.items ≡ map (last_end g leaving longer c.args.found.now) ids) (λ ends. ends.items ≡ map (last_end g leaving longer c.args.owners.now) ids)
     (λ ends is.
-        is ∙ ap (λ (os : List Owner). map (last_end g leaving longer os) ids) c.requires.found
-        ∙ unshared_ends c.args.owners.now c.args.moving.now.changed.items leaving c.list.ensures.nodes g longer ids (λ id h. sym (c.requires.ids id) ∙ h) (sym c.are_shared.ensures ∙ c.if-are_shared.false))
+    is ∙ ap (λ (os : List Owner). map (last_end g leaving longer os) ids) c.requires.found
+    ∙ unshared_ends c.args.owners.now c.args.moving.now.changed.items leaving c.list.ensures.nodes g longer ids (λ id h. sym (c.requires.ids id) ∙ h) (sym c.are_shared.ensures ∙ c.if-are_shared.false))
     c.ends_among-else-are_shared.ensures
