@@ -6,10 +6,13 @@ pub mod HoleLemmas
 pub mod ListLemmas
 pub mod MovingLemmas
 pub mod NeedsLemmas
+pub mod PlainLawLemmas
+pub mod PlainLemmas
 pub mod PlannedLemmas
 pub mod SetLemmas
 pub mod StayingLemmas
 pub mod StepLemmas
 pub mod SuitsLemmas
 pub mod TakingLemmas
+pub mod ViewLemmas
 pub mod ZoneLemmas

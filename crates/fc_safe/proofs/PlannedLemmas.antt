@@ -122,6 +122,17 @@ count_out : (out : Option Growth) → count_by is_new (out_need out) ≡ one_if 
 count_out None = refl
 count_out (Some g) = refl
 
+pub count_needs : (m : Map) (h : Parts) (s : Stir) (bytes : ℕ) → count_by is_new (needs_by m h s bytes) ≡ one_if (nat_lt 0 bytes) + one_if (is_some s.out)
+count_needs m h s bytes =
+    count_append (own_need bytes) (map (need_of (last_end m.geometry s.leaving s.longer h.owners)) (ids_of m h s) ++ out_need s.out)
+    ∙ ap₂ (λ (a b : ℕ). a + b) (count_own bytes)
+    (count_append (map (need_of (last_end m.geometry s.leaving s.longer h.owners)) (ids_of m h s)) (out_need s.out)
+    ∙ ap₂ (λ (a b : ℕ). a + b) (count_moved (last_end m.geometry s.leaving s.longer h.owners) (ids_of m h s)) (count_out s.out))
+    ∙ zero_left (one_if (nat_lt 0 bytes)) (one_if (is_some s.out))
+  where
+    zero_left : (a b : ℕ) → a + (0 + b) ≡ a + b
+    zero_left a b = omega arith
+
 -- ---- all of them
 
 -- what goes out is what grows
@@ -169,15 +180,7 @@ module _ (m : Map) (of : IsOfRecord m.geometry) (h : Parts) (job : Job) (w : Wan
       (ap (paired_needs p.ids.items) ends_are ∙ paired_map (last_end m.geometry s.leaving s.longer h.owners) p.ids.items ∙ ap (map (need_of (last_end m.geometry s.leaving s.longer h.owners))) ids_are) goes
 
   pub news_are : count_by is_new (needs_by m h s bytes) ≡ one_if (nat_lt 0 bytes) + one_if (is_some out)
-  news_are =
-      count_append (own_need bytes) (map (need_of (last_end m.geometry s.leaving s.longer h.owners)) (ids_of m h s) ++ out_need s.out)
-      ∙ ap₂ (λ (a b : ℕ). a + b) (count_own bytes)
-      (count_append (map (need_of (last_end m.geometry s.leaving s.longer h.owners)) (ids_of m h s)) (out_need s.out)
-      ∙ ap₂ (λ (a b : ℕ). a + b) (count_moved (last_end m.geometry s.leaving s.longer h.owners) (ids_of m h s)) (count_out s.out ∙ ap (λ (o : Option Growth). one_if (is_some o)) (sym goes)))
-      ∙ zero_left (one_if (nat_lt 0 bytes)) (one_if (is_some out))
-    where
-      zero_left : (a b : ℕ) → a + (0 + b) ≡ a + b
-      zero_left a b = omega arith
+  news_are = count_needs m h s bytes ∙ ap (λ (o : Option Growth). one_if (nat_lt 0 bytes) + one_if (is_some o)) (sym goes)
 
 -- ---- refusals
 

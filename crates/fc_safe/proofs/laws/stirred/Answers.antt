@@ -1,0 +1,6 @@
+use Rattle.fc_safe.proofs.ViewLemmas.{stir_law}
+use Rattle.fc_safe.proofs.PlainLawLemmas.{back_zones}
+use Rattle.fc_safe.proofs.laws.stirred.Goals as goal
+
+pub returns : goal.returns
+returns c = stir_law
