@@ -1,6 +1,7 @@
 pub mod CoverLemmas
 pub mod ExtentLemmas
 pub mod FirstLemmas
+pub mod GivenLemmas
 pub mod GoneLemmas
 pub mod HoleLemmas
 pub mod ListLemmas

@@ -1,5 +1,5 @@
 -- `delete`, `set` and `mark` are refused in the safe mode as the nodes tell it, and have what they need.
-use Rattle.std.proofs.Common.{◌≡◌, ◌<◌, ◌≤◌, ◌&&◌, ◌||◌, ◌==◌, ◌⊎◌, inl, inr, ℕ, zero, suc, ◌+◌, Bool, true, false, cond, List, [], ◌∷◌, ◌++◌, length, map, refl, sym, ap, ap₂, subst, ◌∙◌, arith, eq-eqb, Some, None, Option}
+use Rattle.std.proofs.Common.{◌≡◌, ◌<◌, ◌≤◌, ◌&&◌, ◌||◌, ◌==◌, ◌⊎◌, inl, inr, ℕ, zero, suc, ◌+◌, ◌-◌, Bool, true, false, cond, List, [], ◌∷◌, ◌++◌, length, map, refl, sym, ap, ap₂, subst, ◌∙◌, arith, eq-eqb, Some, None, Option}
 use Rattle.std.specs.Prelude.{Contains, count_by, filter, is_some, nat_le, nat_lt, not}
 use Rattle.std.specs.List.{flat_map, list_any, range_with_len}
 use Rattle.std.specs.Option.{option_map_or, option_to_list}
@@ -7,6 +7,7 @@ use Rattle.std.proofs.lemmas.Bool.{and_parts, cases_Bool, eqb-true, le-leb, lt-l
 use Rattle.std.proofs.lemmas.List.Elements.{filter_agree}
 use Rattle.fc_alloc.specs.declared.owner.Owner.{Owner}
 use Rattle.fc_alloc.specs.Owners.{owns}
+use Rattle.fc_device.specs.Numbers.{is_listed as is_in}
 use Rattle.fc_names.specs.Names.{Path, is_directory}
 use Rattle.fc_names.specs.declared.refusal.Refusal.TheVariants as refusals
 use Rattle.fc_drafts.specs.declared.room.Room.TheVariants as rooms
@@ -49,6 +50,7 @@ use Rattle.fc_safe.specs.Needs.{AreMet, HaveIds, IsIdOf, bits_of, is_new, parts_
 use Rattle.fc_safe.specs.Staying.{last_end as owners_end}
 use Rattle.fc_safe.specs.Views.{IsPlain, IsPlainFor, IsViewOf, PlainLaw, StirsAs}
 use Rattle.fc_safe.specs.declared.needs.Need.{Need}
+use Rattle.fc_safe.proofs.GivenLemmas.{back_zones, changed_high, given_high, parts_zone}
 use Rattle.fc_safe.proofs.ListLemmas.{any_of, found_of, from_flat, in_flat, passes, same_test}
 use Rattle.fc_safe.proofs.PlainLemmas.{marks_stir, marks_stirs, plain_stir, removal_stir, removal_stirs, words_stir, words_stirs}
 use Rattle.fc_safe.proofs.PlannedLemmas.{count_needs}
@@ -56,162 +58,243 @@ use Rattle.fc_safe.proofs.SetLemmas.{of_one, one_of}
 use Rattle.fc_safe.proofs.ViewLemmas.{given_same, holds_same, ids_same, needs_same}
 use Rattle.fc_safe.proofs.ZoneLemmas.{in_range}
 
--- ---- identifiers of objects
+-- ---- the three jobs
 
-each_at : (v : Opened) (m : Map) → Rattle.fc_image.specs.Sound.AreSound v.layout v.listings → (o : Object) → Contains (objects_of v.listings) o → IsAt v.layout o
-each_at v m sound o at =
-    (Each-contains (Lies v.layout sound.reserved) (objects_of v.listings) o
-    (Each-objects (Lies v.layout sound.reserved) v.listings (walk_lies sound.read v.layout sound.reserved sound.address sound.size v.listings sound.walked)) at).placed
+-- A job that needs no new object, with what it stirs and the room it has.
+pub record IsPlainOf (m : Map) (h : Parts) (v : Opened) (c : Command) (job : Job) (w : Wants) : Type 0 where
+  pub dir : ℕ
+  pub goes : Option ℕ
+  pub still : w.grows ≡ None
+  pub no_bytes : w.bytes ≡ 0
+  pub no_share : w.shares ≡ None
+  pub stir : stir_of m h job w ≡ plain_stir dir goes
+  pub stirs : StirsAs m h v c (plain_stir dir goes)
+  pub no_units : 0 ≡ object_units m v c
+  pub no_slack : (id : ℕ) → false ≡ takes_slack v c id
+  pub enough : short v c ≡ None
+  pub no_root : root_grows v c ≡ false
 
--- What has sectors has an identifier that an object may have.
-own_object_id : (m : Map) (address bytes : ℕ) (xs : List ℕ) → sectors_at (Layout.New m) address bytes ≡ Some xs → nat_lt 0 (length xs) ≡ true → is_object_id m (id_of address) ≡ true
-unfolding sectors_at
-own_object_id m address bytes xs e some = by (bytes == 0) e
+room_still : (grows : Option Growth) → room_of grows ≡ rooms.Fits → grows ≡ None
+room_still None e = refl
+room_still (Some g) e = absurd (cc)
+
+below_zero : (n : ℕ) → nat_lt n 0 ≡ false
+below_zero n = grind (arith, Rattle.std.proofs.lemmas.Bool.Decides.nat_tests)
+
+enough_for : (ids bits : ℕ) → first_of (when (nat_lt ids 0) refusals.IdsFull ∷ when (nat_lt bits 0) refusals.DiscFull ∷ []) ≡ None
+enough_for ids bits = ap₂ (λ (a b : Bool). first_of (when a refusals.IdsFull ∷ when b refusals.DiscFull ∷ [])) (below_zero ids) (below_zero bits)
+
+delete_enough : (m : Map) (v : Opened) (path : Path) → v.layout ≡ Layout.New m → short v (Command.Delete path) ≡ None
+unfolding short
+delete_enough m v path is = ap (λ (l : Layout). first_of (space_reasons l v (Command.Delete path))) is ∙ enough_for (length (new_ids m)) (bits_in (hole_runs m))
+
+set_enough : (m : Map) (v : Opened) (path : Path) (load exec access : ℕ) → v.layout ≡ Layout.New m → short v (Command.Set path load exec access) ≡ None
+unfolding short
+set_enough m v path load exec access is = ap (λ (l : Layout). first_of (space_reasons l v (Command.Set path load exec access))) is ∙ enough_for (length (new_ids m)) (bits_in (hole_runs m))
+
+mark_enough : (m : Map) (v : Opened) (path : Path) (attrs : ℕ) → v.layout ≡ Layout.New m → short v (Command.Mark path attrs) ≡ None
+unfolding short
+mark_enough m v path attrs is = ap (λ (l : Layout). first_of (space_reasons l v (Command.Mark path attrs))) is ∙ enough_for (length (new_ids m)) (bits_in (hole_runs m))
+
+plain_of : (m : Map) (h : Parts) (v : Opened) (c : Command) (job : Job) (w : Wants) → IsPlainFor m h v c job w → IsPlainOf m h v c job w
+plain_of m h v c job w is = by c job is.plain is.job_is is.wants
   where
-    from : (b : Bool) → is_object_id m (id_of address) ≡ b
-        → cond b (first_part (Rattle.std.specs.Int.div_ceil bytes m.geometry.sector) (Rattle.std.specs.Prelude.drop (low_start m (low_of address)) (id_sectors m (id_of address)))) None ≡ Some xs → b ≡ true
-    from true f g = refl
-    from false f g = absurd (cc)
+    by : (d : Command) (j : Job) → IsPlain j → Rattle.fc_change.specs.Jobs.IsJob h.nodes v.listings d j is.name → AreWants h j is.name w → IsPlainOf m h v d j w
+    by (Command.Delete path) (jobs.Removal t) plain job_is wants = record {
+      dir = t.holder;
+      goes = Some t.node;
+      still = room_still w.grows wants.room;
+      no_bytes = wants.bytes;
+      no_share = wants.slack;
+      stir = removal_stir m h t w (room_still w.grows wants.room) wants.copy wants.left;
+      stirs = removal_stirs m h v path t is.view job_is.target;
+      no_units = refl;
+      no_slack = λ id. refl;
+      enough = delete_enough m v path is.view.layout;
+      no_root = refl;
+    }
+    by (Command.Set path load exec access) (jobs.Words t words) plain job_is wants = record {
+      dir = t.holder;
+      goes = None;
+      still = room_still w.grows wants.room;
+      no_bytes = wants.bytes;
+      no_share = wants.slack;
+      stir = words_stir m h t words w (room_still w.grows wants.room) wants.copy wants.left;
+      stirs = words_stirs m h v path load exec access t is.view job_is.0;
+      no_units = refl;
+      no_slack = λ id. refl;
+      enough = set_enough m v path load exec access is.view.layout;
+      no_root = refl;
+    }
+    by (Command.Mark path attrs) (jobs.Marks t marks) plain job_is wants = record {
+      dir = t.holder;
+      goes = None;
+      still = room_still w.grows wants.room;
+      no_bytes = wants.bytes;
+      no_share = wants.slack;
+      stir = marks_stir m h t marks w (room_still w.grows wants.room) wants.copy wants.left;
+      stirs = marks_stirs m h v path attrs t is.view job_is.0;
+      no_units = refl;
+      no_slack = λ id. refl;
+      enough = mark_enough m v path attrs is.view.layout;
+      no_root = refl;
+    }
+    by (Command.Cat path) (jobs.Removal t) plain job_is wants = absurd job_is
+    by (Command.Load path) (jobs.Removal t) plain job_is wants = absurd job_is
+    by (Command.Digest path) (jobs.Removal t) plain job_is wants = absurd job_is
+    by (Command.Save path load exec bytes) (jobs.Removal t) plain job_is wants = absurd job_is
+    by (Command.Create path load exec len) (jobs.Removal t) plain job_is wants = absurd job_is
+    by (Command.Cdir path) (jobs.Removal t) plain job_is wants = absurd job_is
+    by (Command.Rename from to) (jobs.Removal t) plain job_is wants = absurd job_is
+    by (Command.Set path load exec access) (jobs.Removal t) plain job_is wants = absurd job_is
+    by Command.Free (jobs.Removal t) plain job_is wants = absurd job_is
+    by Command.Check (jobs.Removal t) plain job_is wants = absurd job_is
+    by Command.Compact (jobs.Removal t) plain job_is wants = absurd job_is
+    by Command.Reclaim (jobs.Removal t) plain job_is wants = absurd job_is
+    by (Command.Mark path attrs) (jobs.Removal t) plain job_is wants = absurd job_is
+    by (Command.Cat path) (jobs.Words t words) plain job_is wants = absurd job_is
+    by (Command.Load path) (jobs.Words t words) plain job_is wants = absurd job_is
+    by (Command.Digest path) (jobs.Words t words) plain job_is wants = absurd job_is
+    by (Command.Save path load exec bytes) (jobs.Words t words) plain job_is wants = absurd job_is
+    by (Command.Create path load exec len) (jobs.Words t words) plain job_is wants = absurd job_is
+    by (Command.Cdir path) (jobs.Words t words) plain job_is wants = absurd job_is
+    by (Command.Delete path) (jobs.Words t words) plain job_is wants = absurd job_is
+    by (Command.Rename from to) (jobs.Words t words) plain job_is wants = absurd job_is
+    by Command.Free (jobs.Words t words) plain job_is wants = absurd job_is
+    by Command.Check (jobs.Words t words) plain job_is wants = absurd job_is
+    by Command.Compact (jobs.Words t words) plain job_is wants = absurd job_is
+    by Command.Reclaim (jobs.Words t words) plain job_is wants = absurd job_is
+    by (Command.Mark path attrs) (jobs.Words t words) plain job_is wants = absurd job_is
+    by (Command.Cat path) (jobs.Marks t marks) plain job_is wants = absurd job_is
+    by (Command.Load path) (jobs.Marks t marks) plain job_is wants = absurd job_is
+    by (Command.Digest path) (jobs.Marks t marks) plain job_is wants = absurd job_is
+    by (Command.Save path load exec bytes) (jobs.Marks t marks) plain job_is wants = absurd job_is
+    by (Command.Create path load exec len) (jobs.Marks t marks) plain job_is wants = absurd job_is
+    by (Command.Cdir path) (jobs.Marks t marks) plain job_is wants = absurd job_is
+    by (Command.Delete path) (jobs.Marks t marks) plain job_is wants = absurd job_is
+    by (Command.Rename from to) (jobs.Marks t marks) plain job_is wants = absurd job_is
+    by (Command.Set path load exec access) (jobs.Marks t marks) plain job_is wants = absurd job_is
+    by Command.Free (jobs.Marks t marks) plain job_is wants = absurd job_is
+    by Command.Check (jobs.Marks t marks) plain job_is wants = absurd job_is
+    by Command.Compact (jobs.Marks t marks) plain job_is wants = absurd job_is
+    by Command.Reclaim (jobs.Marks t marks) plain job_is wants = absurd job_is
+    by d (jobs.File slot words) plain job_is wants = absurd plain
+    by d (jobs.Directory dir) plain job_is wants = absurd plain
+    by d (jobs.Move renaming) plain job_is wants = absurd plain
 
-    by : (b : Bool) → cond b (Some []) (new_sectors m address bytes) ≡ Some xs → is_object_id m (id_of address) ≡ true
-    by true f = absurd (let none : [] ≡ xs = cc in let bad : false ≡ true = ap (λ (ys : List ℕ). nat_lt 0 (length ys)) none ∙ some in cc)
-    by false f = from (is_object_id m (id_of address)) refl f
+module _ (m : Map) (h : Parts) (v : Opened) (c : Command) (job : Job) (w : Wants) (is : IsPlainFor m h v c job w) (p : IsPlainOf m h v c job w) where
+  abbrev s : Stir
+  s = stir_of m h job w
 
-module _ (m : Map) (h : Parts) (v : Opened) (view : IsViewOf m h v) where
-  id_may : (o : Object) → Contains (objects_of v.listings) o → has_sectors o ≡ true → is_object_id m (id_of o.entry.address) ≡ true
-  id_may o at some =
-      own_object_id m o.entry.address (object_size (dir_form v.layout) o.entry) o.sectors (subst (λ (l : Layout). sectors_at l o.entry.address (object_size (dir_form v.layout) o.entry) ≡ Some o.sectors) view.layout (each_at v m view.sound o at)) some
+  stirred : StirsAs m h v c s
+  stirred = subst (StirsAs m h v c) (sym p.stir) p.stirs
 
-  pub owner_low : (id : ℕ) (o : Object) → Contains (objects_of v.listings) o → is_owner_of id o ≡ true → (2 ≤ id) × (id < id_limit m.geometry)
-  owner_low id o at owner =
-      let both = and_parts (has_sectors o) (id_of o.entry.address == id) owner in
-      let may = and_parts (nat_le 2 (id_of o.entry.address)) (nat_lt (id_of o.entry.address) (id_limit m.geometry)) (id_may o at both.0) in
-      let same = eqb-true (id_of o.entry.address) id both.1 in
-      let low = Rattle.std.proofs.lemmas.Bool.leb-true 2 (id_of o.entry.address) may.0 in
-      let high = Rattle.std.proofs.lemmas.Bool.ltb-true (id_of o.entry.address) (id_limit m.geometry) may.1 in
-      (omega (arith, low, same), omega (arith, high, same))
-
-  owns_of : (c : Command) (id : ℕ) (o : Object) → remains_in v c id o ≡ true → is_owner_of id o ≡ true
-  owns_of c id o e = first (is_owner_of id o) _ _ _ e
+  none_left : bytes_left m h.owners w ≡ 0
+  none_left = by (is_some (slack_for m h.owners w))
     where
-      first : (a b d f : Bool) → (a && b && d && f) ≡ true → a ≡ true
-      first true b d f g = refl
-      first false b d f g = absurd (cc)
+      by : (b : Bool) → (let n : ℕ = cond b 0 w.bytes in n) ≡ 0
+      by true = refl
+      by false = p.no_bytes
 
-  -- In a volume that suits no directory lies in the map's identifier.
-  pub changed_high : (c : Command) → is_suitable v ≡ true → (id : ℕ) → holds_changed v c id ≡ true → (3 ≤ id) × (id < id_limit m.geometry)
-  changed_high c suit id holds =
-      let r = found_of (λ (o : Object). is_changed_directory v c o && remains_in v c id o) (objects_of v.listings) holds in
-      let both = and_parts (is_changed_directory v c r.0) (remains_in v c id r.0) r.2 in
-      let owner = owns_of c id r.0 both.1 in
-      let at = owner_low id r.0 r.1 owner in
-      let dir = directory r.0 both.0 in
-      let own = and_parts (has_sectors r.0) (id_of r.0.entry.address == id) owner in
-      let low = at.0 in (
-        more id low (λ two. (let here : (id_of r.0.entry.address == 2) ≡ true = eq-eqb (id_of r.0.entry.address) 2 (eqb-true (id_of r.0.entry.address) id own.1 ∙ two) in
-        let bad : true ≡ false = sym (ap₂ (λ (a b : Bool). a && b) dir here) ∙ none_low r.0 r.1 in cc)),
-        at.1,
-      )
-    where
-      directory : (o : Object) → is_changed_directory v c o ≡ true → is_directory_object o ≡ true
-      directory o e = by (is_directory_object o) _ _ e
-        where
-          by : (a b d : Bool) → (a && b && d) ≡ true → a ≡ true
-          by true b d g = refl
-          by false b d g = absurd (cc)
+  -- the needs
+  needs_are : first_needs m h job w ≡ needs_by m h s 0
+  needs_are = ap (needs_by m h s) none_left
 
-      more : (n : ℕ) → 2 ≤ n → (n ≡ 2 → ⊥) → 3 ≤ n
-      more n low apart = elim (Rattle.std.proofs.lemmas.Bool.cases_eq n 2) [ | inl two ↦ absurd (apart two) | inr other ↦ omega (arith, low, other) ]
+  bits_are : bits_of m.geometry (first_needs m h job w) ≡ needs m v c
+  bits_are = ap (bits_of m.geometry) needs_are ∙ needs_same m h v c s is.view stirred 0 p.no_units
 
-      none_low : (o : Object) → Contains (objects_of v.listings) o → (is_directory o.entry.attrs && (id_of o.entry.address == 2)) ≡ false
-      none_low o at = elim (cases_Bool (is_directory o.entry.attrs && (id_of o.entry.address == 2))) [
-        | inr none ↦ none
-        | inl low ↦ absurd (
-            let there = any_of (λ (e : Entry). is_directory e.attrs && (id_of e.address == 2)) (map (λ (p : Object). p.entry) (objects_of v.listings)) o.entry (in_mapped (λ (p : Object). p.entry) (objects_of v.listings) o at) low in
-            let suited : suits (Layout.New m) (map (λ (p : Object). p.entry) (objects_of v.listings)) ≡ true = ap (λ (l : Layout). suits l (map (λ (p : Object). p.entry) (objects_of v.listings))) (sym view.layout) ∙ suit in
-            let none = and_parts (not (m.geometry.version == 0)) (not (list_any (λ (e : Entry). is_directory e.attrs && (id_of e.address == 2)) (map (λ (p : Object). p.entry) (objects_of v.listings)))) suited in
-            let bad : false ≡ true = sym (ap not there) ∙ none.1 in cc)
-      ]
+  pub fitted_is : fitted m (bits_of m.geometry (first_needs m h job w)) (hole_runs m) ≡ fitted_needs m v c
+  fitted_is = ap (λ (bits : List ℕ). fitted m bits (hole_runs m)) bits_are
 
-  pub given_high : (c : Command) → is_suitable v ≡ true → (id : ℕ) → is_given_up m v c id ≡ true → id < id_limit m.geometry
-  given_high c suit id given = elim (or_cases (holds_changed v c id) (loses_owner v c id) given) [
-    | inl holds ↦ (changed_high c suit id holds).1
-    | inr loses ↦
-        (let some : list_any (is_owner_of id) (objects_of v.listings) ≡ true = first (list_any (is_owner_of id) (objects_of v.listings)) _ _ loses in
-        let r = found_of (is_owner_of id) (objects_of v.listings) some in
-        (owner_low id r.0 r.1 r.2).1)
+  no_ids : has_ids_for m (first_needs m h job w) ≡ true
+  no_ids =
+      let count : count_by is_new (first_needs m h job w) ≡ 0 = ap (λ (ns : List Need). count_by is_new ns) needs_are ∙ count_needs m h s 0 ∙ ap (λ (x : Stir). Rattle.fc_image.specs.effects.Short.one_if (nat_lt 0 0) + Rattle.fc_image.specs.effects.Short.one_if (is_some x.out)) p.stir in
+      ap (λ (n : ℕ). nat_le n (length (new_ids m))) count ∙ le-leb 0 (length (new_ids m)) (omega arith)
+
+  -- what goes back
+  shares_none : shared_by m h.owners w ≡ None
+  shares_none = ap (λ (o : Option ℕ). Rattle.std.specs.Option.option_map (λ (share : ℕ × ℕ). share.0) (Rattle.std.specs.Option.option_and_then (λ (dir : ℕ). Rattle.fc_placing.specs.Places.slack_left m h.owners dir w.bytes) o)) p.no_share
+
+  goes_is : (id : ℕ) → 3 ≤ id → goes h s (shared_by m h.owners w) id ≡ is_given_up m v c id
+  goes_is id low = given_same m h v c s is.view stirred (shared_by m h.owners w) id (ap (λ (o : Option ℕ). is_kept o id) shares_none ∙ p.no_slack id) low
+
+  goes_low : (id : ℕ) → goes h s (shared_by m h.owners w) id ≡ true → 3 ≤ id
+  goes_low id e = elim (or_cases (Rattle.fc_safe.specs.Staying.holds_changed s.changed s.leaving h.owners id) (Rattle.fc_safe.specs.Gone.is_lost_by s.leaving (shared_by m h.owners w) h.owners id) e) [
+    | inl holds ↦ (changed_high m h v is.view c is.suits id (sym (holds_same m h v c s is.view stirred id) ∙ holds)).0
+    | inr lost ↦
+        (let both = and_parts (list_any (owns id) h.owners) (Rattle.fc_safe.specs.Gone.is_left s.leaving (shared_by m h.owners w) h.owners id) lost in
+        Rattle.std.proofs.lemmas.Bool.ltb-true 2 id (and_parts (nat_lt 2 id) _ both.1).0)
   ]
+
+  one_is : (id : ℕ) → is_one_of (first_gone m h job w) id ≡ (nat_lt id (id_limit m.geometry) && goes h s (shared_by m h.owners w) id)
+  one_is id = in_range (goes h s (shared_by m h.owners w)) (id_limit m.geometry) id
+
+  pub given_is : (id : ℕ) → 3 ≤ id → is_one_of (first_gone m h job w) id ≡ is_given_up m v c id
+  given_is id low = one_is id ∙ ap (λ (b : Bool). nat_lt id (id_limit m.geometry) && b) (goes_is id low) ∙ by (is_given_up m v c id) refl
     where
-      first : (a b d : Bool) → (a && b && d) ≡ true → a ≡ true
-      first true b d g = refl
-      first false b d g = absurd (cc)
+      by : (b : Bool) → is_given_up m v c id ≡ b → (nat_lt id (id_limit m.geometry) && b) ≡ b
+      by true e = ap (λ (a : Bool). a && true) (lt-ltb id (id_limit m.geometry) (given_high m h v is.view c is.suits id e))
+      by false e = none (nat_lt id (id_limit m.geometry))
+        where
+          none : (a : Bool) → (a && false) ≡ false
+          none true = refl
+          none false = refl
 
--- ---- zones
+  gone_low : (id : ℕ) → is_one_of (first_gone m h job w) id ≡ true → 3 ≤ id
+  gone_low id e = goes_low id (and_parts (nat_lt id (id_limit m.geometry)) (goes h s (shared_by m h.owners w) id) (sym (one_is id) ∙ e)).1
 
-kind_is : (k : RunKind) (t : ℕ → Bool) → has_id_that t k ≡ true → (id : ℕ) × (k ≡ kinds.Id id) × (t id ≡ true)
-kind_is kinds.Hole t e = absurd (cc)
-kind_is (kinds.Id id) t e = (id, refl, e)
+  -- ---- zones
 
-id_kind : (k : RunKind) (id : ℕ) → has_id id k ≡ true → k ≡ kinds.Id id
-id_kind kinds.Hole id e = absurd (cc)
-id_kind (kinds.Id j) id e = ap kinds.Id (eqb-true j id e)
-
-module _ (m : Map) (some : 1 ≤ m.geometry.zones) (given : ℕ → Bool) (gone : List ℕ) (same : (id : ℕ) → 3 ≤ id → is_one_of gone id ≡ given id) (low : (id : ℕ) → is_one_of gone id ≡ true → 3 ≤ id)
-    (high : (id : ℕ) → given id ≡ true → id < id_limit m.geometry) where
-  abbrev back : ℕ → List ZoneRun
-  back id = cond (given id) (id_runs m id) []
-
-  abbrev ids : List ℕ
-  ids = range_with_len 3 (id_limit m.geometry - 3)
-
-  in_ids : (id : ℕ) → 3 ≤ id → id < id_limit m.geometry → Contains ids id
-  in_ids id least most = (id - 3, (let size = Rattle.std.proofs.lemmas.List.FromFn.length-range_with_len 3 (id_limit m.geometry - 3) in omega (arith, size, least, most)),
-    Rattle.std.proofs.lemmas.List.FromFn.get_or-range_with_len 3 (id_limit m.geometry - 3) (id - 3) id (omega (arith, least, most)) ∙ omega (arith, least))
-
-  ids_low : (id : ℕ) → Contains ids id → 3 ≤ id
-  ids_low id at =
-      let size = Rattle.std.proofs.lemmas.List.FromFn.length-range_with_len 3 (id_limit m.geometry - 3) in
-      let l = at.1 in
-      let here = Rattle.std.proofs.lemmas.List.FromFn.get_or-range_with_len 3 (id_limit m.geometry - 3) at.0 id (omega (arith, l, size)) in
-      let e = at.2 in
-      omega (arith, here, e)
-
-  -- A zone has a run that goes back, by either list.
-  pub back_zones : (z : ℕ) → z < m.geometry.zones → list_any (λ (p : ZoneRun). p.0 == z) (flat_map back ids) ≡ has_run_of gone (runs_of m z)
-  back_zones z below = same_test (list_any (λ (p : ZoneRun). p.0 == z) (flat_map back ids)) (has_run_of gone (runs_of m z)) there return
+  zones_is : (parts : List (List ZoneRun)) → zones_turned m parts (first_gone m h job w) false ≡ changed_zones m v c parts
+  zones_is parts =
+      ap (λ (xs : List ℕ). length xs)
+      (Rattle.fc_safe.proofs.StepLemmas.filter_in (λ (z : ℕ). (list_any (λ (ps : List ZoneRun). has_part ps z) parts || has_run_of (first_gone m h job w) (runs_of m z)) || (false && (z == 0)))
+      (λ (z : ℕ). list_any (λ (q : ZoneRun). q.0 == z) (flat_map (λ (ps : List ZoneRun). ps) parts ++ places_given_up m v c) || ((z == 0) && root_grows v c)) (zone_numbers m.geometry)
+      (λ z at.
+      ap₂ (λ (a b : Bool). (a || b) || false) (sym (parts_zone parts z))
+      (sym (back_zones m (geometry_facts m.geometry is.view.is_map.of_record).zones (is_given_up m v c) (first_gone m h job w) given_is gone_low (given_high m h v is.view c is.suits) z (Rattle.fc_safe.proofs.StepLemmas.range_low m.geometry.zones z at)))
+      ∙ ap (λ (b : Bool). b || false) (sym (any_append (λ (q : ZoneRun). q.0 == z) (flat_map (λ (ps : List ZoneRun). ps) parts) (places_given_up m v c)))
+      ∙ ap (λ (b : Bool). list_any (λ (q : ZoneRun). q.0 == z) (flat_map (λ (ps : List ZoneRun). ps) parts ++ places_given_up m v c) || b) (sym (ap (λ (b : Bool). (z == 0) && b) p.no_root ∙ none (z == 0)))))
     where
-      there : list_any (λ (p : ZoneRun). p.0 == z) (flat_map back ids) ≡ true → has_run_of gone (runs_of m z) ≡ true
-      there h =
-          let r = found_of (λ (p : ZoneRun). p.0 == z) (flat_map back ids) h in
-          let s = from_flat back ids r.0 r.1 in
-          by s.0 r.0 (ids_low s.0 s.1) (given s.0) refl s.2 (eqb-true r.0.0 z r.2)
-        where
-          by : (id : ℕ) (p : ZoneRun) → 3 ≤ id → (b : Bool) → given id ≡ b → Contains (cond b (id_runs m id) []) p → p.0 ≡ z → has_run_of gone (runs_of m z) ≡ true
-          by id p least false e (k, l, f) zone = absurd (omega (arith, l))
-          by id p least true e at zone =
-              let run = id_run_in m id p some at in
-              let spot = from_map (λ (q : Run). (p.0, q)) (runs_of m p.0) p (zone_in m (zone_numbers m.geometry) p run.0).1 in
-              let kind : spot.0.kind ≡ kinds.Id id = ap (λ (q : ZoneRun). q.1.kind) spot.2 ∙ id_kind p.1.kind id run.1 in
-              any_of (λ (q : Run). has_id_that (is_one_of gone) q.kind) (runs_of m z) spot.0 (subst (λ (k : ℕ). Contains (runs_of m k) spot.0) zone spot.1)
-              (ap (has_id_that (is_one_of gone)) kind ∙ same id least ∙ e)
+      none : (a : Bool) → (a && false) ≡ false
+      none true = refl
+      none false = refl
 
-      return : has_run_of gone (runs_of m z) ≡ true → list_any (λ (p : ZoneRun). p.0 == z) (flat_map back ids) ≡ true
-      return h =
-          let r = found_of (λ (q : Run). has_id_that (is_one_of gone) q.kind) (runs_of m z) h in
-          let k = kind_is r.0.kind (is_one_of gone) r.2 in
-          let least = low k.0 k.2 in
-          let gives : given k.0 ≡ true = sym (same k.0 least) ∙ k.2 in
-          let p : ZoneRun = (z, r.0) in
-          let among : Contains (all_runs m) p = in_zone m (zone_numbers m.geometry) p (zone_there z below) (in_mapped (λ (q : Run). (z, q)) (runs_of m z) r.0 r.1) in
-          let own = in_id_runs m k.0 p some among (ap (has_id k.0) k.1 ∙ eq-eqb k.0 k.0 refl) in
-          any_of (λ (q : ZoneRun). q.0 == z) (flat_map back ids) p
-          (in_flat back ids k.0 p (in_ids k.0 least (high k.0 gives)) (subst (λ (b : Bool). Contains (cond b (id_runs m k.0) []) p) (sym gives) own)) (eq-eqb z z refl)
-        where
-          zone_there : (y : ℕ) → y < m.geometry.zones → Rattle.fc_newmap.proofs.PlaceLemmas.is_in (zone_numbers m.geometry) y ≡ true
-          zone_there y lower = any_of (λ (x : ℕ). x == y) (zone_numbers m.geometry) y
-              (y, (let size = Rattle.std.proofs.lemmas.List.FromFn.length-range_with_len 0 m.geometry.zones in omega (arith, size, lower)), Rattle.std.proofs.lemmas.List.FromFn.get_or-range_with_len 0 m.geometry.zones y y lower ∙ omega arith) (eq-eqb y y refl)
+  -- ---- refusals
 
-parts_zone : (parts : List (List ZoneRun)) (z : ℕ) → list_any (λ (p : ZoneRun). p.0 == z) (flat_map (λ (ps : List ZoneRun). ps) parts) ≡ list_any (λ (ps : List ZoneRun). has_part ps z) parts
-parts_zone [] z = refl
-parts_zone (ps ∷ parts) z =
-    any_append (λ (p : ZoneRun). p.0 == z) ps (flat_map (λ (qs : List ZoneRun). qs) parts) ∙ ap (λ (b : Bool). has_part ps z || b) (parts_zone parts z)
+  pub short_is : safe_short m v c ≡ first_shortage m h job w
+  unfolding safe_short
+  short_is =
+      ap (λ (o : Option Rattle.fc_names.specs.declared.refusal.Refusal.Refusal). Rattle.fc_image.specs.safe.SafeShort.safe_or (Rattle.fc_image.specs.safe.SafeShort.early_refusal o) (fit_refusal m v c (fitted_needs m v c))) p.enough
+      ∙ by (fitted_needs m v c)
+      ∙ sym (ap₂ (λ (r : Bool) (o : Option (List (List ZoneRun))). spread_if m (first_gone m h job w) r o) (ap turns_root p.still) fitted_is)
+      ∙ sym (ap (λ (b : Bool). let o : Option SafeRefusal = cond b (unfit m (first_needs m h job w) (first_gone m h job w) (turns_root w.grows)) (Some (SafeRefusal.Refused refusals.IdsFull)) in o) no_ids)
+    where
+      by : (o : Option (List (List ZoneRun))) → fit_refusal m v c o ≡ spread_if m (first_gone m h job w) false o
+      by None = refl
+      by (Some parts) = ap spread_or (sym (zones_is parts))
+
+  -- ---- plans
+
+  one_need : (end : ℕ → ℕ) (held new left : List ℕ) (plans : List Plan) → HaveIds new (map (need_of end) held) plans left → map (λ (q : Plan). q.id) plans ≡ held
+  one_need end [] new left [] have = refl
+  one_need end [] new left (q ∷ plans) have = absurd have
+  one_need end (id ∷ held) new left [] have = absurd have
+  one_need end (id ∷ held) new left (q ∷ plans) have = ap₂ (λ (x : ℕ) (xs : List ℕ). x ∷ xs) have.1.0 (one_need end held have.0 left plans have.2)
+
+  moved_only : needs_by m h s 0 ≡ map (need_of (owners_end m.geometry s.leaving s.longer h.owners)) (ids_of m h s)
+  moved_only =
+      ap (λ (x : Stir). map (need_of (owners_end m.geometry s.leaving s.longer h.owners)) (ids_of m h s) ++ out_need x.out) p.stir ∙ Rattle.std.proofs.Common.append-nil (map (need_of (owners_end m.geometry s.leaving s.longer h.owners)) (ids_of m h s))
+
+  pub plan_ids : (plans : List Plan) → AreMet m (first_needs m h job w) plans → map (λ (q : Plan). q.id) plans ≡ changed_ids m v c
+  plan_ids plans met =
+      one_need (owners_end m.geometry s.leaving s.longer h.owners) (ids_of m h s) (new_ids m) met.left plans (subst (λ (ns : List Need). HaveIds (new_ids m) ns plans met.left) (needs_are ∙ moved_only) met.ids)
+      ∙ ids_same m h v c s is.view stirred
+
+pub plain_law : PlainLaw
+plain_law = record {
+  short = λ m h v c job w is. short_is m h v c job w is (plain_of m h v c job w is);
+  fitted = λ m h v c job w plans is met. sym (fitted_is m h v c job w is (plain_of m h v c job w is)) ∙ met.fit;
+  ids = λ m h v c job w plans is met. plan_ids m h v c job w is (plain_of m h v c job w is) plans met;
+  given = λ m h v c job w id is low. given_is m h v c job w is (plain_of m h v c job w is) id low;
+}

@@ -99,7 +99,7 @@ zones_are m plans gone zones root rising same =
     set_is (is_turned m plans gone root) m.geometry.zones zones rising same (λ z h. ltb-true z m.geometry.zones (and_parts (nat_lt z m.geometry.zones) (is_changed m plans gone z || (root && (z == 0))) h).0)
 
 -- of zones of the map the two tests are the same
-filter_in : (t s : ℕ → Bool) (xs : List ℕ) → ((x : ℕ) → Contains xs x → t x ≡ s x) → filter t xs ≡ filter s xs
+pub filter_in : (t s : ℕ → Bool) (xs : List ℕ) → ((x : ℕ) → Contains xs x → t x ≡ s x) → filter t xs ≡ filter s xs
 filter_in t s [] same = refl
 filter_in t s (x ∷ xs) same =
     ap₂ (λ (b : Bool) (ys : List ℕ). cond b (x ∷ ys) ys) (same x (0, omega arith, refl)) (filter_in t s xs (λ y at. same y (suc at.0, (let low = at.1 in omega (arith, low)), at.2)))
@@ -108,7 +108,7 @@ parts_any : (plans : List Plan) (z : ℕ) → list_any (λ (p : Plan). has_part 
 parts_any [] z = refl
 parts_any (p ∷ plans) z = ap (λ (b : Bool). has_part (fronts p.parts.items) z || b) (parts_any plans z)
 
-range_low : (n z : ℕ) → Contains (range_with_len 0 n) z → z < n
+pub range_low : (n z : ℕ) → Contains (range_with_len 0 n) z → z < n
 range_low n z at =
     let low = at.1 in
     let size = length-range_with_len 0 n in

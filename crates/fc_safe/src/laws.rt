@@ -5,3 +5,8 @@ ghost use Rattle.fc_safe.specs.Views.{PlainLaw, StirLaw};
 pub fn stirred()
     ensures { StirLaw }
 {}
+
+/// A law: `delete`, `set` and `mark` are refused for want of space exactly as their jobs are, and get what they need.
+pub fn plain()
+    ensures { PlainLaw }
+{}

@@ -1,5 +1,4 @@
 use Rattle.fc_safe.proofs.ViewLemmas.{stir_law}
-use Rattle.fc_safe.proofs.PlainLawLemmas.{back_zones}
 use Rattle.fc_safe.proofs.laws.stirred.Goals as goal
 
 pub returns : goal.returns
