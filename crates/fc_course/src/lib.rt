@@ -15,3 +15,4 @@ pub use error::CommandError;
 pub use holdings::Holdings;
 pub use laws::jobs;
 pub use maps::is_map;
+pub use stages::Prepared;

@@ -1,0 +1,14 @@
+// Laws of jobs in the safe mode.
+ghost use Rattle.fc_safecourse.specs.Laws.{SafeCourseLaw};
+
+/// A law: what is asked of a job for its course in the safe mode holds of `delete`, `set` and `mark`.
+pub fn safe_jobs()
+    ensures { SafeCourseLaw }
+{
+    fc_safe::plain();
+    fc_safecrash::crash();
+    fc_safeedits::safe_deletion();
+    fc_safeedits::safe_rewording();
+    fc_safeedits::safe_space();
+    fc_safeedits::safe_writing();
+}
