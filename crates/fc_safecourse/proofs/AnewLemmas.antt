@@ -1,8 +1,9 @@
 -- Where owners lie in the plans of their identifiers.
 use Rattle.std.proofs.Common.{◌≡◌, ◌<◌, ◌==◌, ◌&&◌, ◌||◌, ℕ, zero, suc, ◌+◌, Bool, true, false, cond, List, [], ◌∷◌, ◌++◌, length, get_or, take, refl, sym, ap, ◌∙◌, arith, Some, None, Option}
-use Rattle.std.specs.Prelude.{filter, is_some, not}
-use Rattle.std.specs.List.{find, list_any}
+use Rattle.std.specs.Prelude.{filter}
+use Rattle.std.specs.List.{find}
 use Rattle.std.proofs.lemmas.List.{take_more}
+use Rattle.std.proofs.lemmas.List.Elements.{filter-append}
 use Rattle.fc_alloc.specs.declared.owner.Owner.{Owner}
 use Rattle.fc_newmap.specs.Map.{Map}
 use Rattle.fc_plan.specs.declared.plan.Plan.{Plan}
@@ -33,14 +34,6 @@ find_here {X} t (x ∷ xs) (suc i) d low e f = by (t x) e (find_here t xs i d (o
     by true g more = absurd (cc)
     by false g more = more g f
 
-pub any_found : {X : Type 0} (t : X → Bool) (xs : List X) → list_any t xs ≡ is_some (find t xs)
-any_found t [] = refl
-any_found {X} t (x ∷ xs) = by (t x) (any_found t xs)
-  where
-    by : (b : Bool) → list_any t xs ≡ is_some (find t xs) → (b || list_any t xs) ≡ is_some (cond b (Some x) (find t xs))
-    by true more = refl
-    by false more = more
-
 -- ---- one more
 
 pub piece_more : (m : Map) (h : Parts) (plans : List Plan) (says : List Says) (pieces : List Piece) (s : Says) (p : Piece) → PiecesAnew m h plans says pieces → IsPieceAnew m h plans s p → PiecesAnew m h plans (says ++ s ∷ []) (pieces ++ p ∷ [])
@@ -55,3 +48,6 @@ along_more m h plans [] [] o t before is = (is, tt)
 along_more m h plans [] (q ∷ transfers) o t before is = absurd before
 along_more m h plans (p ∷ owners) [] o t before is = absurd before
 along_more m h plans (p ∷ owners) (q ∷ transfers) o t before is = (before.0, along_more m h plans owners transfers o t before.1 is)
+
+pub along_next : {X : Type 0} (t : X → Bool) (xs : List X) (i : ℕ) (d : X) → i < length xs → filter t (take (i + 1) xs) ≡ filter t (take i xs) ++ cond (t (get_or xs i d)) (get_or xs i d ∷ []) []
+along_next t xs i d low = ap (filter t) (take_more xs i d low) ∙ filter-append t (take i xs) (get_or xs i d ∷ [])

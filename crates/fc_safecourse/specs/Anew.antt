@@ -1,6 +1,6 @@
 -- A change of the safe mode, ready to be written: each directory that says something is written into the new runs of its identifier, and what
 -- else stays in that identifier is copied there.
-use Rattle.std.specs.Prelude.{◌≡◌, ◌<◌, ℕ, ◌==◌, ◌&&◌, not, Bool, false, List, [], ◌∷◌, filter, drop, take, is_some, Option, Some, None, Contains, IsSome}
+use Rattle.std.specs.Prelude.{◌≡◌, ◌<◌, ℕ, ◌==◌, ◌&&◌, not, Bool, false, List, [], ◌∷◌, filter, drop, take, Option, Some, None, Contains, IsSome}
 use Rattle.std.specs.FinMap.{get}
 use Rattle.std.specs.List.{find, list_any}
 use Rattle.std.specs.Option.{option_map_or}
@@ -22,10 +22,10 @@ use Rattle.fc_writing.specs.declared.ready.Transfer.{Transfer}
 use Rattle.fc_change.specs.After.{gone_in}
 use Rattle.fc_change.specs.declared.change.Change.{Change}
 use Rattle.fc_change.specs.declared.change.Says.{Says}
+use Rattle.fc_change.specs.declared.change.Turned.{Turned}
 use Rattle.fc_change.specs.declared.job.Job.{Job}
 use Rattle.fc_change.specs.declared.job.Wants.{Wants}
 use Rattle.fc_change.specs.declared.spaces.Spaces.{Spaces}
-use Rattle.fc_change.specs.Directories.{nodes_told}
 use Rattle.fc_change.specs.Drafts.{IsChangeOf}
 use Rattle.fc_change.specs.GrownSpace.{plan_sectors}
 use Rattle.fc_change.specs.Needs.{AreWants}
@@ -33,7 +33,6 @@ use Rattle.fc_change.specs.Prepared.{HasPlace, IsDrafted}
 use Rattle.fc_course.specs.declared.stages.Prepared.{Prepared}
 use Rattle.fc_safe.specs.FirstNeeds.{first_shortage}
 use Rattle.fc_safe.specs.FirstSpace.{ArePlacedFirst}
-use Rattle.fc_plan.specs.Giving.{is_one_of}
 
 -- ---- where an owner lies then
 
@@ -62,8 +61,17 @@ PiecesAnew m h plans _ _ = ⊥
 -- ---- what is copied there
 
 -- The owner's identifier gets new runs, and the owner stays in it and says nothing else.
+abbrev pub has_plan : List Plan → ℕ → Bool
+has_plan plans id = list_any (λ (p : Plan). p.id == id) plans
+
+abbrev pub is_said : List Says → ℕ → Bool
+is_said says n = list_any (λ (s : Says). s.node == n) says
+
+abbrev pub is_gone : Turned → ℕ → Bool
+is_gone object n = option_map_or (λ (k : ℕ). k == n) (gone_in object) false
+
 abbrev pub is_taken_along : List Plan → Change → Owner → Bool
-is_taken_along plans c o = is_some (plan_for plans o.id) && (not (is_one_of (nodes_told c.says.items) o.node) && not (option_map_or (λ (n : ℕ). n == o.node) (gone_in c.object) false))
+is_taken_along plans c o = has_plan plans o.id && (not (is_said c.says.items o.node) && not (is_gone c.object o.node))
 
 -- Its sectors are copied one for one.
 pub record IsTakenAlong (m : Map) (h : Parts) (plans : List Plan) (o : Owner) (t : Transfer) : Type 0 where
