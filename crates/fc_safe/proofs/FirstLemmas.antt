@@ -1,25 +1,22 @@
 -- What a job gets of a new map in the safe mode, from the plans that meet its needs.
-use Rattle.std.proofs.Common.{◌≡◌, ◌<◌, ◌≤◌, ◌&&◌, ◌||◌, ◌==◌, ◌⊎◌, inl, inr, ℕ, zero, suc, ◌+◌, ◌^◌, Bool, true, false, cond, List, [], ◌∷◌, ◌++◌, length, get_or, map, refl, sym, ap, ap₂, subst, ◌∙◌, arith, Some, None, Option}
+use Rattle.std.proofs.Common.{◌≡◌, ◌<◌, ◌≤◌, ◌&&◌, ◌||◌, ◌==◌, inl, inr, ℕ, zero, suc, ◌^◌, Bool, true, false, cond, List, [], ◌∷◌, ◌++◌, length, get_or, map, refl, sym, ap, ap₂, subst, ◌∙◌, arith, Some, None, Option}
 use Rattle.std.specs.Prelude.{All, Contains, filter, is_some, nat_lt, not}
 use Rattle.std.specs.List.{list_any, range_with_len}
 use Rattle.std.specs.List.Sorted.{IsStrictlyIncreasing}
 use Rattle.std.specs.Option.{option_map}
-use Rattle.std.proofs.lemmas.Bool.{and_parts, cases_Bool, eqb-true, lt-ltb, or_cases}
+use Rattle.std.proofs.lemmas.Bool.{and_parts, eqb-true, lt-ltb, or_cases}
 use Rattle.std.proofs.lemmas.List.Elements.{Contains-append_cases, Contains-get_or}
 use Rattle.fc_alloc.specs.declared.owner.Owner.{Owner}
 use Rattle.fc_alloc.specs.Owners.{owns}
 use Rattle.fc_names.specs.declared.refusal.Refusal.TheVariants as refusals
-use Rattle.fc_record.specs.declared.Geometry.{Geometry}
 use Rattle.fc_record.specs.Record.{id_limit}
 use Rattle.fc_newmap.specs.Map.{Map, ZoneRun, hole_runs}
 use Rattle.fc_newmap.specs.NewMap.{IsNewMap}
-use Rattle.fc_newmap.specs.Walk.{IsInZone}
 use Rattle.fc_newmap.proofs.TallyLemmas.{ids_few}
 use Rattle.fc_image.specs.effects.Sharing.{new_ids}
 use Rattle.fc_image.specs.safe.SafeShort.{SafeRefusal, fitted, spread_or}
 use Rattle.fc_image.proofs.EntriesLemmas.{from_map, in_mapped}
-use Rattle.fc_placing.specs.declared.placing.Placing.{Placing}
-use Rattle.fc_placing.specs.declared.placing.Placing.TheVariants.{Nowhere, Shared, New}
+use Rattle.fc_placing.specs.declared.placing.Placing.TheVariants.{Shared}
 use Rattle.fc_placing.specs.Places.{id_in, shared_id}
 use Rattle.fc_plan.specs.declared.plan.Part.{Part}
 use Rattle.fc_plan.specs.declared.plan.Plan.{Plan}
@@ -38,9 +35,8 @@ use Rattle.fc_change.specs.Shortage.{bytes_left, slack_for}
 use Rattle.fc_change.proofs.PlaceLemmas.{placed_id, placing_is}
 use Rattle.fc_safe.specs.Answers.{AnswersSafe}
 use Rattle.fc_safe.specs.FirstNeeds.{Stir, first_gone, first_needs, first_shortage, gone_by, goes, has_ids_for, ids_of, need_of, needs_by, out_need, own_need, shared_by, short_of_needs, stir_of, turns_root, unfit, zones_turned}
-use Rattle.fc_safe.specs.FirstSpace.{CanLie, CanPlaceFirst, IsFirstOf, IsFirstPlacing, LiesInZones, all_fronts}
+use Rattle.fc_safe.specs.FirstSpace.{CanLie, CanPlaceFirst, IsFirstOf, IsFirstPlacing, LiesInZones}
 use Rattle.fc_safe.specs.Gone.{is_left, is_lost_by}
-use Rattle.fc_safe.specs.Moving.{IsPlacedOwner}
 use Rattle.fc_safe.specs.Needs.{AreMet, CanNeed, HaveIds, bits_of, full_for, full_if, parts_of}
 use Rattle.fc_safe.specs.Planned.{IsOwnFirst, IsPlanned}
 use Rattle.fc_safe.specs.Staying.{holds_changed, last_end, remains}
@@ -48,12 +44,10 @@ use Rattle.fc_safe.specs.declared.error.SafeError.{SafeError}
 use Rattle.fc_safe.specs.declared.error.SafeError.TheVariants as errors
 use Rattle.fc_safe.specs.declared.needs.Need.{Need}
 use Rattle.fc_safe.specs.declared.planned.Planned.{Planned}
-use Rattle.fc_safe.specs.declared.staying.Longer.{Longer}
 use Rattle.fc_safe.proofs.CoverLemmas.{fronts_in_zones}
 use Rattle.fc_safe.proofs.ListLemmas.{found_of, in_flat, passes}
 use Rattle.fc_safe.proofs.MovingLemmas.{set_is}
 use Rattle.fc_safe.proofs.PlannedLemmas.{needs_can}
-use Rattle.fc_safe.proofs.SetLemmas.{of_one, one_of}
 use Rattle.fc_safe.proofs.TakingLemmas.{CanHave, take_all}
 use Rattle.fc_safe.proofs.ZoneLemmas.{in_range}
 

@@ -1,61 +1,34 @@
 -- Which identifiers go back over a view, and in which zones they have runs.
-use Rattle.std.proofs.Common.{◌≡◌, ◌<◌, ◌≤◌, ◌&&◌, ◌||◌, ◌==◌, ◌⊎◌, inl, inr, ℕ, zero, suc, ◌+◌, ◌-◌, Bool, true, false, cond, List, [], ◌∷◌, ◌++◌, length, map, refl, sym, ap, ap₂, subst, ◌∙◌, arith, eq-eqb, Some, None, Option}
+use Rattle.std.proofs.Common.{◌≡◌, ◌<◌, ◌≤◌, ◌&&◌, ◌||◌, ◌==◌, inl, inr, ℕ, ◌-◌, Bool, true, false, cond, List, [], ◌∷◌, length, map, refl, sym, ap, ap₂, subst, ◌∙◌, arith, eq-eqb, Some, None}
 use Rattle.std.specs.Prelude.{Contains, count_by, filter, is_some, nat_le, nat_lt, not}
 use Rattle.std.specs.List.{flat_map, list_any, range_with_len}
 use Rattle.std.specs.Option.{option_map_or, option_to_list}
 use Rattle.std.proofs.lemmas.Bool.{and_parts, cases_Bool, eqb-true, le-leb, lt-ltb, or_cases}
-use Rattle.std.proofs.lemmas.List.Elements.{filter_agree}
-use Rattle.fc_alloc.specs.declared.owner.Owner.{Owner}
-use Rattle.fc_alloc.specs.Owners.{owns}
 use Rattle.fc_device.specs.Numbers.{is_listed as is_in}
-use Rattle.fc_names.specs.Names.{Path, is_directory}
-use Rattle.fc_names.specs.declared.refusal.Refusal.TheVariants as refusals
-use Rattle.fc_drafts.specs.declared.room.Room.TheVariants as rooms
+use Rattle.fc_names.specs.Names.{is_directory}
 use Rattle.fc_record.specs.Record.{id_limit}
 use Rattle.fc_zone.specs.declared.Run.{Run}
 use Rattle.fc_zone.specs.declared.RunKind.{RunKind}
 use Rattle.fc_zone.specs.declared.RunKind.TheVariants as kinds
-use Rattle.fc_newmap.specs.Map.{Map, ZoneRun, all_runs, bits_in, has_id, hole_runs, id_runs, runs_of, zone_numbers}
-use Rattle.fc_newmap.proofs.HeldLemmas.{geometry_facts}
+use Rattle.fc_newmap.specs.Map.{Map, ZoneRun, all_runs, has_id, id_runs, runs_of, zone_numbers}
 use Rattle.fc_newmap.proofs.PlaceLemmas.{id_run_in, in_id_runs, in_zone, zone_in}
-use Rattle.fc_newmap.specs.RunsLaw.{placed}
-use Rattle.fc_model.specs.Answer.{first_of, when}
 use Rattle.fc_model.specs.Command.{Command}
 use Rattle.fc_dirs.specs.declared.Entry.{Entry}
 use Rattle.fc_image.specs.Edits.{IsAt}
-use Rattle.fc_image.specs.Layout.{Layout, dir_form, first_part, id_of, id_sectors, is_object_id, low_of, low_start, new_sectors, sectors_at, some_sectors}
+use Rattle.fc_image.specs.Layout.{Layout, dir_form, first_part, id_of, id_sectors, is_object_id, low_of, low_start, new_sectors, sectors_at}
 use Rattle.fc_image.specs.Walk.{Object, is_directory_object, object_size}
 use Rattle.fc_image.specs.Objects.{has_sectors, is_owner_of, objects_of}
 use Rattle.fc_image.specs.Opening.{Opened}
-use Rattle.fc_image.specs.effects.Sharing.{new_ids, units}
-use Rattle.fc_image.specs.effects.Short.{object_units, short, space_reasons}
 use Rattle.fc_image.specs.effects.Steady.{has_id_that}
-use Rattle.fc_image.specs.safe.SafeShort.{SafeRefusal, changed_ids, changed_zones, fit_refusal, fitted, fitted_needs, holds_changed, is_changed_directory, is_given_up, is_suitable, loses_owner, needs, places_given_up, remains_in, root_grows, safe_short, spread_or, suits, takes_slack}
-use Rattle.fc_image.proofs.EntriesLemmas.{from_filter, from_map, in_filter, in_mapped}
+use Rattle.fc_image.specs.safe.SafeShort.{holds_changed, is_changed_directory, is_given_up, is_suitable, loses_owner, remains_in, suits}
+use Rattle.fc_image.proofs.EntriesLemmas.{from_map, in_mapped}
 use Rattle.fc_image.proofs.HolesLemmas.{Each-contains, Each-objects, Lies, walk_lies}
-use Rattle.fc_placing.specs.Leaving.{is_kept}
 use Rattle.fc_placing.proofs.LeavingLemmas.{any_append}
-use Rattle.fc_plan.specs.declared.plan.Plan.{Plan}
 use Rattle.fc_plan.specs.Giving.{has_run_of, is_one_of}
 use Rattle.fc_plan.specs.Parts.{has_part}
 use Rattle.fc_tree.specs.Parts.{Parts}
-use Rattle.fc_change.specs.declared.job.Growth.{Growth}
-use Rattle.fc_change.specs.declared.job.Job.{Job}
-use Rattle.fc_change.specs.declared.job.Job.TheVariants as jobs
-use Rattle.fc_change.specs.declared.job.Wants.{Wants}
-use Rattle.fc_change.specs.Needs.{AreWants, room_of}
-use Rattle.fc_change.specs.Shortage.{bytes_left, slack_for}
-use Rattle.fc_safe.specs.FirstNeeds.{Stir, first_gone, first_needs, first_shortage, gone_by, goes, has_ids_for, ids_of, need_of, needs_by, out_need, own_need, shared_by, spread_if, stir_of, turns_root, unfit, zones_turned}
-use Rattle.fc_safe.specs.Needs.{AreMet, HaveIds, IsIdOf, bits_of, is_new, parts_of}
-use Rattle.fc_safe.specs.Staying.{last_end as owners_end}
-use Rattle.fc_safe.specs.Views.{IsPlain, IsPlainFor, IsViewOf, PlainLaw, StirsAs}
-use Rattle.fc_safe.specs.declared.needs.Need.{Need}
-use Rattle.fc_safe.proofs.ListLemmas.{any_of, found_of, from_flat, in_flat, passes, same_test}
-use Rattle.fc_safe.proofs.PlainLemmas.{marks_stir, marks_stirs, plain_stir, removal_stir, removal_stirs, words_stir, words_stirs}
-use Rattle.fc_safe.proofs.PlannedLemmas.{count_needs}
-use Rattle.fc_safe.proofs.SetLemmas.{of_one, one_of}
-use Rattle.fc_safe.proofs.ViewLemmas.{given_same, holds_same, ids_same, needs_same}
-use Rattle.fc_safe.proofs.ZoneLemmas.{in_range}
+use Rattle.fc_safe.specs.Views.{IsViewOf}
+use Rattle.fc_safe.proofs.ListLemmas.{any_of, found_of, from_flat, in_flat, same_test}
 
 -- ---- identifiers of objects
 

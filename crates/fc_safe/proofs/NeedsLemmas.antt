@@ -1,5 +1,5 @@
 -- Needs that are met one after another.
-use Rattle.std.proofs.Common.{◌≡◌, ◌<◌, ◌≤◌, ℕ, zero, suc, ◌+◌, Bool, true, false, cond, List, [], ◌∷◌, ◌++◌, length, map, drop, take, refl, sym, ap, ap₂, subst, ◌∙◌, arith, Some, None, Option, append-nil, append_assoc}
+use Rattle.std.proofs.Common.{◌≡◌, ◌<◌, ◌≤◌, ℕ, zero, suc, ◌+◌, cond, List, [], ◌∷◌, ◌++◌, length, map, drop, take, refl, sym, ap, ap₂, subst, ◌∙◌, arith, Some, None, Option, append-nil, append_assoc}
 use Rattle.std.specs.Prelude.{count_by, is_none, get_or, Result, Err}
 use Rattle.std.specs.Option.{option_map, option_and_then}
 use Rattle.std.proofs.lemmas.List.{map-append}
@@ -15,7 +15,7 @@ use Rattle.fc_plan.specs.Parts.{fronts, part_of}
 use Rattle.fc_plan.specs.Supply.{Stock}
 use Rattle.fc_plan.proofs.Fronts.{left_of_fronts}
 use Rattle.fc_safe.specs.Answers.{AnswersSafe}
-use Rattle.fc_safe.specs.Needs.{AreMet, HaveIds, IsIdOf, IsMet, IsUnmet, bits_of, full_for, full_if, is_new, parts_of}
+use Rattle.fc_safe.specs.Needs.{AreMet, HaveIds, IsIdOf, IsMet, IsUnmet, bits_of, full_for, full_if, is_new}
 use Rattle.fc_safe.specs.declared.error.SafeError.{SafeError}
 use Rattle.fc_safe.specs.declared.error.SafeError.TheVariants as errors
 use Rattle.fc_image.specs.safe.SafeShort.{SafeRefusal}

@@ -1,6 +1,6 @@
 -- `delete`, `set` and `mark` by nodes and by paths.
-use Rattle.std.proofs.Common.{◌≡◌, ◌<◌, ◌≤◌, ◌&&◌, ◌||◌, ◌==◌, ◌⊎◌, inl, inr, ℕ, zero, suc, ◌+◌, Bool, true, false, cond, List, [], ◌∷◌, ◌++◌, length, map, refl, sym, ap, ap₂, subst, ◌∙◌, arith, eq-eqb, Some, None, Option}
-use Rattle.std.specs.Prelude.{Contains, not, is_some}
+use Rattle.std.proofs.Common.{◌≡◌, ◌&&◌, ◌||◌, ◌==◌, inl, inr, ℕ, Bool, true, false, List, [], ◌∷◌, ◌++◌, length, refl, sym, ap, ap₂, subst, ◌∙◌, arith, eq-eqb, Some, None, Option}
+use Rattle.std.specs.Prelude.{Contains, not}
 use Rattle.std.specs.Option.{option_map_or, option_to_list}
 use Rattle.std.proofs.lemmas.Bool.{cases_Bool, eqb-true}
 use Rattle.std.proofs.lemmas.List.{length-append}
@@ -8,11 +8,9 @@ use Rattle.fc_names.specs.Names.{Path, folded, folded_path, is_same_path}
 use Rattle.fc_newmap.specs.Map.{Map}
 use Rattle.fc_model.specs.Command.{Command}
 use Rattle.fc_model.specs.Tree.{holder}
-use Rattle.fc_image.specs.Layout.{Layout}
-use Rattle.fc_image.specs.Walk.{Listing, Object, is_directory_object}
+use Rattle.fc_image.specs.Walk.{Object, is_directory_object}
 use Rattle.fc_image.specs.Objects.{object_at, objects_of}
 use Rattle.fc_image.specs.Opening.{Opened}
-use Rattle.fc_image.specs.safe.SafeShort.{is_changed_directory}
 use Rattle.fc_image.proofs.CommandLemmas.{same_by_folds}
 use Rattle.fc_image.proofs.LookupLemmas.{lookup_law}
 use Rattle.fc_refusals.specs.Targets.{IsTarget}
@@ -23,13 +21,12 @@ use Rattle.fc_tree.proofs.PlaceLemmas.{one_path, same_number}
 use Rattle.fc_tree.proofs.SoundLemmas.{fold_pushed, folds_alike, same_object}
 use Rattle.fc_tree.proofs.WalkedLemmas.{child_is_object, child_path, contained, listed_directory}
 use Rattle.fc_change.specs.declared.job.Growth.{Growth}
-use Rattle.fc_change.specs.declared.job.Job.{Job}
 use Rattle.fc_change.specs.declared.job.Job.TheVariants as jobs
 use Rattle.fc_change.specs.declared.job.ObjectWords.{ObjectWords}
 use Rattle.fc_change.specs.declared.job.Wants.{Wants}
 use Rattle.fc_safe.specs.Changed.{changed_in}
 use Rattle.fc_safe.specs.FirstNeeds.{Stir, longer_of, moving_out, node_of, stir_of}
-use Rattle.fc_safe.specs.Views.{IsNodeOf, IsViewOf, StirsAs, does_leave}
+use Rattle.fc_safe.specs.Views.{IsNodeOf, IsViewOf, StirsAs}
 use Rattle.fc_safe.proofs.ListLemmas.{same_test}
 
 one_number : (a b : ℕ) → (let x : Option ℕ = Some a in x) ≡ Some b → a ≡ b

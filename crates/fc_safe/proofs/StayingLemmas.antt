@@ -1,9 +1,9 @@
 -- Owners that stay in their identifiers, and where identifiers end then.
 use Rattle.std.proofs.Common.{◌≡◌, ◌<◌, ◌≤◌, ◌&&◌, ◌||◌, ◌==◌, inl, inr, ℕ, zero, suc, ◌+◌, ◌*◌, ◌^◌, Bool, true, false, cond, List, [], ◌∷◌, ◌++◌, length, get_or, count_by, map, take, refl, sym, ap, ap₂, subst, ◌∙◌, arith, eq-eqb, Some, None, Option}
-use Rattle.std.specs.Prelude.{Contains, filter, max, not, nat_eq, nat_lt, MatchOption}
-use Rattle.std.specs.List.{AllByRecursion, IsDistinct, find, flat_map, fold, list_any}
+use Rattle.std.specs.Prelude.{Contains, filter, max, not, nat_eq, nat_lt}
+use Rattle.std.specs.List.{IsDistinct, find, flat_map, fold, list_any}
 use Rattle.std.specs.List.Sorted.{IsStrictlyIncreasing}
-use Rattle.std.proofs.lemmas.Bool.{and_parts, cases_Bool, cases_eq, eqb-true, ltb-false, ne_eqb}
+use Rattle.std.proofs.lemmas.Bool.{and_parts, cases_eq, eqb-true, ltb-false, ne_eqb}
 use Rattle.std.proofs.lemmas.List.{get_or-map, length-map, take_more}
 use Rattle.std.proofs.lemmas.List.Elements.{All-contains, All-from_recursion, Contains-get_or, filter-append}
 use Rattle.std.proofs.lemmas.List.Sums.{fold-append}

@@ -1,15 +1,14 @@
 -- The one step by which plans are taken and identifiers go back.
-use Rattle.std.proofs.Common.{◌≡◌, ◌<◌, ◌≤◌, ◌&&◌, ◌||◌, ◌==◌, ℕ, zero, suc, ◌+◌, Bool, true, false, cond, List, [], ◌∷◌, ◌++◌, length, get_or, map, take, refl, sym, ap, ap₂, subst, ◌∙◌, arith, Some, None, Option, Contains, append-nil, append_assoc}
+use Rattle.std.proofs.Common.{◌≡◌, ◌<◌, ◌≤◌, ◌&&◌, ◌||◌, ◌==◌, ℕ, suc, ◌+◌, Bool, true, false, cond, List, [], ◌∷◌, ◌++◌, length, get_or, map, take, refl, ap, ap₂, subst, ◌∙◌, arith, Some, None, Option, Contains, append-nil}
 use Rattle.std.specs.Prelude.{AllPairs, filter, nat_lt}
-use Rattle.std.specs.List.{flat_map, list_any, range_with_len}
+use Rattle.std.specs.List.{list_any, range_with_len}
 use Rattle.std.specs.List.Sorted.{IsPermutation, IsSortedByKey, IsStrictlyIncreasing}
 use Rattle.std.specs.Ordering.{is_lt}
 use Rattle.std.proofs.lemmas.Bool.{and_parts, lt-ltb, ltb-false, ltb-true}
 use Rattle.std.proofs.lemmas.List.{get_or-map, length-map, map-append, take_more}
 use Rattle.std.proofs.lemmas.List.Concat.{flat_map-append}
-use Rattle.std.proofs.lemmas.List.Elements.{Contains-append_cases}
 use Rattle.std.proofs.lemmas.List.FromFn.{length-range_with_len}
-use Rattle.std.proofs.lemmas.List.Sums.{sum_by-append, sum_by-cons}
+use Rattle.std.proofs.lemmas.List.Sums.{sum_by-append}
 use Rattle.std.proofs.lemmas.List.Sorted.{IsPermutation-map, sum_by-IsPermutation}
 use Rattle.fc_newmap.specs.Map.{Map, ZoneRun, hole_runs, runs_of, zone_numbers}
 use Rattle.fc_newmap.specs.NewMap.{IsNewMap}
@@ -30,7 +29,7 @@ use Rattle.fc_safe.specs.FirstSpace.{all_fronts, parts_kept}
 use Rattle.fc_safe.specs.Needs.{parts_of}
 use Rattle.fc_safe.specs.Zones.{is_turned, zones_of_plans}
 use Rattle.fc_safe.proofs.CoverLemmas.{fronts_in_zones}
-use Rattle.fc_safe.proofs.ListLemmas.{from_flat, in_flat, found_of}
+use Rattle.fc_safe.proofs.ListLemmas.{from_flat, in_flat}
 use Rattle.fc_safe.proofs.MovingLemmas.{set_is}
 use Rattle.fc_safe.proofs.SetLemmas.{of_one}
 

@@ -1,11 +1,9 @@
 -- Plans that meet needs by first fit can be taken, one after another.
-use Rattle.std.proofs.Common.{◌≡◌, ◌<◌, ◌≤◌, ◌%◌, ◌^◌, ℕ, zero, suc, ◌+◌, Bool, true, false, cond, List, [], ◌∷◌, ◌++◌, length, get_or, map, refl, sym, ap, subst, ◌∙◌, arith, Some, None, Option, Contains, All}
+use Rattle.std.proofs.Common.{◌≡◌, ◌<◌, ◌^◌, ℕ, zero, suc, List, [], ◌∷◌, get_or, refl, sym, ap, subst, ◌∙◌, arith, Some, None, Option, Contains, All}
 use Rattle.std.specs.Prelude.{AllPairs}
-use Rattle.std.specs.List.{AllByRecursion}
-use Rattle.std.specs.Option.{option_and_then, option_map}
+use Rattle.std.specs.Option.{option_map}
 use Rattle.std.proofs.lemmas.List.Elements.{All-contains, All-from_recursion, Contains-get_or}
 use Rattle.fc_record.specs.declared.Geometry.{Geometry}
-use Rattle.fc_record.specs.Record.{id_limit}
 use Rattle.fc_newmap.specs.Map.{Map, ZoneRun, hole_runs}
 use Rattle.fc_newmap.specs.NewMap.{IsNewMap}
 use Rattle.fc_image.specs.effects.Placed.{BeginsBefore, HasRunLength, holes_left}
@@ -13,7 +11,6 @@ use Rattle.fc_image.specs.effects.Sharing.{new_ids, units}
 use Rattle.fc_image.specs.safe.FirstFit.{first_fit}
 use Rattle.fc_image.specs.safe.SafeShort.{fitted}
 use Rattle.fc_plan.specs.declared.plan.Plan.{Plan}
-use Rattle.fc_plan.specs.Applied.{CanTakePlan}
 use Rattle.fc_plan.specs.Parts.{fronts}
 use Rattle.fc_plan.specs.Plan.{AreFreeRuns, AreParts, IsFrontOfOne}
 use Rattle.fc_plan.proofs.FirstFit.{Fits, first_fits, fit_leaves, fit_leaves_free, units_least}

@@ -1,6 +1,6 @@
 -- What is stirred by nodes and owners is what the command does to the objects of a view.
-use Rattle.std.proofs.Common.{◌≡◌, ◌<◌, ◌≤◌, ◌&&◌, ◌||◌, ◌==◌, ◌⊎◌, inl, inr, ℕ, zero, suc, ◌+◌, ◌*◌, max, Bool, true, false, cond, List, [], ◌∷◌, ◌++◌, length, map, refl, sym, ap, ap₂, subst, ◌∙◌, arith, append_assoc, Some, None, Option}
-use Rattle.std.specs.Prelude.{Contains, IsPermutation, filter, nat_lt, not}
+use Rattle.std.proofs.Common.{◌≡◌, ◌<◌, ◌≤◌, ◌&&◌, ◌||◌, ◌==◌, ℕ, zero, suc, ◌+◌, ◌*◌, max, Bool, true, false, cond, List, [], ◌∷◌, ◌++◌, map, refl, sym, ap, ap₂, subst, ◌∙◌, arith, append_assoc, Some, None, Option}
+use Rattle.std.specs.Prelude.{Contains, IsPermutation, filter, not}
 use Rattle.std.specs.List.{fold, list_any, range_with_len}
 use Rattle.std.specs.Option.{option_map_or, unwrap_or}
 use Rattle.std.proofs.lemmas.Bool.{and_parts, eqb-true, lt-ltb, ne_eqb}
@@ -9,7 +9,6 @@ use Rattle.std.proofs.lemmas.List.Elements.{filter_agree}
 use Rattle.std.proofs.lemmas.List.Sorted.{Contains-permutation, IsPermutation-sym, list_any-IsPermutation}
 use Rattle.fc_alloc.specs.declared.owner.Owner.{Owner}
 use Rattle.fc_alloc.specs.Owners.{owns}
-use Rattle.fc_record.specs.declared.Geometry.{Geometry}
 use Rattle.fc_record.specs.Record.{id_limit}
 use Rattle.fc_newmap.specs.Map.{Map}
 use Rattle.fc_model.specs.Command.{Command}
@@ -19,21 +18,18 @@ use Rattle.fc_image.specs.Objects.{has_sectors, is_owner_of, objects_of}
 use Rattle.fc_image.specs.Opening.{Opened}
 use Rattle.fc_image.specs.effects.Sharing.{units}
 use Rattle.fc_image.specs.effects.Short.{Growth, object_units}
-use Rattle.fc_image.specs.safe.SafeShort.{changed_ids, copies_away, end_of, holds_changed, if_some_bits, is_changed_directory, is_given_up, is_replaced, last_end, leaves_id, loses_owner, needs, new_id_growth, remains_in, takes_slack}
+use Rattle.fc_image.specs.safe.SafeShort.{changed_ids, copies_away, end_of, holds_changed, if_some_bits, is_changed_directory, is_given_up, is_replaced, last_end, leaves_id, needs, new_id_growth, remains_in, takes_slack}
 use Rattle.fc_image.proofs.EntriesLemmas.{from_filter, from_map, in_filter, in_mapped}
 use Rattle.fc_placing.specs.Leaving.{is_kept}
 use Rattle.fc_placing.proofs.LeavingLemmas.{any_owner}
 use Rattle.fc_plan.specs.Giving.{is_one_of}
 use Rattle.fc_plan.proofs.Units.{units_some}
-use Rattle.fc_tree.specs.Nodes.{number_of}
 use Rattle.fc_tree.specs.Parts.{AreOwners, Parts, owner_of}
 use Rattle.fc_safe.specs.FirstNeeds.{Stir, goes, ids_of, need_of, needs_by, out_need, own_need}
-use Rattle.fc_safe.specs.Gone.{is_left, is_lost_by}
 use Rattle.fc_safe.specs.Needs.{bits_of}
-use Rattle.fc_safe.specs.Staying.{end_then, holds_changed as owners_hold, last_end as owners_end, remains, sectors_then}
-use Rattle.fc_safe.specs.Views.{IsNodeOf, IsViewOf, StirLaw, StirsAs, does_leave}
+use Rattle.fc_safe.specs.Staying.{end_then, holds_changed as owners_hold, last_end as owners_end, remains}
+use Rattle.fc_safe.specs.Views.{IsNodeOf, IsViewOf, StirLaw, StirsAs}
 use Rattle.fc_safe.specs.declared.needs.Need.{Need}
-use Rattle.fc_safe.specs.declared.staying.Longer.{Longer}
 use Rattle.fc_safe.proofs.ListLemmas.{any_same, most_above, most_below, passes}
 
 -- ---- tests

@@ -1,8 +1,8 @@
 -- Zones that change.
-use Rattle.std.proofs.Common.{◌≡◌, ◌<◌, ◌≤◌, ◌&&◌, ◌||◌, ◌==◌, inl, inr, ℕ, zero, suc, ◌+◌, Bool, true, false, cond, List, [], ◌∷◌, ◌++◌, length, get_or, map, refl, sym, ap, ap₂, subst, ◌∙◌, arith, eq-eqb}
-use Rattle.std.specs.Prelude.{Contains, filter, nat_lt}
-use Rattle.std.specs.List.{flat_map, list_any, range_with_len}
-use Rattle.std.proofs.lemmas.Bool.{cases_Bool, cases_lt, eqb-true, lt-ltb, ltb-true, ne_eqb}
+use Rattle.std.proofs.Common.{◌≡◌, ◌<◌, ◌&&◌, ◌||◌, ◌==◌, ℕ, Bool, true, false, cond, List, [], ◌∷◌, ◌++◌, length, map, refl, sym, ap, ap₂, ◌∙◌, arith, eq-eqb}
+use Rattle.std.specs.Prelude.{filter, nat_lt}
+use Rattle.std.specs.List.{list_any, range_with_len}
+use Rattle.std.proofs.lemmas.Bool.{eqb-true, lt-ltb, ltb-true}
 use Rattle.std.proofs.lemmas.List.FromFn.{get_or-range_with_len, length-range_with_len}
 use Rattle.fc_newmap.specs.Map.{Map, runs_of, zone_numbers}
 use Rattle.fc_newmap.specs.NewMap.{IsNewMap}
@@ -12,7 +12,6 @@ use Rattle.fc_plan.specs.declared.plan.Part.{Part}
 use Rattle.fc_plan.specs.declared.plan.Plan.{Plan}
 use Rattle.fc_plan.specs.Giving.{has_run_of, is_one_of}
 use Rattle.fc_plan.specs.Parts.{fronts, has_part}
-use Rattle.fc_writing.specs.Steps.{is_changed}
 use Rattle.fc_safe.specs.Zones.{is_turned, zones_of_plans}
 use Rattle.fc_safe.proofs.ListLemmas.{passes, same_test}
 use Rattle.fc_safe.proofs.SetLemmas.{of_one, one_of}

@@ -1,5 +1,5 @@
 -- Places for what a job wants of a new map in the safe mode.
-use Rattle.std.specs.Prelude.{◌≡◌, ◌<◌, ◌≤◌, ℕ, ◌+◌, ◌*◌, ◌^◌, Bool, true, false, All, List, [], ◌∷◌, ◌++◌, AllPairs, Contains, IsPermutation, drop, filter, is_some, length, take, Option, Some, None, if◌then◌else◌}
+use Rattle.std.specs.Prelude.{◌≡◌, ◌<◌, ◌≤◌, ℕ, ◌*◌, ◌^◌, true, All, List, [], ◌∷◌, AllPairs, Contains, IsPermutation, drop, filter, is_some, length, take, Option, Some, None, if◌then◌else◌}
 use Rattle.std.specs.Int.{div_ceil}
 use Rattle.std.specs.List.{flat_map}
 use Rattle.fc_alloc.specs.declared.owner.Owner.{Owner}

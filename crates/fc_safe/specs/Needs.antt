@@ -10,7 +10,6 @@ use Rattle.fc_image.specs.safe.FirstFit.{first_fit}
 use Rattle.fc_image.specs.safe.SafeShort.{SafeRefusal, fitted}
 use Rattle.fc_plan.specs.declared.plan.Plan.{Plan}
 use Rattle.fc_plan.specs.Parts.{fronts, part_of}
-use Rattle.fc_plan.specs.Plan.{AreParts}
 use Rattle.fc_plan.specs.Supply.{Stock}
 use Rattle.fc_safe.specs.declared.error.SafeError.{SafeError}
 use Rattle.fc_safe.specs.declared.error.SafeError.TheVariants as errors

@@ -1,12 +1,9 @@
 -- What the needs of a job are met by.
-use Rattle.std.specs.Prelude.{◌≡◌, ◌<◌, ◌^◌, ℕ, [], List, Option, Some, None}
+use Rattle.std.specs.Prelude.{◌≡◌, ◌<◌, ℕ, List, Option, Some, None}
 use Rattle.fc_newmap.specs.Map.{Map}
 use Rattle.fc_tree.specs.Parts.{Parts}
-use Rattle.fc_change.specs.declared.job.Growth.{Growth}
-use Rattle.fc_change.specs.declared.job.Job.{Job}
-use Rattle.fc_change.specs.declared.job.Wants.{Wants}
 use Rattle.fc_plan.specs.declared.plan.Plan.{Plan}
-use Rattle.fc_safe.specs.FirstNeeds.{Stir, ids_of, moving_out, needs_by, stir_of}
+use Rattle.fc_safe.specs.FirstNeeds.{Stir, ids_of, needs_by}
 use Rattle.fc_safe.specs.FirstSpace.{IsFirstOf}
 use Rattle.fc_safe.specs.Needs.{AreMet}
 use Rattle.fc_safe.specs.declared.planned.Planned.{Planned}

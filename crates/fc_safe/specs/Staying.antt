@@ -1,5 +1,5 @@
 -- What stays in its identifier, and how far an identifier reaches then.
-use Rattle.std.specs.Prelude.{◌≡◌, ◌<◌, ℕ, ◌+◌, ◌*◌, ◌^◌, ◌==◌, ◌&&◌, max, not, Bool, List, [], ◌∷◌, filter, map, length, get_or, if◌then◌else◌, Option, Some, None}
+use Rattle.std.specs.Prelude.{◌≡◌, ◌<◌, ℕ, ◌+◌, ◌*◌, ◌^◌, ◌==◌, ◌&&◌, max, not, Bool, List, [], ◌∷◌, filter, length, get_or, if◌then◌else◌, Option, Some, None}
 use Rattle.std.specs.List.{find, fold, list_any, range_with_len}
 use Rattle.fc_alloc.specs.declared.owner.Owner.{Owner}
 use Rattle.fc_alloc.specs.Owners.{is_node}

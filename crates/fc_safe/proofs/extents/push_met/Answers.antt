@@ -1,12 +1,12 @@
 use Rattle.std.proofs.Common.{◌≡◌, ◌<◌, ◌+◌, ◌++◌, ◌∷◌, ◌∙◌, [], List, ap, sym, subst, take, get_or, length}
 use Rattle.std.specs.Prelude.{All}
-use Rattle.std.proofs.lemmas.List.{take_all, take_more}
+use Rattle.std.proofs.lemmas.List.{take_more}
 use Rattle.std.proofs.lemmas.List.Elements.{All-get_or}
 use Rattle.fc_objects.specs.Extents.{sectors_in}
 use Rattle.fc_newmap.specs.Walk.{IsInZone}
 use Rattle.fc_plan.specs.declared.plan.Part.{Part}
 use Rattle.fc_plan.specs.Parts.{front_at}
-use Rattle.fc_safe.proofs.ExtentLemmas.{AreTakenOf, none_taken, part_taken}
+use Rattle.fc_safe.proofs.ExtentLemmas.{none_taken, part_taken}
 use Rattle.fc_safe.proofs.extents.push_met.Goals as goal
 
 pub loop-part-init : goal.loop-part-init

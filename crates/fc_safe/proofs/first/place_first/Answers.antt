@@ -1,8 +1,6 @@
-use Rattle.std.proofs.Common.{◌≡◌, ◌||◌, ◌<◌, ◌^◌, ◌∙◌, ℕ, List, Option, Some, None, false, refl, sym, ap, ap₂, subst}
-use Rattle.std.specs.Prelude.{is_some}
+use Rattle.std.proofs.Common.{◌≡◌, ◌||◌, ◌<◌, ◌^◌, ◌∙◌, ℕ, List, Option, None, false, refl, sym, ap, ap₂, subst}
 use Rattle.fc_image.specs.Layout.{Layout}
 use Rattle.fc_image.specs.safe.SafeShort.{spread_or}
-use Rattle.fc_newmap.specs.Map.{hole_runs}
 use Rattle.fc_placing.specs.Places.{id_in, shared_id}
 use Rattle.fc_placing.specs.declared.placing.Placing.{Placing}
 use Rattle.fc_plan.specs.declared.plan.Plan.{Plan}
@@ -11,17 +9,15 @@ use Rattle.fc_writing.specs.declared.ready.MapStep.{MapStep}
 use Rattle.fc_change.specs.declared.spaces.Spaces.{Spaces}
 use Rattle.fc_change.specs.Held.{parts_of}
 use Rattle.fc_change.specs.declared.job.Growth.{Growth}
-use Rattle.fc_change.specs.Places.{IsCopiedFrom, IsPlaceFor, extents_in, placing_of}
+use Rattle.fc_change.specs.Places.{IsCopiedFrom, extents_in}
 use Rattle.fc_change.specs.Shortage.{bytes_left}
 use Rattle.fc_change.proofs.PlaceLemmas.{bytes_are}
-use Rattle.fc_safe.specs.Answers.{AnswersSafe}
 use Rattle.fc_safe.specs.FirstNeeds.{first_gone, first_needs, first_shortage, needs_by, short_of_needs, stir_of, zones_turned}
 use Rattle.fc_safe.specs.FirstSpace.{CanLie, IsFirstPlacing, IsGrownFirst, IsStepFirst}
 use Rattle.fc_safe.specs.Gone.{is_lost_by}
 use Rattle.fc_safe.specs.Needs.{AreMet, parts_of as plan_parts}
 use Rattle.fc_safe.specs.Planned.{IsOwnFirst}
-use Rattle.fc_safe.specs.declared.planned.Planned.{Planned}
-use Rattle.fc_safe.proofs.FirstLemmas.{all_taken, back_first, id_first, lies_first, needs_met, placing_first, short_error, spread_last}
+use Rattle.fc_safe.proofs.FirstLemmas.{all_taken, back_first, id_first, lies_first, needs_met, placing_first, spread_last}
 use Rattle.fc_safe.proofs.PlannedLemmas.{err_same}
 use Rattle.fc_safe.proofs.first.place_first.Goals as goal
 use Rattle.fc_safe.proofs.first.place_first.Goals.{After-bytes_left-bytes, In_ok-gone}

@@ -1,4 +1,4 @@
-use Rattle.std.proofs.Common.{◌≡◌, ◌++◌, ◌∙◌, ℕ, List, ap}
+use Rattle.std.proofs.Common.{◌++◌, ◌∙◌, ℕ, List, ap}
 use Rattle.std.specs.List.{flat_map}
 use Rattle.std.proofs.lemmas.List.{take_all}
 use Rattle.fc_safe.specs.Gone.{left_of}

@@ -1,4 +1,4 @@
-use Rattle.std.proofs.Common.{◌∙◌, ℕ, List, ap, map}
+use Rattle.std.proofs.Common.{◌∙◌, ap, map}
 use Rattle.fc_safe.specs.Staying.{last_end}
 use Rattle.fc_safe.proofs.MovingLemmas.{ids_are}
 use Rattle.fc_safe.proofs.moving.moved_of.Goals as goal

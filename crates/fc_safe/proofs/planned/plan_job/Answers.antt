@@ -1,10 +1,8 @@
-use Rattle.std.proofs.Common.{rules, ◌≡◌, ◌≤◌, ◌+◌, ◌∙◌, ℕ, List, Option, true, sym, ap, subst, count_by, length, nat_le, nat_lt, arith}
-use Rattle.std.specs.Prelude.{All, Contains, Err, Vec, is_some}
+use Rattle.std.proofs.Common.{rules, ◌≡◌, ◌+◌, ◌∙◌, List, true, sym, ap, subst, count_by, length, nat_le, nat_lt, arith}
+use Rattle.std.specs.Prelude.{All, Vec, is_some}
 use Rattle.std.specs.declared.alloc.Global.{Global}
 use Rattle.std.proofs.lemmas.Bool.{leb-true}
-use Rattle.fc_alloc.specs.declared.owner.Owner.{Owner}
 use Rattle.fc_record.specs.declared.Geometry.{Geometry}
-use Rattle.fc_newmap.specs.NewMap.{IsOfRecord}
 use Rattle.fc_image.specs.effects.Sharing.{new_ids}
 use Rattle.fc_image.specs.effects.Short.{one_if}
 use Rattle.fc_plan.specs.declared.plan.Plan.{Plan}
@@ -14,7 +12,7 @@ use Rattle.fc_safe.specs.Moving.{AreMoved, IsMovingFor, IsPlacedOwner}
 use Rattle.fc_safe.specs.Needs.{AreMet, CanNeed, bits_of, full_for, is_new}
 use Rattle.fc_safe.specs.declared.needs.Need.{Need}
 use Rattle.fc_safe.specs.declared.planned.Planned.{Planned}
-use Rattle.fc_safe.proofs.PlannedLemmas.{err_same, ids_are, ids_enough, ids_full, leaving_are, needs_are, needs_can, news_are}
+use Rattle.fc_safe.proofs.PlannedLemmas.{err_same, ids_are, ids_enough, leaving_are, needs_are, needs_can, news_are}
 use Rattle.fc_safe.proofs.planned.plan_job.Goals as goal
 use Rattle.fc_safe.proofs.planned.plan_job.Goals.{After-deref}
 

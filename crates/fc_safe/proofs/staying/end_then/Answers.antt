@@ -1,4 +1,4 @@
-use Rattle.std.proofs.Common.{◌≡◌, ◌<◌, ◌+◌, ◌*◌, ◌^◌, ℕ, sym, subst, arith}
+use Rattle.std.proofs.Common.{◌<◌, ◌+◌, ◌*◌, ◌^◌, ℕ, sym, subst, arith}
 use Rattle.fc_safe.proofs.StayingLemmas.{end_fits}
 use Rattle.fc_safe.proofs.staying.end_then.Goals as goal
 

@@ -1,5 +1,5 @@
-use Rattle.std.proofs.Common.{rules, ◌≡◌, ◌<◌, ◌≤◌, ◌^◌, ◌∙◌, ℕ, List, ap, arith, length, refl, sym, subst, true, None}
-use Rattle.std.specs.Prelude.{AllPairs, filter, is_some}
+use Rattle.std.proofs.Common.{rules, ◌≡◌, ◌<◌, ◌≤◌, ◌∙◌, ℕ, List, ap, arith, length, refl, sym, subst, true, None}
+use Rattle.std.specs.Prelude.{filter, is_some}
 use Rattle.std.specs.List.Sorted.{IsPermutation}
 use Rattle.fc_record.specs.declared.Geometry.{Geometry}
 use Rattle.fc_image.specs.safe.SafeShort.{spread_or}

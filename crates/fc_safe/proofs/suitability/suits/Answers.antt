@@ -1,4 +1,4 @@
-use Rattle.std.proofs.Common.{rules, ◌≡◌, ◌==◌, false, sym, ◌∙◌}
+use Rattle.std.proofs.Common.{rules, ◌≡◌, ◌==◌, false}
 use Rattle.fc_image.specs.Layout.{Layout}
 use Rattle.fc_change.specs.Held.{parts_of}
 use Rattle.fc_safe.proofs.SuitsLemmas.{suits_are, suits_new}

@@ -1,4 +1,4 @@
-use Rattle.std.proofs.Common.{◌≡◌, ◌++◌, ◌∷◌, ◌∙◌, [], ℕ, List, ap, cond}
+use Rattle.std.proofs.Common.{◌++◌, ◌∷◌, ◌∙◌, [], ℕ, List, ap, cond}
 use Rattle.std.specs.Prelude.{filter}
 use Rattle.fc_newmap.specs.Map.{runs_of, zone_numbers}
 use Rattle.fc_plan.specs.Giving.{has_run_of}
