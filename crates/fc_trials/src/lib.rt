@@ -1,0 +1,6 @@
+//! Trials of commands by the one path (fc_commands) against runs of today (fc_shell): over the same image each must give the same
+//! answer and leave the same image. No code stands beside them; they go when the runs take that path.
+#![tactic(auto)]
+
+#[cfg(test)]
+mod trials;
