@@ -3,4 +3,14 @@
 #![tactic(auto)]
 
 #[cfg(test)]
+mod discs;
+#[cfg(test)]
+mod images;
+#[cfg(test)]
+mod path;
+#[cfg(test)]
+mod runs;
+#[cfg(test)]
+mod spelled;
+#[cfg(test)]
 mod trials;
