@@ -195,6 +195,8 @@ pub enum Step {
     Lines(&'static str),
     // So many files of so many bytes come into a directory: `N00`, `N01` and so on.
     Files(&'static str, u32, u32),
+    // So many files of 0 bytes with names of 247 bytes come into a directory.
+    LongNames(&'static str, u32),
     // Every second one of so many goes.
     Thinned(&'static str, u32),
 }
@@ -236,6 +238,12 @@ fn push_step(alloc: Global, script: &mut String, step: &Step) -> Result<(), Fail
                 let line = format!(in alloc;
                     "create {directory}.N{i:02} FFFFFD00 00000000 {length}\n"
                 )?;
+                script.push_str(&line)?;
+            }
+        }
+        Step::LongNames(directory, count) => {
+            for i in 0..*count {
+                let line = format!(in alloc; "create {directory}.N{i:0246} 00000000 00000000 0\n")?;
                 script.push_str(&line)?;
             }
         }

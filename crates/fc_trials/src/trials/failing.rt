@@ -191,7 +191,15 @@ fn is_listed(alloc: Global, course: &Course, script: &str, image: &[u8]) -> Resu
 
 // An image that a crash or a fault may leave.
 fn try_left(alloc: Global, course: &Course, row: &Crash, image: &[u8]) -> Result<(), Fail> {
-    let Course { disc, .. } = course;
+    let Course {
+        disc,
+        before,
+        after,
+        ..
+    } = course;
+    if image == before.as_slice() || image == after.as_slice() {
+        return Ok(());
+    }
     if !is_between(course, image) {
         return failed(alloc, disc, row.line, "another sector is written", b"");
     }

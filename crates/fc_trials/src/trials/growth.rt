@@ -121,20 +121,22 @@ const NO_SPACE: &str =
     create $.New2 00000000 00000000 0\nrename $.B $.D.B\nsave $.D.N02 00000000 00000000 -\nrename $.B $.D.B\n\
     save $.D.N03 00000000 00000000 -\nrename $.B $.D.B\nsave $.D.New2 00000000 00000000 01\n";
 
-// Two identifiers are left, and the root needs a new one.
-const FEW: &[Step] = &[Step::Files("$", 62, 0)];
+// Two identifiers are left, and the root needs a new one to grow.
+const FEW: &[Step] = &[
+    Step::Lines("create $.A 00000000 00000000 0\ncreate $.B 00000000 00000000 0\n"),
+    Step::LongNames("$", 7),
+];
 
 const FEW_LEFT: &str =
-    "create $.New1 00000000 00000000 0\nsave $.New2 00000000 00000000 01\nsave $.New3 00000000 00000000 02\n\
-    save $.New4 00000000 00000000 03\ncreate $.New5 00000000 00000000 0\n";
+    "create $.New1 00000000 00000000 0\nsave $.A 00000000 00000000 01\nsave $.B 00000000 00000000 02\n\
+    save $.New3 00000000 00000000 03\n";
 
-const FEWER: &str =
-    "save $.N00 00000000 00000000 01\ncdir $.New1\nsave $.New1 00000000 00000000 01\n\
+const FEWER: &str = "save $.A 00000000 00000000 01\ncdir $.New1\nsave $.New1 00000000 00000000 01\n\
     create $.New1 00000000 00000000 0\nsave $.New2 00000000 00000000 01\ncdir $.New3\n";
 
 const FEWEST: &str =
-    "save $.N00 00000000 00000000 01\nsave $.N01 00000000 00000000 02\ncreate $.New1 00000000 00000000 0\n\
-    delete $.N00\nrename $.N01 $.Name_of_more_than_thirty_bytes_\nsave $.New1 00000000 00000000 01\n";
+    "save $.A 00000000 00000000 01\nsave $.B 00000000 00000000 02\ncreate $.New1 00000000 00000000 0\n\
+    delete $.A\nrename $.B $.Name_of_more_than_thirty_bytes_\nsave $.New1 00000000 00000000 01\n";
 
 const ROOT_ROWS: &[Trial] = &[
     Trial {
@@ -267,13 +269,14 @@ const SHARED_ROWS: &[Trial] = &[
     },
 ];
 
-const SPACE_ROWS: &[Trial] = &[
-    Trial {
-        discs: &[BIG],
-        steps: FULL_DISC,
-        lines: NO_SPACE,
-        ..PLAIN
-    },
+const SPACE_ROWS: &[Trial] = &[Trial {
+    discs: &[BIG],
+    steps: FULL_DISC,
+    lines: NO_SPACE,
+    ..PLAIN
+}];
+
+const IDENTIFIER_ROWS: &[Trial] = &[
     Trial {
         discs: &[TWO_IDENTIFIERS],
         steps: FEW,
@@ -310,6 +313,10 @@ fn space_rows() -> &'static [Trial] {
     SPACE_ROWS
 }
 
+fn identifier_rows() -> &'static [Trial] {
+    IDENTIFIER_ROWS
+}
+
 #[test]
 fn roots_grow(rt: HostRuntime) -> Result<(), Fail> {
     try_all(rt.alloc(), root_rows())
@@ -328,4 +335,9 @@ fn directories_that_share_grow(rt: HostRuntime) -> Result<(), Fail> {
 #[test]
 fn want_of_space_to_grow(rt: HostRuntime) -> Result<(), Fail> {
     try_all(rt.alloc(), space_rows())
+}
+
+#[test]
+fn want_of_identifiers_to_grow(rt: HostRuntime) -> Result<(), Fail> {
+    try_all(rt.alloc(), identifier_rows())
 }
