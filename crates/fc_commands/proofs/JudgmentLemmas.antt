@@ -19,11 +19,12 @@ use Rattle.fc_image.specs.effects.Short.{short}
 use Rattle.fc_tree.specs.Parts.{ArePartsOf, Parts}
 use Rattle.fc_change.specs.Jobs.{IsJob}
 use Rattle.fc_change.specs.declared.job.Job.{Job}
-use Rattle.fc_course.specs.declared.error.CommandError.{CommandError}
-use Rattle.fc_course.specs.declared.error.CommandError.TheVariants.{Refused, NoMemory, DiskFault}
-use Rattle.fc_course.specs.declared.holdings.Holdings.{Holdings}
-use Rattle.fc_course.specs.Answers.{AnswersBy, AnswersShort}
-use Rattle.fc_course.specs.Holdings.{Stands, parts_of}
+use Rattle.fc_holdings.specs.declared.error.CommandError.{CommandError}
+use Rattle.fc_holdings.specs.declared.error.CommandError.TheVariants.{Refused, NoMemory, DiskFault}
+use Rattle.fc_holdings.specs.declared.holdings.Holdings.{Holdings}
+use Rattle.fc_course.specs.Answers.{AnswersShort}
+use Rattle.fc_holdings.specs.Answers.{AnswersBy}
+use Rattle.fc_holdings.specs.Holdings.{Stands, parts_of}
 use Rattle.fc_course.specs.Jobs.{HasBytes, IsJobFor}
 use Rattle.fc_course.specs.Promises.{ChangeKeeps, IsAsBefore, JobLeaves}
 use Rattle.fc_course.proofs.AnswerLemmas.{no_memory, refused_by}

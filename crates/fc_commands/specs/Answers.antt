@@ -9,8 +9,8 @@ use Rattle.fc_image.specs.Opening.{Opened}
 use Rattle.fc_image.specs.Sound.{AreSound}
 use Rattle.fc_image.specs.effects.Short.{short}
 use Rattle.fc_tree.specs.Parts.{ArePartsOf, Parts}
-use Rattle.fc_course.specs.declared.error.CommandError.{CommandError}
-use Rattle.fc_course.specs.Answers.{AnswersBy}
+use Rattle.fc_holdings.specs.declared.error.CommandError.{CommandError}
+use Rattle.fc_holdings.specs.Answers.{AnswersBy}
 
 -- why a command is refused, if it is: by the model over the tree, and then for lack of space
 abbrev pub refusal_in : Opened → List ℕ → Bool → Command → Option Refusal

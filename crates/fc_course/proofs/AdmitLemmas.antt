@@ -16,9 +16,9 @@ use Rattle.fc_writing.specs.declared.copies.Copies.{Copies}
 use Rattle.fc_change.specs.declared.change.Change.{Change}
 use Rattle.fc_change.specs.declared.job.Job.{Job}
 use Rattle.fc_change.specs.After.{AreOwnersAfter, CanTakeOver, nodes_after, nodes_more, owners_admitted}
-use Rattle.fc_course.specs.declared.holdings.Holdings.{Holdings}
+use Rattle.fc_holdings.specs.declared.holdings.Holdings.{Holdings}
 use Rattle.fc_course.specs.declared.stages.Prepared.{Prepared}
-use Rattle.fc_course.specs.Holdings.{CopiesAre, Stands, parts_of}
+use Rattle.fc_holdings.specs.Holdings.{CopiesAre, Stands, parts_of}
 use Rattle.fc_course.specs.Jobs.{HasLaws, IsJudged}
 use Rattle.fc_course.specs.Laws.{CourseLaw, JobLaws}
 use Rattle.fc_course.specs.Run.{IsMapIn, IsRun}

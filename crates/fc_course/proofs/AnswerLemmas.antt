@@ -2,8 +2,8 @@
 use Rattle.std.proofs.Common.{◌≡◌, Option, Some, None}
 use Rattle.std.specs.Prelude.{Err, Ok}
 use Rattle.fc_names.specs.declared.refusal.Refusal.{Refusal}
-use Rattle.fc_course.specs.declared.error.CommandError.TheVariants.{Refused, NoMemory, DiskFault}
-use Rattle.fc_course.specs.Answers.{AnswersBy}
+use Rattle.fc_holdings.specs.declared.error.CommandError.TheVariants.{Refused, NoMemory, DiskFault}
+use Rattle.fc_holdings.specs.Answers.{AnswersBy}
 
 pub refused_by : (T : Type 0) (o : Option Refusal) (r : Refusal) → o ≡ Some r → AnswersBy {T = T} o (Err (Refused r))
 refused_by T None r e = absurd (cc)

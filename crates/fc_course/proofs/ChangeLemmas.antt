@@ -29,12 +29,12 @@ use Rattle.fc_writing.specs.declared.ready.Ready.{Ready}
 use Rattle.fc_writing.specs.Old.{IsOfDisc}
 use Rattle.fc_writing.proofs.NewLemmas.{step_geometry}
 use Rattle.fc_change.specs.declared.job.Job.{Job}
-use Rattle.fc_course.specs.declared.error.CommandError.{CommandError}
-use Rattle.fc_course.specs.declared.error.CommandError.TheVariants.{Refused, NoMemory, DiskFault}
-use Rattle.fc_course.specs.declared.holdings.Holdings.{Holdings}
+use Rattle.fc_holdings.specs.declared.error.CommandError.{CommandError}
+use Rattle.fc_holdings.specs.declared.error.CommandError.TheVariants.{Refused, NoMemory, DiskFault}
+use Rattle.fc_holdings.specs.declared.holdings.Holdings.{Holdings}
 use Rattle.fc_course.specs.declared.stages.Prepared.{Prepared}
 use Rattle.fc_course.specs.Answers.{AnswersShort}
-use Rattle.fc_course.specs.Holdings.{CopiesAre, HoldsMap, Stands, parts_of}
+use Rattle.fc_holdings.specs.Holdings.{CopiesAre, HoldsMap, Stands, parts_of}
 use Rattle.fc_course.specs.Jobs.{IsJobFor}
 use Rattle.fc_course.specs.Laws.{HasFront, JobLaws}
 use Rattle.fc_course.specs.Promises.{ChangesParts, HasChanged, MayWrite, WritesPlacesOf}

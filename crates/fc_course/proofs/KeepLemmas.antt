@@ -9,11 +9,11 @@ use Rattle.fc_image.specs.Layout.{Layout, dir_form}
 use Rattle.fc_space.specs.Space.{layout_of}
 use Rattle.fc_tree.specs.Parts.{Parts}
 use Rattle.fc_change.specs.declared.job.Job.{Job}
-use Rattle.fc_course.specs.declared.error.CommandError.{CommandError}
-use Rattle.fc_course.specs.declared.error.CommandError.TheVariants.{Refused, NoMemory, DiskFault}
-use Rattle.fc_course.specs.declared.holdings.Holdings.{Holdings}
-use Rattle.fc_course.specs.Answers.{UnlessFault}
-use Rattle.fc_course.specs.Holdings.{IsSameKind, Stands, parts_of}
+use Rattle.fc_holdings.specs.declared.error.CommandError.{CommandError}
+use Rattle.fc_holdings.specs.declared.error.CommandError.TheVariants.{Refused, NoMemory, DiskFault}
+use Rattle.fc_holdings.specs.declared.holdings.Holdings.{Holdings}
+use Rattle.fc_holdings.specs.Answers.{UnlessFault}
+use Rattle.fc_holdings.specs.Holdings.{IsSameKind, Stands, parts_of}
 use Rattle.fc_course.specs.Promises.{ChangeKeeps}
 use Rattle.fc_course.specs.Stages.{RefusesJob}
 

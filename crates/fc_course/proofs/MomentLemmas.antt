@@ -22,9 +22,9 @@ use Rattle.fc_writing.proofs.CopyLemmas.{chooses_first}
 use Rattle.fc_writing.proofs.FrontLemmas.{HasUnits, count_of, in_front_at}
 use Rattle.fc_writing.proofs.LeavesLemmas.{leaves_law}
 use Rattle.fc_change.specs.declared.job.Job.{Job}
-use Rattle.fc_course.specs.declared.holdings.Holdings.{Holdings}
+use Rattle.fc_holdings.specs.declared.holdings.Holdings.{Holdings}
 use Rattle.fc_course.specs.declared.stages.Prepared.{Prepared}
-use Rattle.fc_course.specs.Holdings.{CopiesAre, Stands, parts_of}
+use Rattle.fc_holdings.specs.Holdings.{CopiesAre, Stands, parts_of}
 use Rattle.fc_course.specs.Promises.{IsAsBefore, IsUnderWay, JobLeaves, SameMap, StepsMap}
 use Rattle.fc_course.specs.Run.{IsMapIn}
 use Rattle.fc_course.specs.Stages.{IsPreparedFor}

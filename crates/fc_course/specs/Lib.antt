@@ -1,5 +1,4 @@
 pub mod Answers
-pub mod Holdings
 pub mod Jobs
 pub mod Laws
 pub mod Promises

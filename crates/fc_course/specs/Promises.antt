@@ -37,11 +37,11 @@ use Rattle.fc_change.specs.declared.spaces.GrownPlace.{GrownPlace}
 use Rattle.fc_change.specs.declared.spaces.Place.{Place}
 use Rattle.fc_change.specs.declared.spaces.Spaces.{Spaces}
 use Rattle.fc_change.specs.Drafts.{IsChangeOf}
-use Rattle.fc_course.specs.declared.error.CommandError.{CommandError}
-use Rattle.fc_course.specs.declared.error.CommandError.TheVariants.{DiskFault}
-use Rattle.fc_course.specs.declared.holdings.Holdings.{Holdings}
-use Rattle.fc_course.specs.Answers.{UnlessFault}
-use Rattle.fc_course.specs.Holdings.{IsSameKind, Stands, parts_of}
+use Rattle.fc_holdings.specs.declared.error.CommandError.{CommandError}
+use Rattle.fc_holdings.specs.declared.error.CommandError.TheVariants.{DiskFault}
+use Rattle.fc_holdings.specs.declared.holdings.Holdings.{Holdings}
+use Rattle.fc_holdings.specs.Answers.{UnlessFault}
+use Rattle.fc_holdings.specs.Holdings.{IsSameKind, Stands, parts_of}
 use Rattle.fc_course.specs.Stages.{IsSpaced}
 
 -- ---- what an accepted command does

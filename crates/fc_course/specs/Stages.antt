@@ -15,9 +15,9 @@ use Rattle.fc_change.specs.Needs.{AreWants, CanWant, HasRoomOf}
 use Rattle.fc_change.specs.Places.{ArePlacesFor, CanPlace}
 use Rattle.fc_change.specs.Prepared.{CanPrepare, IsReadyFor}
 use Rattle.fc_change.specs.Shortage.{shortage}
-use Rattle.fc_course.specs.declared.error.CommandError.{CommandError}
-use Rattle.fc_course.specs.declared.error.CommandError.TheVariants.{Refused, NoMemory, DiskFault}
-use Rattle.fc_course.specs.declared.holdings.Holdings.{Holdings}
+use Rattle.fc_holdings.specs.declared.error.CommandError.{CommandError}
+use Rattle.fc_holdings.specs.declared.error.CommandError.TheVariants.{Refused, NoMemory, DiskFault}
+use Rattle.fc_holdings.specs.declared.holdings.Holdings.{Holdings}
 use Rattle.fc_course.specs.declared.stages.Prepared.{Prepared}
 
 -- What a job wants has this space.

@@ -3,19 +3,18 @@ ghost use Rattle.std.specs.Prelude.{◌≡◌, IfErr, IfOk, IsTrue, IsFalse, OnE
 ghost use Rattle.fc_device.specs.Calls.{StopsAndExitsLeave};
 ghost use Rattle.fc_model.specs.Command.{Command};
 ghost use Rattle.fc_course.specs.Answers.{AnswersShort};
-ghost use Rattle.fc_course.specs.Holdings.{Stands, parts_of};
+ghost use Rattle.fc_holdings.specs.Holdings.{Stands, parts_of};
 ghost use Rattle.fc_course.specs.Jobs.{HasLaws, IsJobFor, IsJudged};
 ghost use Rattle.fc_course.specs.Stages.{CanPrepareJob, IsAdmitted, IsPreparedFor, RefusesJob};
 ghost use Rattle.fc_course.specs.Promises.{ChangeKeeps, HasChanged, JobLeaves, WritesPlacesOf};
 
-use crate::error::CommandError;
-use crate::holdings::Holdings;
 use crate::laws::jobs;
 use crate::maps::is_map;
 use crate::stages::{Prepared, prepare_job};
 use crate::writing::write_change;
 use fc_change::{Held, Job, admit, take_over};
 use fc_device::{Disk, DiskFault};
+use fc_holdings::{CommandError, Holdings};
 use fc_names::Name;
 use fc_writing::Copies;
 use std::alloc::Global;

@@ -3,15 +3,12 @@
 #![tactic(auto)]
 
 mod course;
-mod error;
-mod holdings;
 mod laws;
 mod maps;
 mod stages;
 mod writing;
 
 pub use course::change;
-pub use error::CommandError;
-pub use holdings::Holdings;
+pub use fc_holdings::{CommandError, Holdings};
 pub use laws::jobs;
 pub use maps::is_map;

@@ -3,8 +3,8 @@ ghost use Rattle.std.specs.Prelude.{IfErr, IfOk};
 ghost use Rattle.fc_change.specs.Held.{parts_of};
 ghost use Rattle.fc_course.specs.Stages.{CanPrepareJob, IsPreparedFor, RefusesJob};
 
-use crate::error::CommandError;
-use fc_change::{Change, Held, Job, Ready, draft, place, prepare, wants};
+use fc_change::{Change, Held, Job, Ready, SpaceError, draft, place, prepare, wants};
+use fc_holdings::CommandError;
 use fc_names::Name;
 use std::alloc::Global;
 
@@ -28,7 +28,11 @@ pub fn prepare_job(
     ensures refused { IfErr result (RefusesJob (parts_of held.now) job.now name.now) }
 {
     let wanted = wants(held, job, name)?;
-    let spaces = place(alloc, held, &wanted)?;
+    let spaces = match place(alloc, held, &wanted) {
+        Ok(spaces) => spaces,
+        Err(SpaceError::Refused(refusal)) => return Err(CommandError::Refused(refusal)),
+        Err(SpaceError::NoMemory) => return Err(CommandError::NoMemory),
+    };
     let change = draft(alloc, held, *job, name, &spaces)?;
     let ready = prepare(alloc, held, &change, spaces)?;
     Ok(Prepared { change, ready })

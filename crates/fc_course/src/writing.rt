@@ -5,7 +5,7 @@ ghost use Rattle.fc_device.specs.Calls.{FailsByFault, SameForm, StopsAndExitsLea
 ghost use Rattle.fc_image.specs.Layout.{sector_bytes};
 ghost use Rattle.fc_space.specs.Space.{layout_of};
 ghost use Rattle.fc_writing.specs.Old.{CanWrite, ChangeLeaves, IsChanged};
-ghost use Rattle.fc_course.specs.Holdings.{CopiesAre, HoldsMap, IsSameKind};
+ghost use Rattle.fc_holdings.specs.Holdings.{CopiesAre, HoldsMap, IsSameKind};
 ghost use Rattle.fc_course.specs.Written.{CanWriteOn, ChangeLeavesOn, IsChangedOn, IsGivenOn, map_after, space_after};
 
 use fc_device::{Disk, DiskFault};

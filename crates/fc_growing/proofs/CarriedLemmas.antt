@@ -22,7 +22,7 @@ use Rattle.fc_placing.proofs.AddressLemmas.{plan_id}
 use Rattle.fc_refusals.specs.declared.target.Target.{Target}
 use Rattle.fc_tree.specs.declared.node.Node.{Node}
 use Rattle.fc_tree.proofs.WalkedLemmas.{same_some}
-use Rattle.fc_volume.specs.declared.copies.Copies.TheVariants.{Equal}
+use Rattle.fc_writing.specs.declared.copies.Copies.TheVariants.{Equal}
 use Rattle.fc_volume.specs.Copying.{IsFirstCopied}
 use Rattle.fc_volume.specs.Volume.{Volume}
 use Rattle.fc_volume.proofs.StoringLemmas.{wider_first, wider_last}

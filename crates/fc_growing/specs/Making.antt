@@ -16,8 +16,8 @@ use Rattle.fc_plan.specs.declared.plan.Plan.{Plan}
 use Rattle.fc_plan.specs.declared.supply.PlanError.{PlanError}
 use Rattle.fc_plan.specs.declared.supply.PlanError.TheVariants as errors
 use Rattle.fc_names.specs.declared.refusal.Refusal.TheVariants as refusals
-use Rattle.fc_volume.specs.declared.lines.CommandError.{CommandError}
-use Rattle.fc_volume.specs.declared.lines.CommandError.TheVariants.{Refused, NoMemory}
+use Rattle.fc_holdings.specs.declared.error.CommandError.{CommandError}
+use Rattle.fc_holdings.specs.declared.error.CommandError.TheVariants.{Refused, NoMemory}
 use Rattle.fc_tree.specs.declared.node.Node.{Node}
 use Rattle.fc_tree.specs.Agree.{HasForm}
 use Rattle.fc_tree.specs.Nodes.{body_in, next_number, nodes_of}
@@ -26,7 +26,7 @@ use Rattle.fc_drafts.specs.declared.room.Room.{Room}
 use Rattle.fc_drafts.specs.Gains.{GetsName, HasRoom}
 use Rattle.fc_image.specs.effects.Short.{Gain}
 use Rattle.fc_space.specs.Space.{layout_of}
-use Rattle.fc_volume.specs.declared.copies.Copies.TheVariants.{Equal}
+use Rattle.fc_writing.specs.declared.copies.Copies.TheVariants.{Equal}
 use Rattle.fc_volume.specs.Volume.{Volume}
 use Rattle.fc_growing.specs.declared.making.GrownMaking.{GrownMaking}
 use Rattle.fc_growing.specs.declared.place.GrownPlace.{GrownPlace}

@@ -24,7 +24,7 @@ use Rattle.fc_grownlaws.specs.nodes.Regrown.{with_bodies}
 use Rattle.fc_volume.specs.declared.changes.moving.Leaving.{Leaving}
 use Rattle.fc_volume.specs.declared.changes.relocate.Relocation.{Relocation}
 use Rattle.fc_volume.specs.declared.changes.rewrite.Rewrite.{Rewrite}
-use Rattle.fc_volume.specs.declared.copies.Copies.TheVariants.{Equal}
+use Rattle.fc_writing.specs.declared.copies.Copies.TheVariants.{Equal}
 use Rattle.fc_volume.specs.Moving.{held_by}
 use Rattle.fc_volume.specs.Relocating.{HasMore, HasOwner, relocated, with_owner}
 use Rattle.fc_volume.specs.Renaming.{IsTurnable, IsTurned}

@@ -21,7 +21,7 @@ use Rattle.fc_tree.specs.declared.node.Node.{Node}
 use Rattle.fc_tree.specs.Agree.{HasForm}
 use Rattle.fc_tree.specs.Nodes.{body_in, next_number, nodes_of}
 use Rattle.fc_volume.specs.declared.changes.putting.FileWords.{FileWords}
-use Rattle.fc_volume.specs.declared.copies.Copies.TheVariants.{Equal}
+use Rattle.fc_writing.specs.declared.copies.Copies.TheVariants.{Equal}
 use Rattle.fc_volume.specs.Owners.{entry_owner, with_owner}
 use Rattle.fc_volume.specs.Volume.{Volume}
 use Rattle.fc_growing.specs.declared.file.FilePlace.{FilePlace}

@@ -18,11 +18,12 @@ ghost use Rattle.fc_space.specs.Space.{layout_of};
 ghost use Rattle.fc_tree.specs.declared.node.Node.{Node};
 ghost use Rattle.fc_tree.specs.Nodes.{nodes_of};
 ghost use Rattle.fc_volume.specs.Changing.{AnswersOver, ChangeKeeps, HasChanged, WritesOnlyPlaces};
-ghost use Rattle.fc_volume.specs.Compacting.{UnlessFault};
+ghost use Rattle.fc_holdings.specs.Answers.{UnlessFault};
+ghost use Rattle.fc_holdings.specs.Holdings.{HoldsMap};
 ghost use Rattle.fc_volume.specs.Copying.{IsFirstCopied};
-ghost use Rattle.fc_volume.specs.declared.copies.Copies.TheVariants.{Equal};
+ghost use Rattle.fc_writing.specs.declared.copies.Copies.TheVariants.{Equal};
 ghost use Rattle.fc_volume.specs.Making.{AnswersSpace};
-ghost use Rattle.fc_volume.specs.Volume.{HasCopies, HoldsMap, StandsFor, parts_of};
+ghost use Rattle.fc_volume.specs.Volume.{HasCopies, StandsFor, parts_of};
 ghost use Rattle.fc_growing.specs.Around.{LieOn};
 ghost use Rattle.fc_growing.specs.Carried.{CanCopyGrown, CanCopyOn, CanGrowCopied, IsCarriedDone, IsCopiedReady, IsOffMap, IsReadyCopied, copy_address, sectors_carried, sectors_to};
 ghost use Rattle.fc_growing.specs.File.{placing_in};
@@ -244,9 +245,14 @@ fn copy_file<D: Disk>(
     ensures faults { D.faults disk.old ≤ D.faults disk.new }
     ensures cause { result ≡ Err CommandError.DiskFault → Rose (D.faults disk.old) (D.faults disk.new) }
 {
-    match copy_placed(disk, &volume.places, volume.copies, change) {
+    match copy_placed(
+        disk,
+        &volume.holdings.places,
+        volume.holdings.copies,
+        change,
+    ) {
         Ok(()) => {
-            volume.copies = Copies::Equal;
+            volume.holdings.copies = Copies::Equal;
             Ok(())
         }
         Err(DiskFault) => {
@@ -320,15 +326,15 @@ pub(crate) fn grow_copied<D: Disk>(
     ensures keeps { ChangeKeeps D.Disk disk.old disk.new volume.old volume.new result }
     ensures form_stays { UnlessFault result (dir_form (parts_of volume.new).layout ≡ dir_form (parts_of volume.old).layout) }
 {
-    is_new_map(&volume.places);
+    is_new_map(&volume.holdings.places);
     fc_laws::takeover::places();
-    volume.places.places_suffice();
-    let _ = volume.owners.list();
+    volume.holdings.places.places_suffice();
+    let _ = volume.holdings.owners.list();
     match draft_copied(
         alloc,
-        &volume.tree,
-        &volume.places,
-        &volume.owners,
+        &volume.holdings.tree,
+        &volume.holdings.places,
+        &volume.holdings.owners,
         renaming.target,
         renaming.holder,
         to,

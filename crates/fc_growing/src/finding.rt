@@ -83,8 +83,13 @@ pub fn find_growth(
     ensures refused { IfErr result (λ error. (c : Command) (load exec : ℕ) (bytes : List ℕ) → MakesFile c p.now load exec bytes → AnswersOver {T = Unit {0}} volume.now c (Err error)) }
     ensures no_fault { IfErr result (λ error. error ≡ CommandError.DiskFault → ⊥) }
 {
-    match judge_save(&volume.tree, volume.places.dir_form(), volume.read_only, p) {
-        Ok(Slot::New(dir)) => growth_at(alloc, &volume.tree, dir, p),
+    match judge_save(
+        &volume.holdings.tree,
+        volume.holdings.places.dir_form(),
+        volume.read_only,
+        p,
+    ) {
+        Ok(Slot::New(dir)) => growth_at(alloc, &volume.holdings.tree, dir, p),
         Ok(Slot::Over(_)) => Ok(None),
         Err(refusal) => Err(CommandError::Refused(refusal)),
     }

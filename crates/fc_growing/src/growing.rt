@@ -12,7 +12,8 @@ ghost use Rattle.fc_newmap.specs.Map.{Map};
 ghost use Rattle.fc_space.specs.Space.{layout_of};
 ghost use Rattle.fc_tree.specs.Nodes.{nodes_of};
 ghost use Rattle.fc_volume.specs.Filing.{HasWritten};
-ghost use Rattle.fc_volume.specs.Volume.{HasCopies, HoldsMap, parts_of};
+ghost use Rattle.fc_holdings.specs.Holdings.{HoldsMap};
+ghost use Rattle.fc_volume.specs.Volume.{HasCopies, parts_of};
 ghost use Rattle.fc_growing.specs.Around.{CanRegrow, LieOn};
 ghost use Rattle.fc_growing.specs.Growing.{CanTakeOver, HasTakenOver, HasTakenOverWith, IsGrowingDone, IsGrowingReady, LiesOn, parent_after, regrowth, sectors_written};
 ghost use Rattle.fc_growing.specs.Place.{CanApply};
@@ -212,9 +213,16 @@ pub fn write_growing<D: Disk>(
     ensures faults { D.faults disk.old ≤ D.faults disk.new }
     ensures cause { result ≡ Err CommandError.DiskFault → Rose (D.faults disk.old) (D.faults disk.new) }
 {
-    match write_grown(disk, &mut volume.places, volume.copies, r, bytes, others) {
+    match write_grown(
+        disk,
+        &mut volume.holdings.places,
+        volume.holdings.copies,
+        r,
+        bytes,
+        others,
+    ) {
         Ok(()) => {
-            volume.copies = Copies::Equal;
+            volume.holdings.copies = Copies::Equal;
             Ok(())
         }
         Err(DiskFault) => {
@@ -243,13 +251,13 @@ pub fn take_over_growing(volume: &mut Volume, r: Growing)
         len: growth.place.len,
     };
     take_over_around(
-        &mut volume.tree,
-        &mut volume.owners,
-        &volume.places,
+        &mut volume.holdings.tree,
+        &mut volume.holdings.owners,
+        &volume.holdings.places,
         around,
         grown,
     );
-    set_body(&mut volume.tree, node, draft);
+    set_body(&mut volume.holdings.tree, node, draft);
 }
 
 /// The same, with the node of a new object, for which the volume has memory.
@@ -258,6 +266,6 @@ pub fn take_over_with(volume: &mut Volume, r: Growing, node: Node)
     requires room { 0 < volume.old.tree.room }
     ensures { HasTakenOverWith volume.old volume.new r node }
 {
-    volume.tree.add(node);
+    volume.holdings.tree.add(node);
     take_over_growing(volume, r);
 }

@@ -22,10 +22,11 @@ ghost use Rattle.fc_space.specs.Space.{layout_of};
 ghost use Rattle.fc_tree.specs.declared.node.Node.{Node};
 ghost use Rattle.fc_tree.specs.Nodes.{HoldObjects, body_in, nodes_of};
 ghost use Rattle.fc_tree.specs.Parts.{ArePartsOf};
-ghost use Rattle.fc_volume.specs.Changing.{AnswersBy, AnswersOver, ChangeKeeps, HasChanged, WritesOnlyPlaces};
-ghost use Rattle.fc_volume.specs.Compacting.{UnlessFault};
+ghost use Rattle.fc_holdings.specs.Answers.{AnswersBy, UnlessFault};
+ghost use Rattle.fc_holdings.specs.Holdings.{HoldsMap};
+ghost use Rattle.fc_volume.specs.Changing.{AnswersOver, ChangeKeeps, HasChanged, WritesOnlyPlaces};
 ghost use Rattle.fc_volume.specs.Making.{AnswersSpace};
-ghost use Rattle.fc_volume.specs.Volume.{HasCopies, HoldsMap, StandsFor, parts_of};
+ghost use Rattle.fc_volume.specs.Volume.{HasCopies, StandsFor, parts_of};
 ghost use Rattle.fc_growing.specs.Growing.{CanTakeOver, HasTakenOverWith, IsGrowingDone, LiesOn, sectors_written};
 ghost use Rattle.fc_growing.specs.Making.{CanGrowBy, HasMadeGrown, HasRoomAt, IsCdirReady, node_made};
 ghost use Rattle.fc_growing.specs.Needs.{short_of};
@@ -193,13 +194,13 @@ fn cdir_growing<D: Disk>(
     ensures keeps { ChangeKeeps D.Disk disk.old disk.new volume.old volume.new result }
     ensures form_stays { UnlessFault result (dir_form (parts_of volume.new).layout ≡ dir_form (parts_of volume.old).layout) }
 {
-    is_new_map(&volume.places);
-    let _ = volume.owners.list();
+    is_new_map(&volume.holdings.places);
+    let _ = volume.holdings.owners.list();
     let change = match draft_grown(
         alloc,
-        &volume.tree,
-        &volume.places,
-        &volume.owners,
+        &volume.holdings.tree,
+        &volume.holdings.places,
+        &volume.holdings.owners,
         dir,
         p,
         len,
@@ -207,7 +208,7 @@ fn cdir_growing<D: Disk>(
         Ok(change) => change,
         Err(error) => return Err(error),
     };
-    let n = volume.tree.next_number();
+    let n = volume.holdings.tree.next_number();
     match volume.admit(n, dir, &change.entry) {
         Ok(()) => make(volume, disk, change),
         Err(NoMemory) => Err(CommandError::NoMemory),
@@ -237,13 +238,13 @@ pub fn cdir<D: Disk>(
     ensures keeps { ChangeKeeps D.Disk disk.old disk.new volume.old volume.new result }
     ensures form_stays { UnlessFault result (dir_form (parts_of volume.new).layout ≡ dir_form (parts_of volume.old).layout) }
 {
-    is_new_map(&volume.places);
-    let form = volume.places.dir_form();
-    let dir = match judge_cdir(&volume.tree, form, volume.read_only, p) {
+    is_new_map(&volume.holdings.places);
+    let form = volume.holdings.places.dir_form();
+    let dir = match judge_cdir(&volume.holdings.tree, form, volume.read_only, p) {
         Ok(dir) => dir,
         Err(refusal) => return Err(CommandError::Refused(refusal)),
     };
-    let room = match room_at(alloc, &volume.tree, dir, p) {
+    let room = match room_at(alloc, &volume.holdings.tree, dir, p) {
         Ok(room) => room,
         Err(NoMemory) => return Err(CommandError::NoMemory),
     };

@@ -18,9 +18,10 @@ ghost use Rattle.fc_space.specs.Space.{layout_of};
 ghost use Rattle.fc_tree.specs.declared.node.Node.{Node};
 ghost use Rattle.fc_tree.specs.Nodes.{nodes_of};
 ghost use Rattle.fc_volume.specs.Changing.{AnswersOver, ChangeKeeps, HasChanged, WritesOnlyPlaces};
-ghost use Rattle.fc_volume.specs.Compacting.{UnlessFault};
+ghost use Rattle.fc_holdings.specs.Answers.{UnlessFault};
+ghost use Rattle.fc_holdings.specs.Holdings.{HoldsMap};
 ghost use Rattle.fc_volume.specs.Making.{AnswersSpace};
-ghost use Rattle.fc_volume.specs.Volume.{HasCopies, HoldsMap, StandsFor, parts_of};
+ghost use Rattle.fc_volume.specs.Volume.{HasCopies, StandsFor, parts_of};
 ghost use Rattle.fc_growing.specs.Around.{LieOn};
 ghost use Rattle.fc_growing.specs.Growing.{IsGrowingDone, LiesOn, sectors_written};
 ghost use Rattle.fc_growing.specs.Naming.{CanGrowAcross, CanGrowWithin, CanTakeName, HasNamed, IsReadyAcross, IsReadyWithin};
@@ -235,15 +236,15 @@ fn grow_within<D: Disk>(
     ensures keeps { ChangeKeeps D.Disk disk.old disk.new volume.old volume.new result }
     ensures form_stays { UnlessFault result (dir_form (parts_of volume.new).layout ≡ dir_form (parts_of volume.old).layout) }
 {
-    is_new_map(&volume.places);
+    is_new_map(&volume.holdings.places);
     fc_laws::takeover::places();
-    volume.places.places_suffice();
-    let _ = volume.owners.list();
+    volume.holdings.places.places_suffice();
+    let _ = volume.holdings.owners.list();
     match draft_within(
         alloc,
-        &volume.tree,
-        &volume.places,
-        &volume.owners,
+        &volume.holdings.tree,
+        &volume.holdings.places,
+        &volume.holdings.owners,
         renaming.target,
         to,
         len,
@@ -278,15 +279,15 @@ fn grow_across<D: Disk>(
     ensures keeps { ChangeKeeps D.Disk disk.old disk.new volume.old volume.new result }
     ensures form_stays { UnlessFault result (dir_form (parts_of volume.new).layout ≡ dir_form (parts_of volume.old).layout) }
 {
-    is_new_map(&volume.places);
+    is_new_map(&volume.holdings.places);
     fc_laws::takeover::places();
-    volume.places.places_suffice();
-    let _ = volume.owners.list();
+    volume.holdings.places.places_suffice();
+    let _ = volume.holdings.owners.list();
     match draft_across(
         alloc,
-        &volume.tree,
-        &volume.places,
-        &volume.owners,
+        &volume.holdings.tree,
+        &volume.holdings.places,
+        &volume.holdings.owners,
         renaming.target,
         renaming.holder,
         to,
@@ -323,12 +324,12 @@ pub fn rename<D: Disk>(
     ensures keeps { ChangeKeeps D.Disk disk.old disk.new volume.old volume.new result }
     ensures form_stays { UnlessFault result (dir_form (parts_of volume.new).layout ≡ dir_form (parts_of volume.old).layout) }
 {
-    is_new_map(&volume.places);
+    is_new_map(&volume.holdings.places);
     let renaming = match accept(volume, from, to) {
         Ok(renaming) => renaming,
         Err(refusal) => return Err(CommandError::Refused(refusal)),
     };
-    let room = match room_of(alloc, &volume.tree, renaming, to) {
+    let room = match room_of(alloc, &volume.holdings.tree, renaming, to) {
         Ok(room) => room,
         Err(NoMemory) => return Err(CommandError::NoMemory),
     };
@@ -339,7 +340,11 @@ pub fn rename<D: Disk>(
             if renaming.holder == renaming.target.holder {
                 return grow_within(volume, alloc, disk, from, to, renaming, len);
             }
-            if is_copied(&volume.owners, renaming.target.node, renaming.holder) {
+            if is_copied(
+                &volume.holdings.owners,
+                renaming.target.node,
+                renaming.holder,
+            ) {
                 return grow_copied(volume, alloc, disk, from, to, renaming, len);
             }
             grow_across(volume, alloc, disk, from, to, renaming, len)

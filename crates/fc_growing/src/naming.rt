@@ -198,9 +198,9 @@ pub fn take_over_name(volume: &mut Volume, change: Naming)
         len: place.len,
     };
     take_over_around(
-        &mut volume.tree,
-        &mut volume.owners,
-        &volume.places,
+        &mut volume.holdings.tree,
+        &mut volume.holdings.owners,
+        &volume.holdings.places,
         growing.around,
         grown,
     );
@@ -219,5 +219,9 @@ pub fn take_over_name(volume: &mut Volume, change: Naming)
         entry: change.entry,
         owner: change.owner,
     };
-    take_over(&mut volume.tree, &mut volume.owners, object);
+    take_over(
+        &mut volume.holdings.tree,
+        &mut volume.holdings.owners,
+        object,
+    );
 }

@@ -27,8 +27,8 @@ pub fn accept(volume: &Volume, from: &Path, to: &Path) -> Result<Renaming, Refus
         → refusal_in v image volume.now.read_only (Command.Rename from.now to.now) ≡ Some refusal) }
 {
     judge_rename(
-        &volume.tree,
-        volume.places.dir_form(),
+        &volume.holdings.tree,
+        volume.holdings.places.dir_form(),
         volume.read_only,
         from,
         to,

@@ -10,9 +10,10 @@ ghost use Rattle.fc_model.specs.Command.{Command};
 ghost use Rattle.fc_newmap.specs.Map.{Map};
 ghost use Rattle.fc_tree.specs.Nodes.{nodes_of};
 ghost use Rattle.fc_volume.specs.Changing.{AnswersOver, ChangeKeeps, HasChanged, WritesOnlyPlaces};
-ghost use Rattle.fc_volume.specs.Compacting.{UnlessFault};
+ghost use Rattle.fc_holdings.specs.Answers.{UnlessFault};
+ghost use Rattle.fc_holdings.specs.Holdings.{HoldsMap};
 ghost use Rattle.fc_volume.specs.Saving.{MakesFilled};
-ghost use Rattle.fc_volume.specs.Volume.{HasCopies, HoldsMap, StandsFor, parts_of};
+ghost use Rattle.fc_volume.specs.Volume.{HasCopies, StandsFor, parts_of};
 ghost use Rattle.fc_growing.specs.Finding.{IsGrowthFound};
 ghost use Rattle.fc_growing.specs.Growing.{CanTakeOver, HasTakenOverWith, IsGrowingDone, LiesOn, sectors_written};
 ghost use Rattle.fc_growing.specs.Saving.{HasPutGrown, node_put};
@@ -111,14 +112,14 @@ fn put_grown<D: Disk>(
     ensures keeps { ChangeKeeps D.Disk disk.old disk.new volume.old volume.new result }
     ensures form_stays { UnlessFault result (dir_form (parts_of volume.new).layout ≡ dir_form (parts_of volume.old).layout) }
 {
-    is_new_map(&volume.places);
-    let _ = volume.owners.list();
+    is_new_map(&volume.holdings.places);
+    let _ = volume.holdings.owners.list();
     let dir = outgrown.dir;
     let drafted = draft_grown_file(
         alloc,
-        &volume.tree,
-        &volume.places,
-        &volume.owners,
+        &volume.holdings.tree,
+        &volume.holdings.places,
+        &volume.holdings.owners,
         outgrown,
         words,
     );
@@ -126,7 +127,7 @@ fn put_grown<D: Disk>(
         Ok(change) => change,
         Err(error) => return Err(error),
     };
-    let n = volume.tree.next_number();
+    let n = volume.holdings.tree.next_number();
     match volume.admit(n, dir, &change.entry) {
         Ok(()) => write_grown_file(volume, disk, change, bytes),
         Err(NoMemory) => Err(CommandError::NoMemory),

@@ -12,9 +12,9 @@ use Rattle.fc_image.specs.Layout.{Layout}
 use Rattle.fc_image.specs.Stays.{IsNewLayout}
 use Rattle.fc_reclaim.specs.Reclaiming.{LeavesOwned}
 use Rattle.fc_space.specs.Space.{layout_of}
-use Rattle.fc_volume.specs.declared.copies.Copies.TheVariants.{Equal}
-use Rattle.fc_volume.specs.declared.lines.CommandError.{CommandError}
-use Rattle.fc_volume.specs.declared.lines.CommandError.TheVariants.{DiskFault, Refused}
+use Rattle.fc_writing.specs.declared.copies.Copies.TheVariants.{Equal}
+use Rattle.fc_holdings.specs.declared.error.CommandError.{CommandError}
+use Rattle.fc_holdings.specs.declared.error.CommandError.TheVariants.{DiskFault, Refused}
 use Rattle.fc_volume.specs.Volume.{StandsFor, Volume}
 use Rattle.fc_lost.specs.Reclaiming.{HasGeometryOf, HasGivenBack, ReclaimKeeps, reclaim_refusal}
 use Rattle.fc_lost.proofs.StandsLemmas.{stands_after}

@@ -28,9 +28,10 @@ use Rattle.fc_tree.specs.Parts.{ArePartsOf, Parts}
 use Rattle.fc_reclaim.specs.Reclaiming.{CanReclaim, CountsIn, LeavesOwned}
 use Rattle.fc_reclaim.specs.Settled.{by_map}
 use Rattle.fc_reclaim.proofs.PartsLemmas.{agree_after, kind_after, parts_after}
-use Rattle.fc_volume.specs.declared.copies.Copies.{Copies}
-use Rattle.fc_volume.specs.declared.copies.Copies.TheVariants.{Equal, Chosen}
-use Rattle.fc_volume.specs.Volume.{HasCopies, HoldsMap, StandsFor, Volume, parts_of}
+use Rattle.fc_writing.specs.declared.copies.Copies.{Copies}
+use Rattle.fc_writing.specs.declared.copies.Copies.TheVariants.{Equal, Chosen}
+use Rattle.fc_holdings.specs.Holdings.{HoldsMap}
+use Rattle.fc_volume.specs.Volume.{HasCopies, StandsFor, Volume, parts_of}
 use Rattle.fc_volume.proofs.StandsLemmas.{can_compact, new_layout}
 use Rattle.fc_lost.specs.Reclaiming.{HasGivenBack, HasReclaimed, LeavesOwnedOf, which_in}
 use Rattle.fc_lost.proofs.OwnersLemmas.{own_same}

@@ -16,11 +16,11 @@ use Rattle.fc_image.specs.Opening.{Opened}
 use Rattle.fc_image.specs.Stays.{OpensAs}
 use Rattle.fc_image.specs.safe.Reclaim.{Reclaims, StaysOwned, reclaimed_bytes}
 use Rattle.fc_tree.specs.Parts.{ArePartsOf, Parts}
-use Rattle.fc_volume.specs.declared.copies.Copies.{Copies}
-use Rattle.fc_volume.specs.declared.copies.Copies.TheVariants.{Equal, Chosen}
-use Rattle.fc_volume.specs.declared.lines.CommandError.{CommandError}
-use Rattle.fc_volume.specs.declared.lines.CommandError.TheVariants as errors
-use Rattle.fc_volume.specs.Compacting.{UnlessFault}
+use Rattle.fc_writing.specs.declared.copies.Copies.{Copies}
+use Rattle.fc_writing.specs.declared.copies.Copies.TheVariants.{Equal, Chosen}
+use Rattle.fc_holdings.specs.declared.error.CommandError.{CommandError}
+use Rattle.fc_holdings.specs.declared.error.CommandError.TheVariants as errors
+use Rattle.fc_holdings.specs.Answers.{UnlessFault}
 use Rattle.fc_volume.specs.Volume.{StandsFor, Volume, parts_of}
 use Rattle.fc_reclaim.specs.Reclaiming.{HasReclaimed as HasReclaimedMap, ReclaimsMap}
 

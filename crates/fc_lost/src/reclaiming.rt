@@ -8,7 +8,8 @@ ghost use Rattle.fc_image.specs.Layout.{Layout, sector_bytes};
 ghost use Rattle.fc_image.specs.Stays.{IsNewLayout};
 ghost use Rattle.fc_reclaim.specs.Reclaiming.{CanReclaim, LeavesOwned};
 ghost use Rattle.fc_space.specs.Space.{layout_of};
-ghost use Rattle.fc_volume.specs.Volume.{HoldsMap, StandsFor, parts_of};
+ghost use Rattle.fc_holdings.specs.Holdings.{HoldsMap};
+ghost use Rattle.fc_volume.specs.Volume.{StandsFor, parts_of};
 ghost use Rattle.fc_lost.specs.Reclaiming.{HasGeometryOf, HasGivenBack, HasReclaimed, LeavesOwnedOf, ReclaimKeeps, reclaim_refusal, which_in};
 
 use fc_alloc::Owners;
@@ -91,13 +92,18 @@ pub fn reclaim<D: Disk>(volume: &mut Volume, disk: &mut D) -> Result<u64, Comman
     if volume.read_only {
         return Err(CommandError::Refused(Refusal::ReadOnly));
     }
-    if has_old_map(&volume.places) {
+    if has_old_map(&volume.holdings.places) {
         return Err(CommandError::Refused(Refusal::NotNewMap));
     }
-    let which = which_of(volume.copies);
-    match reclaim_places(disk, &mut volume.places, which, &volume.owners) {
+    let which = which_of(volume.holdings.copies);
+    match reclaim_places(
+        disk,
+        &mut volume.holdings.places,
+        which,
+        &volume.holdings.owners,
+    ) {
         Ok(bytes) => {
-            volume.copies = Copies::Equal;
+            volume.holdings.copies = Copies::Equal;
             Ok(bytes)
         }
         Err(DiskFault) => {

@@ -30,12 +30,14 @@ use Rattle.fc_tree.specs.Parts.{AreOwners, ArePartsOf, Parts}
 use Rattle.fc_names.specs.declared.refusal.Refusal.{Refusal}
 use Rattle.fc_image.specs.effects.Short.{short}
 use Rattle.fc_dirs.specs.declared.Entry.{Entry}
-use Rattle.fc_volume.specs.declared.lines.CommandError.{CommandError}
-use Rattle.fc_volume.specs.declared.lines.CommandError.TheVariants.{Refused, NoMemory, DiskFault}
-use Rattle.fc_volume.specs.declared.copies.Copies.{Copies}
-use Rattle.fc_volume.specs.Changing.{AnswersBy, HasChanged}
+use Rattle.fc_holdings.specs.declared.error.CommandError.{CommandError}
+use Rattle.fc_holdings.specs.declared.error.CommandError.TheVariants.{Refused, NoMemory, DiskFault}
+use Rattle.fc_writing.specs.declared.copies.Copies.{Copies}
+use Rattle.fc_holdings.specs.Answers.{AnswersBy}
+use Rattle.fc_holdings.specs.Holdings.{HoldsMap}
+use Rattle.fc_volume.specs.Changing.{HasChanged}
 use Rattle.fc_volume.proofs.JudgedLemmas.{refused_by}
-use Rattle.fc_volume.specs.Volume.{HasCopies, HoldsMap, StandsFor, Volume, parts_of}
+use Rattle.fc_volume.specs.Volume.{HasCopies, StandsFor, Volume, parts_of}
 use Rattle.fc_oldvolume.specs.declared.removal.Removal.{Removal}
 use Rattle.fc_oldvolume.specs.Changing.{WritesPlaces}
 use Rattle.fc_oldvolume.specs.Deleting.{CanFree, HasRemoved, IsDeleteReady, IsWrittenWithout, RefusesFull, map_after}

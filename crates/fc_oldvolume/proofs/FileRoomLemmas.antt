@@ -20,8 +20,8 @@ use Rattle.fc_image.specs.Walk.{Object}
 use Rattle.fc_image.specs.effects.Short.{Gain, gain_in, holes_without, is_full_with, new_length, old_need, replaced_object, short, space_reasons, with_space_of}
 use Rattle.fc_oldlaws.specs.agree.Spaces.{SpaceLaw}
 use Rattle.fc_oldchanges.specs.Owed.{holding}
-use Rattle.fc_volume.specs.declared.lines.CommandError.{CommandError}
-use Rattle.fc_volume.specs.declared.lines.CommandError.TheVariants.{Refused, NoMemory, DiskFault}
+use Rattle.fc_holdings.specs.declared.error.CommandError.{CommandError}
+use Rattle.fc_holdings.specs.declared.error.CommandError.TheVariants.{Refused, NoMemory, DiskFault}
 use Rattle.fc_volume.specs.Making.{AnswersSpace}
 use Rattle.fc_oldvolume.specs.Deleting.{map_after}
 use Rattle.fc_oldvolume.specs.Filing.{WantsFile}

@@ -24,8 +24,8 @@ use Rattle.fc_image.specs.Opening.{Opened}
 use Rattle.fc_tree.specs.declared.node.Node.{Node}
 use Rattle.fc_tree.specs.Nodes.{body_in}
 use Rattle.fc_tree.proofs.WalkedLemmas.{same_some}
-use Rattle.fc_volume.specs.declared.lines.CommandError.{CommandError}
-use Rattle.fc_volume.specs.declared.lines.CommandError.TheVariants.{Refused, NoMemory, DiskFault}
+use Rattle.fc_holdings.specs.declared.error.CommandError.{CommandError}
+use Rattle.fc_holdings.specs.declared.error.CommandError.TheVariants.{Refused, NoMemory, DiskFault}
 use Rattle.fc_volume.specs.Making.{AnswersSpace}
 use Rattle.fc_volume.proofs.SettingLemmas.{one_content}
 use Rattle.fc_oldvolume.specs.Making.{CanGain, CanHoldNew, CanMakeIn}

@@ -28,7 +28,7 @@ use Rattle.fc_tree.proofs.WalkedLemmas.{listed_directory}
 use Rattle.fc_refusals.specs.declared.target.Slot.{Slot}
 use Rattle.fc_refusals.specs.Targets.{IsVacant}
 use Rattle.fc_volume.specs.declared.changes.putting.FileWords.{FileWords}
-use Rattle.fc_volume.specs.declared.lines.CommandError.{CommandError}
+use Rattle.fc_holdings.specs.declared.error.CommandError.{CommandError}
 use Rattle.fc_volume.specs.Making.{AnswersSpace}
 use Rattle.fc_volume.specs.Volume.{StandsFor, Volume, parts_of}
 use Rattle.fc_volume.proofs.SaveGainLemmas.{gains}

@@ -27,7 +27,7 @@ use Rattle.fc_refusals.specs.declared.target.Slot.{Slot}
 use Rattle.fc_refusals.specs.declared.target.Target.{Target}
 use Rattle.fc_refusals.specs.Slots.{IsFile}
 use Rattle.fc_volume.specs.declared.changes.putting.FileWords.{FileWords}
-use Rattle.fc_volume.specs.declared.lines.CommandError.{CommandError}
+use Rattle.fc_holdings.specs.declared.error.CommandError.{CommandError}
 use Rattle.fc_volume.specs.Making.{AnswersSpace}
 use Rattle.fc_volume.specs.Replacing.{CanSaveOver}
 use Rattle.fc_volume.specs.Rewrites.{HoldsEntry}

@@ -16,10 +16,11 @@ use Rattle.fc_tree.specs.Agree.{Agree}
 use Rattle.fc_tree.specs.Nodes.{nodes_of}
 use Rattle.fc_tree.specs.Parts.{ArePartsOf, Parts}
 use Rattle.fc_volume.specs.declared.changes.relocate.Relocation.{Relocation}
-use Rattle.fc_volume.specs.declared.copies.Copies.{Copies}
+use Rattle.fc_writing.specs.declared.copies.Copies.{Copies}
 use Rattle.fc_volume.specs.Changing.{HasChanged}
 use Rattle.fc_volume.specs.Relocating.{HasRelocated, relocated, with_owner}
-use Rattle.fc_volume.specs.Volume.{HasCopies, HoldsMap, StandsFor, Volume, parts_of}
+use Rattle.fc_holdings.specs.Holdings.{HoldsMap}
+use Rattle.fc_volume.specs.Volume.{HasCopies, StandsFor, Volume, parts_of}
 use Rattle.fc_oldvolume.specs.Relocating.{LieOffMap, WritesRelocation}
 use Rattle.fc_oldvolume.specs.Changing.{WritesNoMap}
 use Rattle.fc_oldvolume.proofs.ChangeLemmas.{one_space}

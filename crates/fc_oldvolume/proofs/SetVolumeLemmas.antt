@@ -27,12 +27,13 @@ use Rattle.fc_tree.specs.Nodes.{HoldObjects, nodes_of}
 use Rattle.fc_tree.specs.Parts.{AreOwners, ArePartsOf, Parts}
 use Rattle.fc_tree.proofs.WalkedLemmas.{child_is_object, contained, same_some}
 use Rattle.fc_volume.specs.declared.changes.reword.Rewording.{Rewording}
-use Rattle.fc_volume.specs.declared.copies.Copies.{Copies}
+use Rattle.fc_writing.specs.declared.copies.Copies.{Copies}
 use Rattle.fc_volume.specs.Changing.{HasChanged}
 use Rattle.fc_volume.specs.Rewrites.{HoldsEntry}
 use Rattle.fc_volume.specs.Setting.{HasReworded, IsSetReady}
 use Rattle.fc_volume.specs.Storing.{AreStored}
-use Rattle.fc_volume.specs.Volume.{HasCopies, HoldsMap, StandsFor, Volume, parts_of}
+use Rattle.fc_holdings.specs.Holdings.{HoldsMap}
+use Rattle.fc_volume.specs.Volume.{HasCopies, StandsFor, Volume, parts_of}
 use Rattle.fc_oldvolume.specs.Changing.{WritesNoMap, WritesPlaces}
 use Rattle.fc_oldvolume.specs.Laws.{OldLaws}
 use Rattle.fc_oldvolume.specs.Spaces.{LieBehind}

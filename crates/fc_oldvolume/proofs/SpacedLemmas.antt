@@ -16,10 +16,11 @@ use Rattle.fc_space.specs.Space.{layout_of}
 use Rattle.fc_tree.specs.Agree.{Agree}
 use Rattle.fc_tree.specs.Nodes.{nodes_of}
 use Rattle.fc_tree.specs.Parts.{ArePartsOf, Parts}
-use Rattle.fc_volume.specs.declared.copies.Copies.{Copies}
-use Rattle.fc_volume.specs.declared.copies.Copies.TheVariants.{Equal}
+use Rattle.fc_writing.specs.declared.copies.Copies.{Copies}
+use Rattle.fc_writing.specs.declared.copies.Copies.TheVariants.{Equal}
 use Rattle.fc_volume.specs.Changing.{HasChanged}
-use Rattle.fc_volume.specs.Volume.{HasCopies, HoldsMap, StandsFor, Volume, parts_of}
+use Rattle.fc_holdings.specs.Holdings.{HoldsMap}
+use Rattle.fc_volume.specs.Volume.{HasCopies, StandsFor, Volume, parts_of}
 use Rattle.fc_oldvolume.specs.Spaces.{LieBehind}
 use Rattle.fc_oldvolume.proofs.DeleteVolumeLemmas.{same_disc, same_size}
 

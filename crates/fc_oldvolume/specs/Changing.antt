@@ -15,9 +15,9 @@ use Rattle.fc_image.specs.Stays.{OpensAs}
 use Rattle.fc_tree.specs.Parts.{ArePartsOf, Parts}
 use Rattle.fc_oldchanges.specs.Owed.{IsWritten, MapStays}
 use Rattle.fc_oldlaws.specs.takeover.Places.{AreSpared, MayBeWritten}
-use Rattle.fc_volume.specs.declared.lines.CommandError.{CommandError}
-use Rattle.fc_volume.specs.declared.lines.CommandError.TheVariants.{DiskFault}
-use Rattle.fc_volume.specs.Compacting.{UnlessFault}
+use Rattle.fc_holdings.specs.declared.error.CommandError.{CommandError}
+use Rattle.fc_holdings.specs.declared.error.CommandError.TheVariants.{DiskFault}
+use Rattle.fc_holdings.specs.Answers.{UnlessFault}
 use Rattle.fc_volume.specs.Volume.{StandsFor, Volume, parts_of}
 
 -- The layout is an old map.

@@ -34,7 +34,7 @@ use Rattle.std.specs.List.Sorted.{IsNonDecreasingBy}
 use Rattle.fc_space.specs.Space.{layout_of}
 use Rattle.fc_tree.specs.Nodes.{nodes_of}
 use Rattle.fc_volume.specs.Volume.{Volume}
-use Rattle.fc_volume.specs.declared.copies.Copies.TheVariants.{Equal}
+use Rattle.fc_writing.specs.declared.copies.Copies.TheVariants.{Equal}
 use Rattle.fc_oldvolume.specs.declared.compacting.Ready.{Ready}
 use Rattle.fc_oldvolume.specs.declared.compacting.moves.Moves.{Moves}
 use Rattle.fc_oldvolume.specs.Writing.{IsMapWritten}

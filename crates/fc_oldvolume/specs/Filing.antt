@@ -19,7 +19,7 @@ use Rattle.fc_tree.specs.declared.node.Body.TheVariants.{File}
 use Rattle.fc_tree.specs.Counts.{address_in}
 use Rattle.fc_tree.specs.Nodes.{body_in, next_number, nodes_of}
 use Rattle.fc_volume.specs.declared.changes.putting.FileWords.{FileWords}
-use Rattle.fc_volume.specs.declared.copies.Copies.TheVariants.{Equal}
+use Rattle.fc_writing.specs.declared.copies.Copies.TheVariants.{Equal}
 use Rattle.fc_volume.specs.Rewrites.{IsPrepared}
 use Rattle.fc_volume.specs.Storing.{AreStored}
 use Rattle.fc_volume.specs.Volume.{Volume, parts_of}

@@ -19,7 +19,8 @@ ghost use Rattle.fc_squash.specs.Sliding.{TellsAsBefore, TimeGoesOn};
 ghost use Rattle.fc_squash.specs.Squashing.{AreBodies, KeepsBodies, SquashedBy};
 ghost use Rattle.fc_tree.specs.Nodes.{bound_of, nodes_of};
 ghost use Rattle.fc_tree.specs.declared.node.Node.{Node};
-ghost use Rattle.fc_volume.specs.Compacting.{CompactsParts, UnlessFault};
+ghost use Rattle.fc_holdings.specs.Answers.{UnlessFault};
+ghost use Rattle.fc_volume.specs.Compacting.{CompactsParts};
 ghost use Rattle.fc_volume.specs.Volume.{StandsFor, parts_of};
 ghost use Rattle.fc_oldvolume.specs.Changing.{ChangeKeeps, IsOldLayout};
 ghost use Rattle.fc_oldvolume.specs.Compacting.{AreSorted, AreSpares, CompactsOnlyRoom, HasSlidInMemory, HasSlidOnDisk, HasSquashed, HaveDirectories, IsLow, IsNotBig, IsReadyToCompact, IsRoom, IsRewrittenBy, MoveLaws, marks, slide_by, slide_of};
@@ -188,9 +189,13 @@ fn map_of(places: &Places) -> OldMap
 fn take_over(volume: &mut Volume, map: OldMap)
     ensures { HasSquashed volume.old volume.new map }
 {
-    volume.places = Places::new(Space::OldMapped(map));
-    volume.copies = Copies::Equal;
-    remake_owners(&mut volume.owners, &volume.tree, volume.places.space());
+    volume.holdings.places = Places::new(Space::OldMapped(map));
+    volume.holdings.copies = Copies::Equal;
+    remake_owners(
+        &mut volume.holdings.owners,
+        &volume.holdings.tree,
+        volume.holdings.places.space(),
+    );
 }
 
 /// Compacts a disc with an old map, of which nothing is pending: each object slides down into the hole before it, so that no
@@ -217,20 +222,20 @@ pub fn compact<D: Disk>(
     ensures form_stays { UnlessFault result (dir_form (parts_of volume.new).layout ≡ dir_form (parts_of volume.old).layout) }
 {
     move_laws();
-    is_old_map(&volume.places);
-    let _ = volume.tree.bound();
+    is_old_map(&volume.holdings.places);
+    let _ = volume.holdings.tree.bound();
     if volume.read_only {
         return Err(CommandError::Refused(Refusal::ReadOnly));
     }
-    let Ok(mut ready) = prepare(alloc, &volume.tree, volume.places.space()) else {
+    let Ok(mut ready) = prepare(alloc, &volume.holdings.tree, volume.holdings.places.space()) else {
         return Err(CommandError::NoMemory);
     };
-    let mut map = map_of(&volume.places);
+    let mut map = map_of(&volume.holdings.places);
     match write_compacted(
         disk,
-        volume.places.space(),
+        volume.holdings.places.space(),
         &mut map,
-        &mut volume.tree,
+        &mut volume.holdings.tree,
         &mut ready,
     ) {
         Ok(()) => {

@@ -4,7 +4,7 @@ ghost use Rattle.fc_image.specs.Layout.{dir_form};
 ghost use Rattle.fc_model.specs.Command.{Command};
 ghost use Rattle.fc_space.specs.Space.{layout_of};
 ghost use Rattle.fc_tree.specs.Nodes.{nodes_of};
-ghost use Rattle.fc_volume.specs.Compacting.{UnlessFault};
+ghost use Rattle.fc_holdings.specs.Answers.{UnlessFault};
 ghost use Rattle.fc_volume.specs.Changing.{AnswersOver, HasChanged};
 ghost use Rattle.fc_volume.specs.Rewrites.{HoldsEntry};
 ghost use Rattle.fc_volume.specs.Volume.{StandsFor, parts_of};
@@ -74,13 +74,18 @@ pub fn delete<D: Disk>(
     ensures form_stays { UnlessFault result (dir_form (parts_of volume.new).layout ≡ dir_form (parts_of volume.old).layout) }
 {
     old_laws();
-    is_old_map(&volume.places);
-    volume.places.places_suffice();
-    let target = match judge_delete(&volume.tree, volume.read_only, p) {
+    is_old_map(&volume.holdings.places);
+    volume.holdings.places.places_suffice();
+    let target = match judge_delete(&volume.holdings.tree, volume.read_only, p) {
         Ok(target) => target,
         Err(refusal) => return Err(CommandError::Refused(refusal)),
     };
-    match prepare_delete(alloc, &volume.tree, &volume.places, target) {
+    match prepare_delete(
+        alloc,
+        &volume.holdings.tree,
+        &volume.holdings.places,
+        target,
+    ) {
         Ok(change) => remove(volume, disk, change),
         Err(error) => Err(error),
     }

@@ -71,9 +71,9 @@ fn hold_object(volume: &mut Volume, change: Making)
         entry,
         body: body_of(draft),
     };
-    hold_map(&mut volume.places, taken.map);
-    volume.copies = Copies::Equal;
-    add_object(&mut volume.tree, above, node);
+    hold_map(&mut volume.holdings.places, taken.map);
+    volume.holdings.copies = Copies::Equal;
+    add_object(&mut volume.holdings.tree, above, node);
 }
 
 /// Writes a new directory for which the volume has memory, the map without its space, and the directory that holds it; then the
@@ -101,7 +101,7 @@ pub fn make<D: Disk>(volume: &mut Volume, disk: &mut D, change: Making) -> Resul
     ensures faults { D.faults disk.old ≤ D.faults disk.new }
     ensures cause { result ≡ Err CommandError.DiskFault → Rose (D.faults disk.old) (D.faults disk.new) }
 {
-    match write_making(disk, &volume.places, &change) {
+    match write_making(disk, &volume.holdings.places, &change) {
         Ok(()) => {
             hold_object(volume, change);
             Ok(())

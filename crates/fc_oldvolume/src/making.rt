@@ -15,7 +15,7 @@ ghost use Rattle.fc_space.specs.Space.{layout_of};
 ghost use Rattle.fc_tree.specs.Nodes.{body_in, nodes_of};
 ghost use Rattle.fc_tree.specs.declared.node.Node.{Node};
 ghost use Rattle.fc_volume.specs.Changing.{AnswersOver, HasChanged};
-ghost use Rattle.fc_volume.specs.Compacting.{UnlessFault};
+ghost use Rattle.fc_holdings.specs.Answers.{UnlessFault};
 ghost use Rattle.fc_volume.specs.Making.{AnswersSpace};
 ghost use Rattle.fc_volume.specs.Volume.{StandsFor, parts_of};
 ghost use Rattle.fc_oldvolume.specs.Changing.{IsOldLayout, ChangeKeeps, WritesOnlyPlaces};
@@ -154,17 +154,28 @@ pub fn cdir<D: Disk>(
     ensures form_stays { UnlessFault result (dir_form (parts_of volume.new).layout ≡ dir_form (parts_of volume.old).layout) }
 {
     making_laws();
-    is_old_map(&volume.places);
-    volume.places.places_suffice();
-    let dir = match judge_cdir(&volume.tree, volume.places.dir_form(), volume.read_only, p) {
+    is_old_map(&volume.holdings.places);
+    volume.holdings.places.places_suffice();
+    let dir = match judge_cdir(
+        &volume.holdings.tree,
+        volume.holdings.places.dir_form(),
+        volume.read_only,
+        p,
+    ) {
         Ok(dir) => dir,
         Err(refusal) => return Err(CommandError::Refused(refusal)),
     };
-    let change = match draft_cdir(alloc, &volume.tree, &volume.places, dir, p) {
+    let change = match draft_cdir(
+        alloc,
+        &volume.holdings.tree,
+        &volume.holdings.places,
+        dir,
+        p,
+    ) {
         Ok(change) => change,
         Err(error) => return Err(error),
     };
-    let n = volume.tree.next_number();
+    let n = volume.holdings.tree.next_number();
     match volume.admit(n, change.directory.node, &change.entry) {
         Ok(()) => make(volume, disk, change),
         Err(NoMemory) => Err(CommandError::NoMemory),

@@ -43,10 +43,10 @@ fn put_object(volume: &mut Volume, change: NewFile)
         entry,
         body: Body::File,
     };
-    hold_map(&mut volume.places, taken.map);
-    hold_map(&mut volume.places, given);
-    volume.copies = Copies::Equal;
-    add_object(&mut volume.tree, above, node);
+    hold_map(&mut volume.holdings.places, taken.map);
+    hold_map(&mut volume.holdings.places, given);
+    volume.holdings.copies = Copies::Equal;
+    add_object(&mut volume.holdings.tree, above, node);
 }
 
 /// Writes a new file for which the volume has memory, the map without its space, and the directory that holds it; then the volume has
@@ -79,7 +79,7 @@ pub fn put_new<D: Disk>(
     ensures faults { D.faults disk.old ≤ D.faults disk.new }
     ensures cause { result ≡ Err CommandError.DiskFault → Rose (D.faults disk.old) (D.faults disk.new) }
 {
-    match write_file(disk, &volume.places, &change.filing, bytes) {
+    match write_file(disk, &volume.holdings.places, &change.filing, bytes) {
         Ok(()) => {
             put_object(volume, change);
             Ok(())

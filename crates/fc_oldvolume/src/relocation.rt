@@ -88,10 +88,14 @@ pub fn relocate<D: Disk>(
     ensures faults { D.faults disk.old ≤ D.faults disk.new }
     ensures cause { result ≡ Err CommandError.DiskFault → Rose (D.faults disk.old) (D.faults disk.new) }
 {
-    match write_relocation(disk, &volume.places, &change) {
+    match write_relocation(disk, &volume.holdings.places, &change) {
         Ok(()) => {
-            volume.copies = Copies::Equal;
-            take_over(&mut volume.tree, &mut volume.owners, change);
+            volume.holdings.copies = Copies::Equal;
+            take_over(
+                &mut volume.holdings.tree,
+                &mut volume.holdings.owners,
+                change,
+            );
             Ok(())
         }
         Err(DiskFault) => {

@@ -92,10 +92,10 @@ fn remove_object(volume: &mut Volume, change: Removal)
         node,
         map,
     } = change;
-    hold_map(&mut volume.places, map);
-    volume.copies = Copies::Equal;
-    volume.owners.remove(node);
-    take_over(&mut volume.tree, directory, node);
+    hold_map(&mut volume.holdings.places, map);
+    volume.holdings.copies = Copies::Equal;
+    volume.holdings.owners.remove(node);
+    take_over(&mut volume.holdings.tree, directory, node);
 }
 
 /// Writes the directory of a removal and the map, and then the volume is without the object. After `DiskFault` the volume is
@@ -125,7 +125,7 @@ pub fn remove<D: Disk>(
     ensures faults { D.faults disk.old ≤ D.faults disk.new }
     ensures cause { result ≡ Err CommandError.DiskFault → Rose (D.faults disk.old) (D.faults disk.new) }
 {
-    match write_removal(disk, &volume.places, &change) {
+    match write_removal(disk, &volume.holdings.places, &change) {
         Ok(()) => {
             remove_object(volume, change);
             Ok(())

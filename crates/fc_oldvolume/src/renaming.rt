@@ -7,7 +7,7 @@ ghost use Rattle.fc_image.specs.Sound.{AreSound};
 ghost use Rattle.fc_model.specs.Command.{Command};
 ghost use Rattle.fc_tree.specs.Nodes.{nodes_of};
 ghost use Rattle.fc_tree.specs.Parts.{ArePartsOf};
-ghost use Rattle.fc_volume.specs.Compacting.{UnlessFault};
+ghost use Rattle.fc_holdings.specs.Answers.{UnlessFault};
 ghost use Rattle.fc_volume.specs.Changing.{AnswersOver, HasChanged, refusal_in};
 ghost use Rattle.fc_volume.specs.Volume.{StandsFor, parts_of};
 ghost use Rattle.fc_oldvolume.specs.Changing.{ChangeKeeps, IsOldLayout, WritesNoMap, WritesOnlyPlaces};
@@ -52,8 +52,8 @@ fn accept(volume: &Volume, from: &Path, to: &Path) -> Result<Renaming, Refusal>
         → refusal_in v image volume.now.read_only (Command.Rename from.now to.now) ≡ Some refusal) }
 {
     judge_rename(
-        &volume.tree,
-        volume.places.dir_form(),
+        &volume.holdings.tree,
+        volume.holdings.places.dir_form(),
         volume.read_only,
         from,
         to,
@@ -84,9 +84,15 @@ fn rename_within<D: Disk>(
     ensures form_stays { UnlessFault result (dir_form (parts_of volume.new).layout ≡ dir_form (parts_of volume.old).layout) }
 {
     rename_laws();
-    is_old_map(&volume.places);
-    volume.places.places_suffice();
-    match prepare_within(alloc, &volume.tree, &volume.places, renaming.target, to) {
+    is_old_map(&volume.holdings.places);
+    volume.holdings.places.places_suffice();
+    match prepare_within(
+        alloc,
+        &volume.holdings.tree,
+        &volume.holdings.places,
+        renaming.target,
+        to,
+    ) {
         Ok(change) => relocate(volume, disk, change),
         Err(NoMemory) => Err(CommandError::NoMemory),
     }
@@ -117,17 +123,17 @@ fn rename_across<D: Disk>(
     ensures form_stays { UnlessFault result (dir_form (parts_of volume.new).layout ≡ dir_form (parts_of volume.old).layout) }
 {
     rename_laws();
-    is_old_map(&volume.places);
-    volume.places.places_suffice();
-    let _ = volume.owners.list();
-    if is_full(&volume.tree, renaming.holder) {
+    is_old_map(&volume.holdings.places);
+    volume.holdings.places.places_suffice();
+    let _ = volume.holdings.owners.list();
+    if is_full(&volume.holdings.tree, renaming.holder) {
         return Err(CommandError::Refused(Refusal::DirFull));
     }
     match prepare_move(
         alloc,
-        &volume.tree,
-        &volume.places,
-        &volume.owners,
+        &volume.holdings.tree,
+        &volume.holdings.places,
+        &volume.holdings.owners,
         renaming.target,
         renaming.holder,
         to,
@@ -163,7 +169,7 @@ pub fn rename<D: Disk>(
     ensures form_stays { UnlessFault result (dir_form (parts_of volume.new).layout ≡ dir_form (parts_of volume.old).layout) }
 {
     fc_oldlaws::takeover::places();
-    is_old_map(&volume.places);
+    is_old_map(&volume.holdings.places);
     let renaming = match accept(volume, from, to) {
         Ok(renaming) => renaming,
         Err(refusal) => return Err(CommandError::Refused(refusal)),

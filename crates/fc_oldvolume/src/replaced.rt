@@ -28,7 +28,7 @@ pub fn admit_owner(volume: &mut Volume, owner: Option<Owner>) -> Result<(), NoMe
     ensures ok { OnOk result (IsOwnerAdmitted volume.old volume.new owner) }
     ensures err { OnErr result (volume.new ≡ volume.old) }
 {
-    make_room(&mut volume.owners, owner)
+    make_room(&mut volume.holdings.owners, owner)
 }
 
 // The volume has a file in the place of another. It never runs out of memory.
@@ -54,11 +54,11 @@ fn replace_object(volume: &mut Volume, change: Replacement)
         node,
         entry,
     };
-    hold_map(&mut volume.places, taken.map);
-    hold_map(&mut volume.places, given);
-    volume.copies = Copies::Equal;
-    set_owner(&mut volume.owners, node, owner);
-    take_over(&mut volume.tree, change);
+    hold_map(&mut volume.holdings.places, taken.map);
+    hold_map(&mut volume.holdings.places, given);
+    volume.holdings.copies = Copies::Equal;
+    set_owner(&mut volume.holdings.owners, node, owner);
+    take_over(&mut volume.holdings.tree, change);
 }
 
 /// Writes a file in the place of another, for which the volume has memory, the map without its space, the directory that holds it,
@@ -92,7 +92,7 @@ pub fn put_over<D: Disk>(
     ensures faults { D.faults disk.old ≤ D.faults disk.new }
     ensures cause { result ≡ Err CommandError.DiskFault → Rose (D.faults disk.old) (D.faults disk.new) }
 {
-    match write_file(disk, &volume.places, &change.filing, bytes) {
+    match write_file(disk, &volume.holdings.places, &change.filing, bytes) {
         Ok(()) => {
             replace_object(volume, change);
             Ok(())

@@ -41,10 +41,10 @@ pub fn reword<D: Disk>(
     ensures faults { D.faults disk.old ≤ D.faults disk.new }
     ensures cause { result ≡ Err CommandError.DiskFault → Rose (D.faults disk.old) (D.faults disk.new) }
 {
-    match write_directory(disk, &volume.places, &change.directory) {
+    match write_directory(disk, &volume.holdings.places, &change.directory) {
         Ok(()) => {
-            volume.copies = Copies::Equal;
-            take_over(&mut volume.tree, change);
+            volume.holdings.copies = Copies::Equal;
+            take_over(&mut volume.holdings.tree, change);
             Ok(())
         }
         Err(DiskFault) => {

@@ -8,7 +8,7 @@ ghost use Rattle.fc_model.specs.Command.{Command};
 ghost use Rattle.fc_refusals.specs.declared.target.Slot.{Slot};
 ghost use Rattle.fc_tree.specs.Parts.{ArePartsOf};
 ghost use Rattle.fc_volume.specs.Changing.{AnswersOver, HasChanged, refusal_in};
-ghost use Rattle.fc_volume.specs.Compacting.{UnlessFault};
+ghost use Rattle.fc_holdings.specs.Answers.{UnlessFault};
 ghost use Rattle.fc_volume.specs.Saving.{MakesFilled};
 ghost use Rattle.fc_volume.specs.Volume.{StandsFor, parts_of};
 ghost use Rattle.fc_oldvolume.specs.Changing.{ChangeKeeps, IsOldLayout, WritesOnlyPlaces};
@@ -32,7 +32,12 @@ fn accept_file(volume: &Volume, p: &Path) -> Result<Slot, Refusal>
     ensures refused { IfErr result (λ refusal. (v : Opened) (image : List ℕ) (c : Command) (load exec : ℕ) (bytes : List ℕ) → MakesFile c p.now load exec bytes
         → AreSound v.layout v.listings → ArePartsOf (parts_of volume.now) v → refusal_in v image volume.now.read_only c ≡ Some refusal) }
 {
-    judge_save(&volume.tree, volume.places.dir_form(), volume.read_only, p)
+    judge_save(
+        &volume.holdings.tree,
+        volume.holdings.places.dir_form(),
+        volume.read_only,
+        p,
+    )
 }
 
 // Writes a new file into the directory of a node, which the judge has accepted. Of the file's bytes the first are given; the others
@@ -60,13 +65,20 @@ fn put_file<D: Disk>(
     ensures form_stays { UnlessFault result (dir_form (parts_of volume.new).layout ≡ dir_form (parts_of volume.old).layout) }
 {
     filing_laws();
-    is_old_map(&volume.places);
-    volume.places.places_suffice();
-    let change = match draft_file(alloc, &volume.tree, &volume.places, dir, p, words) {
+    is_old_map(&volume.holdings.places);
+    volume.holdings.places.places_suffice();
+    let change = match draft_file(
+        alloc,
+        &volume.holdings.tree,
+        &volume.holdings.places,
+        dir,
+        p,
+        words,
+    ) {
         Ok(change) => change,
         Err(error) => return Err(error),
     };
-    let n = volume.tree.next_number();
+    let n = volume.holdings.tree.next_number();
     match volume.admit(n, change.filing.directory.node, &change.entry) {
         Ok(()) => put_new(volume, disk, change, bytes),
         Err(NoMemory) => Err(CommandError::NoMemory),
@@ -99,10 +111,16 @@ fn replace_file<D: Disk>(
     ensures form_stays { UnlessFault result (dir_form (parts_of volume.new).layout ≡ dir_form (parts_of volume.old).layout) }
 {
     filing_laws();
-    is_old_map(&volume.places);
-    volume.places.places_suffice();
-    let _ = volume.owners.list();
-    let change = match draft_replacing(alloc, &volume.tree, &volume.places, target, words) {
+    is_old_map(&volume.holdings.places);
+    volume.holdings.places.places_suffice();
+    let _ = volume.holdings.owners.list();
+    let change = match draft_replacing(
+        alloc,
+        &volume.holdings.tree,
+        &volume.holdings.places,
+        target,
+        words,
+    ) {
         Ok(change) => change,
         Err(error) => return Err(error),
     };
@@ -134,7 +152,7 @@ fn write_whole<D: Disk>(
     ensures form_stays { UnlessFault result (dir_form (parts_of volume.new).layout ≡ dir_form (parts_of volume.old).layout) }
 {
     fc_oldlaws::takeover::places();
-    is_old_map(&volume.places);
+    is_old_map(&volume.holdings.places);
     match accept_file(volume, p) {
         Ok(Slot::New(dir)) => put_file(volume, alloc, disk, p, dir, words, bytes),
         Ok(Slot::Over(target)) => replace_file(volume, alloc, disk, p, target, words, bytes),

@@ -2,7 +2,7 @@
 ghost use Rattle.std.specs.Prelude.{◌≡◌, ◌<◌, IsFalse, IsTrue, OnOk};
 ghost use Rattle.fc_image.specs.Layout.{dir_form};
 ghost use Rattle.fc_model.specs.Command.{Command};
-ghost use Rattle.fc_volume.specs.Compacting.{UnlessFault};
+ghost use Rattle.fc_holdings.specs.Answers.{UnlessFault};
 ghost use Rattle.fc_volume.specs.Changing.{AnswersOver, HasChanged};
 ghost use Rattle.fc_volume.specs.Volume.{StandsFor, parts_of};
 ghost use Rattle.fc_oldvolume.specs.Changing.{ChangeKeeps, IsOldLayout, WritesNoMap, WritesOnlyPlaces};
@@ -44,16 +44,16 @@ pub fn set<D: Disk>(
     ensures form_stays { UnlessFault result (dir_form (parts_of volume.new).layout ≡ dir_form (parts_of volume.old).layout) }
 {
     old_laws();
-    is_old_map(&volume.places);
-    volume.places.places_suffice();
-    let target = match judge_set(&volume.tree, volume.read_only, p) {
+    is_old_map(&volume.holdings.places);
+    volume.holdings.places.places_suffice();
+    let target = match judge_set(&volume.holdings.tree, volume.read_only, p) {
         Ok(target) => target,
         Err(refusal) => return Err(CommandError::Refused(refusal)),
     };
     match prepare_set(
         alloc,
-        &volume.tree,
-        &volume.places,
+        &volume.holdings.tree,
+        &volume.holdings.places,
         target,
         load,
         exec,

@@ -32,10 +32,10 @@ use Rattle.fc_tree.specs.Agree.{Agree, reader_of_nodes}
 use Rattle.fc_tree.specs.Nodes.{nodes_of}
 use Rattle.fc_tree.specs.Parts.{ArePartsOf}
 use Rattle.fc_tree.proofs.WalkedLemmas.{sound_law}
-use Rattle.fc_volume.specs.declared.lines.CommandError.{CommandError}
-use Rattle.fc_volume.specs.declared.lines.CommandError.TheVariants.{DiskFault, NoMemory, Refused}
-use Rattle.fc_volume.specs.Changing.{AnswersBy, refusal_in}
-use Rattle.fc_volume.specs.Compacting.{UnlessFault}
+use Rattle.fc_holdings.specs.declared.error.CommandError.{CommandError}
+use Rattle.fc_holdings.specs.declared.error.CommandError.TheVariants.{DiskFault, NoMemory, Refused}
+use Rattle.fc_holdings.specs.Answers.{AnswersBy, UnlessFault}
+use Rattle.fc_volume.specs.Changing.{refusal_in}
 use Rattle.fc_volume.specs.Volume.{StandsFor, Volume, parts_of}
 use Rattle.fc_shell.specs.declared.answer.LineFault.{LineFault}
 use Rattle.fc_shell.specs.Answered.{Answered, IsCaused}

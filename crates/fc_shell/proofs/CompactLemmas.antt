@@ -34,7 +34,7 @@ use Rattle.fc_runs.specs.Early.{reply_begun}
 use Rattle.fc_runs.specs.Run.{Answers, Mode, Serves, Step, Takes, is_error, layout_reason, shortage}
 use Rattle.fc_runs.specs.Stops.{leaves_image_or}
 use Rattle.fc_tree.specs.Parts.{ArePartsOf}
-use Rattle.fc_volume.specs.declared.lines.CommandError.{CommandError}
+use Rattle.fc_holdings.specs.declared.error.CommandError.{CommandError}
 use Rattle.fc_volume.specs.Volume.{Volume, parts_of}
 use Rattle.fc_oldvolume.specs.Changing.{IsOldLayout}
 use Rattle.fc_shell.specs.declared.answer.LineFault.{LineFault}

@@ -12,9 +12,10 @@ use Rattle.fc_image.specs.Layout.{Layout}
 use Rattle.fc_image.specs.Moves.{KeepsObjects}
 use Rattle.fc_image.specs.Stays.{IsNewLayout}
 use Rattle.fc_model.specs.Command.{Command}
-use Rattle.fc_volume.specs.declared.lines.CommandError.{CommandError}
+use Rattle.fc_holdings.specs.declared.error.CommandError.{CommandError}
 use Rattle.fc_volume.specs.Changing.{AnswersOver, ChangeKeeps, HasChanged}
-use Rattle.fc_volume.specs.Compacting.{CompactsParts, UnlessFault}
+use Rattle.fc_holdings.specs.Answers.{UnlessFault}
+use Rattle.fc_volume.specs.Compacting.{CompactsParts}
 use Rattle.fc_volume.specs.Volume.{StandsFor, Volume, parts_of}
 use Rattle.fc_oldvolume.specs.Changing.{ChangeKeeps as OldKeeps, IsOldLayout}
 use Rattle.fc_shell.specs.Changing.{HasCompacted, IsAsked, IsCompacting}

@@ -14,10 +14,11 @@ use Rattle.fc_image.specs.Stays.{IsNewLayout}
 use Rattle.fc_model.specs.Command.{Command}
 use Rattle.fc_script.specs.Texts.{ok_line, reclaimed_line, refusal_line}
 use Rattle.fc_tree.specs.Parts.{Parts}
-use Rattle.fc_volume.specs.declared.lines.CommandError.{CommandError}
-use Rattle.fc_volume.specs.declared.lines.CommandError.TheVariants.{DiskFault, NoMemory, Refused}
+use Rattle.fc_holdings.specs.declared.error.CommandError.{CommandError}
+use Rattle.fc_holdings.specs.declared.error.CommandError.TheVariants.{DiskFault, NoMemory, Refused}
 use Rattle.fc_volume.specs.Changing.{AnswersOver, HasChanged}
-use Rattle.fc_volume.specs.Compacting.{CompactsParts, UnlessFault}
+use Rattle.fc_holdings.specs.Answers.{UnlessFault}
+use Rattle.fc_volume.specs.Compacting.{CompactsParts}
 use Rattle.fc_volume.specs.Volume.{StandsFor, Volume, parts_of}
 use Rattle.fc_oldvolume.specs.Changing.{IsOldLayout}
 use Rattle.fc_lost.specs.Reclaiming.{HasReclaimed, LeavesOwnedOf, reclaim_refusal}

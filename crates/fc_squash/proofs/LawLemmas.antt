@@ -2,7 +2,7 @@
 use Rattle.std.proofs.Common.{◌≡◌, ℕ, zero, suc, Bool, true, false, not, List, [], ◌∷◌, length, refl, sym, ap, ap₂, ◌∙◌, arith}
 use Rattle.std.specs.Prelude.{◌==◌, ◌||◌, ◌&&◌, Contains}
 use Rattle.std.specs.List.{list_any, list_all}
-use Rattle.std.proofs.lemmas.Bool.{eqb-true, eqb-false, eq-eqb, not-true as not_both}
+use Rattle.std.proofs.lemmas.Bool.{eqb-true, eqb-false, eq-eqb, not-true as not_both, and_parts}
 use Rattle.fc_oldmap.specs.declared.Hole.{Hole}
 use Rattle.fc_oldmap.specs.Holes.{hole_end}
 use Rattle.fc_image.specs.Walk.{Object}
@@ -10,8 +10,6 @@ use Rattle.fc_image.specs.Objects.{has_sectors}
 use Rattle.fc_image.specs.declared.effects.Owned.{Owned}
 use Rattle.fc_image.specs.effects.Settled.{is_object_start}
 use Rattle.fc_squash.specs.Laws.{SettledLaw}
-use Rattle.fc_zone.proofs.ReadingLemmas.{first_part as and_left}
-use Rattle.fc_record.proofs.KindLemmas.{and_second as and_right}
 use Rattle.fc_image.proofs.lemmas.effects.OneHoleLemmas.{differ, Every}
 
 every_contained : {A : Type 0} (P : A → Type 0) (xs : List A) → ((x : A) → Contains xs x → P x) → Every P xs
@@ -56,6 +54,6 @@ settled_space old space was owned objects each settled =
     go [] e = refl
     go (h ∷ holes) e =
         let none = not_both (list_any (λ (o : Owned). o.start == hole_end h) owned)
-        (and_left (not (list_any (λ (o : Owned). o.start == hole_end h) owned)) (list_all (λ g. not (list_any (λ o. o.start == hole_end g) owned)) holes) e) in
+        ((and_parts (not (list_any (λ (o : Owned). o.start == hole_end h) owned)) (list_all (λ g. not (list_any (λ o. o.start == hole_end g) owned)) holes) e).0) in
         ap₂ (λ a b. not a && b) (no_start_there (hole_end h) owned objects none all)
-        (go holes (and_right (not (list_any (λ (o : Owned). o.start == hole_end h) owned)) (list_all (λ g. not (list_any (λ o. o.start == hole_end g) owned)) holes) e))
+        (go holes ((and_parts (not (list_any (λ (o : Owned). o.start == hole_end h) owned)) (list_all (λ g. not (list_any (λ o. o.start == hole_end g) owned)) holes) e).1))

@@ -43,7 +43,7 @@ use Rattle.fc_tree.proofs.WalkedLemmas.{child_is_object, contained, same_some}
 use Rattle.fc_laws.specs.nodes.Edits.{Nodes}
 use Rattle.fc_volume.specs.declared.changes.carrying.Carrying.{Carrying}
 use Rattle.fc_volume.specs.declared.changes.rewrite.Rewrite.{Rewrite}
-use Rattle.fc_volume.specs.declared.lines.CommandError.{CommandError}
+use Rattle.fc_holdings.specs.declared.error.CommandError.{CommandError}
 use Rattle.fc_volume.specs.Carrying.{CanCarry, CanCopy, HasCarried, IsCarried, IsCarryReady, IsCopySpace, LieBelow, carried_nodes, relocation_of, sectors_of_carrying}
 use Rattle.fc_volume.specs.CarryLaws.{CarryLaws}
 use Rattle.fc_volume.specs.Changing.{HasChanged, WritesPlaces, refusal_in}

@@ -38,7 +38,7 @@ use Rattle.fc_volume.proofs.TargetLemmas as target_of
 use Rattle.fc_device.proofs.DiskLaws.{Laws, form_same}
 use Rattle.fc_device.proofs.StopLemmas.{started}
 use Rattle.fc_image.specs.Stays.{IsNewLayout}
-use Rattle.fc_volume.specs.Compacting.{UnlessFault}
+use Rattle.fc_holdings.specs.Answers.{AnswersBy, UnlessFault}
 use Rattle.fc_volume.specs.Changing.{ChangeKeeps}
 use Rattle.std.specs.Prelude.{Err, Result, option_map}
 use Rattle.fc_names.specs.Names.{is_same_path}
@@ -53,9 +53,9 @@ use Rattle.fc_image.specs.Walk.{Object}
 use Rattle.fc_laws.specs.nodes.Edits.{Nodes}
 use Rattle.fc_tree.specs.Nodes.{body_in}
 use Rattle.fc_tree.proofs.WalkedLemmas.{find_only, one_listing, place_of}
-use Rattle.fc_volume.specs.declared.lines.CommandError.{CommandError}
-use Rattle.fc_volume.specs.declared.lines.CommandError.TheVariants.{Refused, NoMemory, DiskFault}
-use Rattle.fc_volume.specs.Changing.{AnswersBy, refusal_in}
+use Rattle.fc_holdings.specs.declared.error.CommandError.{CommandError}
+use Rattle.fc_holdings.specs.declared.error.CommandError.TheVariants.{Refused, NoMemory, DiskFault}
+use Rattle.fc_volume.specs.Changing.{refusal_in}
 use Rattle.fc_volume.specs.Making.{AnswersSpace}
 use Rattle.fc_volume.specs.Roomy.{IsRoomy}
 use Rattle.fc_volume.proofs.JudgedLemmas.{refused_by}

@@ -13,10 +13,10 @@ use Rattle.fc_changes.specs.Owed.{IsWritten}
 use Rattle.fc_model.specs.Command.{Command}
 use Rattle.fc_tree.specs.Parts.{ArePartsOf}
 use Rattle.fc_laws.specs.takeover.Places.{PlacesLaw}
-use Rattle.fc_volume.specs.declared.lines.CommandError.{CommandError}
-use Rattle.fc_volume.specs.declared.lines.CommandError.TheVariants.{Refused, NoMemory, DiskFault}
+use Rattle.fc_holdings.specs.declared.error.CommandError.{CommandError}
+use Rattle.fc_holdings.specs.declared.error.CommandError.TheVariants.{Refused, NoMemory, DiskFault}
 use Rattle.fc_volume.specs.Changing.{WritesOnlyPlaces, WritesPlaces}
-use Rattle.fc_volume.specs.Compacting.{UnlessFault}
+use Rattle.fc_holdings.specs.Answers.{UnlessFault}
 use Rattle.fc_volume.specs.Volume.{Volume, parts_of}
 
 -- ---- answers

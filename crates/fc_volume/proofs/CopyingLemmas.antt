@@ -10,7 +10,7 @@ use Rattle.fc_image.proofs.HolesLemmas.{apart_at}
 use Rattle.fc_objects.specs.Copied.{AreFirstCopied, AreOthers, IsPartCopied}
 use Rattle.fc_objects.specs.Written.{AreApart}
 use Rattle.fc_laws.proofs.lemmas.takeover.WriteLemmas.{written_bytes_law}
-use Rattle.fc_volume.specs.declared.copies.Copies.{Copies}
+use Rattle.fc_writing.specs.declared.copies.Copies.{Copies}
 use Rattle.fc_volume.specs.Compacting.{KeepsMap}
 use Rattle.fc_volume.specs.Copying.{AreCopiedFrom, ChangesOnly, IsFirstCopied}
 use Rattle.fc_volume.specs.Volume.{HasCopies}

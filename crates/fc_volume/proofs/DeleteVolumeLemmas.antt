@@ -25,11 +25,12 @@ use Rattle.fc_tree.specs.Parts.{AreOwners, ArePartsOf, Parts}
 use Rattle.fc_laws.specs.takeover.Laws.{TakesOver}
 use Rattle.fc_refusals.specs.declared.target.Target.{Target}
 use Rattle.fc_volume.specs.declared.changes.removal.Removal.{Removal}
-use Rattle.fc_volume.specs.declared.copies.Copies.{Copies}
+use Rattle.fc_writing.specs.declared.copies.Copies.{Copies}
 use Rattle.fc_volume.specs.ChangeLaws.{ChangeLaws}
 use Rattle.fc_volume.specs.Changing.{HasChanged, WritesPlaces}
 use Rattle.fc_volume.specs.Deleting.{HasRemoved, IsDeleteReady, IsRemovalDone}
-use Rattle.fc_volume.specs.Volume.{HasCopies, HoldsMap, StandsFor, Volume, parts_of}
+use Rattle.fc_holdings.specs.Holdings.{HoldsMap}
+use Rattle.fc_volume.specs.Volume.{HasCopies, StandsFor, Volume, parts_of}
 use Rattle.fc_image.specs.Sound.{AreSound}
 use Rattle.fc_image.specs.Walk.{Listing}
 use Rattle.fc_tree.specs.Nodes.{HoldObjects}

@@ -68,3 +68,4 @@ mod SaveSpaceLemmas
 mod SaveLemmas
 mod SaveAskedLemmas
 mod SaveVolumeLemmas
+pub mod HoldingsLemmas

@@ -25,8 +25,8 @@ use Rattle.fc_placing.specs.Places.{AnswersShort, FitsDirectory, WantsOwnSpace}
 use Rattle.fc_tree.specs.declared.node.Node.{Node}
 use Rattle.fc_tree.specs.Nodes.{body_in}
 use Rattle.fc_tree.proofs.WalkedLemmas.{same_some}
-use Rattle.fc_volume.specs.declared.lines.CommandError.{CommandError}
-use Rattle.fc_volume.specs.declared.lines.CommandError.TheVariants.{Refused, NoMemory, DiskFault}
+use Rattle.fc_holdings.specs.declared.error.CommandError.{CommandError}
+use Rattle.fc_holdings.specs.declared.error.CommandError.TheVariants.{Refused, NoMemory, DiskFault}
 use Rattle.fc_volume.specs.Making.{AnswersSpace, CanGain, CanHoldNew, CanMakeIn}
 use Rattle.fc_volume.proofs.SettingLemmas.{one_content}
 

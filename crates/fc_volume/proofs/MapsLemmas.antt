@@ -25,11 +25,12 @@ use Rattle.fc_image.specs.Opening.{MapAndRoot, agreement, copy_or, difference, n
 use Rattle.fc_copies.specs.declared.Which.{Which}
 use Rattle.fc_copies.specs.Copies.{chosen, copy_of}
 use Rattle.fc_volume.specs.declared.lines.MountError.{MountError}
-use Rattle.fc_volume.specs.declared.copies.Copies.{Copies}
-use Rattle.fc_volume.specs.declared.copies.Copies.TheVariants.{Chosen}
+use Rattle.fc_writing.specs.declared.copies.Copies.{Copies}
+use Rattle.fc_writing.specs.declared.copies.Copies.TheVariants.{Chosen}
 use Rattle.fc_volume.specs.Answers.{IsFaultOf}
 use Rattle.fc_volume.specs.Maps.{zone_fault, zones_layout}
-use Rattle.fc_volume.specs.Volume.{CountsAs, HasCopies}
+use Rattle.fc_writing.specs.Copies.{CountsAs}
+use Rattle.fc_volume.specs.Volume.{HasCopies}
 
 -- a search stands at a place
 pub found_at : (p : ℕ → Bool) (xs : List ℕ) (i x : ℕ) → i < length xs → find p xs ≡ find p (drop i xs) → x ≡ get_or xs i 0 → p x ≡ true → find p xs ≡ Some x

@@ -33,8 +33,8 @@ use Rattle.fc_tree.proofs.MemberLemmas.{contains_here, from_map, no_element}
 use Rattle.fc_tree.proofs.SoundLemmas.{listing_of, root_or_child}
 use Rattle.fc_tree.proofs.TreeLemmas.{node_of_object}
 use Rattle.fc_tree.proofs.WalkedLemmas.{directories_listed, follows_each, given, listed_directory, listing_found, place_of, root, same_some, sound_law}
-use Rattle.fc_volume.specs.declared.lines.CommandError.{CommandError}
-use Rattle.fc_volume.specs.declared.lines.CommandError.TheVariants.{Refused}
+use Rattle.fc_holdings.specs.declared.error.CommandError.{CommandError}
+use Rattle.fc_holdings.specs.declared.error.CommandError.TheVariants.{Refused}
 use Rattle.fc_volume.specs.declared.lines.FileRef.{FileRef}
 use Rattle.fc_volume.specs.Answers.{IsRefusalOf, file_bytes, ref_bytes}
 use Rattle.fc_volume.specs.Volume.{Volume, parts_of}

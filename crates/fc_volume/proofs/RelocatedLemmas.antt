@@ -15,10 +15,11 @@ use Rattle.fc_tree.specs.Nodes.{nodes_of}
 use Rattle.fc_tree.specs.Parts.{ArePartsOf, Parts}
 use Rattle.fc_laws.specs.takeover.Laws.{TakesOver}
 use Rattle.fc_volume.specs.declared.changes.relocate.Relocation.{Relocation}
-use Rattle.fc_volume.specs.declared.copies.Copies.{Copies}
+use Rattle.fc_writing.specs.declared.copies.Copies.{Copies}
 use Rattle.fc_volume.specs.Changing.{HasChanged}
 use Rattle.fc_volume.specs.Relocating.{HasRelocated, relocated, with_owner}
-use Rattle.fc_volume.specs.Volume.{HasCopies, HoldsMap, StandsFor, Volume, parts_of}
+use Rattle.fc_holdings.specs.Holdings.{HoldsMap}
+use Rattle.fc_volume.specs.Volume.{HasCopies, StandsFor, Volume, parts_of}
 
 module _ {D : Type 0} (d : Ghosts D) (c : Command) (m : Map) (v v' : Volume) (old new : D) (r : Relocation) (sectors : List ℕ) (layout : layout_of v.space ≡ Layout.New m) (stands : StandsFor d v old)
     (has : HasRelocated v v' r) (exits : StopsAndExitsLeave d old new (IsWritten m sectors))

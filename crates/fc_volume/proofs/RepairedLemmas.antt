@@ -24,8 +24,9 @@ use Rattle.fc_image.proofs.MoveLemmas.{open_by}
 use Rattle.fc_compact.specs.Ready.{IsReady}
 use Rattle.fc_compact.specs.Compacting.{ChangesLoose}
 use Rattle.fc_volume.specs.Compacting.{CanCompact, KeepsDisc, KeepsMap}
-use Rattle.fc_volume.specs.Volume.{CountsAs, HasCopies}
-use Rattle.fc_volume.specs.declared.copies.Copies.{Copies}
+use Rattle.fc_writing.specs.Copies.{CountsAs}
+use Rattle.fc_volume.specs.Volume.{HasCopies}
+use Rattle.fc_writing.specs.declared.copies.Copies.{Copies}
 use Rattle.fc_copies.proofs.CommitLemmas.{same_frame}
 
 -- ---- disks

@@ -45,7 +45,7 @@ use Rattle.fc_refusals.specs.declared.target.Target.{Target}
 use Rattle.fc_refusals.specs.Slots.{IsFile}
 use Rattle.fc_volume.specs.declared.changes.putting.FileWords.{FileWords}
 use Rattle.fc_volume.specs.declared.changes.replacing.Replacement.{Replacement}
-use Rattle.fc_volume.specs.declared.lines.CommandError.{CommandError}
+use Rattle.fc_holdings.specs.declared.error.CommandError.{CommandError}
 use Rattle.fc_volume.specs.ReplaceLaws.{ReplaceLaws}
 use Rattle.fc_volume.specs.Changing.{refusal_in}
 use Rattle.fc_volume.specs.Filing.{CanFile, CanTake, IsPlaceFor, KeepsPlan, plan_in, WantsPlace}

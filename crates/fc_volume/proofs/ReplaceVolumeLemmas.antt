@@ -25,12 +25,13 @@ use Rattle.fc_laws.specs.takeover.Laws.{TakesOver}
 use Rattle.fc_refusals.specs.declared.target.Target.{Target}
 use Rattle.fc_volume.specs.declared.changes.putting.FileWords.{FileWords}
 use Rattle.fc_volume.specs.declared.changes.replacing.Replacement.{Replacement}
-use Rattle.fc_volume.specs.declared.copies.Copies.{Copies}
+use Rattle.fc_writing.specs.declared.copies.Copies.{Copies}
 use Rattle.fc_volume.specs.ReplaceLaws.{ReplaceLaws}
 use Rattle.fc_volume.specs.Changing.{HasChanged, WritesPlaces}
 use Rattle.fc_volume.specs.Filing.{IsFileDone}
 use Rattle.fc_volume.specs.Replacing.{HasReplacedFile, IsReplacingAdmitted}
-use Rattle.fc_volume.specs.Volume.{HasCopies, HoldsMap, StandsFor, Volume, parts_of}
+use Rattle.fc_holdings.specs.Holdings.{HoldsMap}
+use Rattle.fc_volume.specs.Volume.{HasCopies, StandsFor, Volume, parts_of}
 use Rattle.fc_volume.proofs.ReplaceLemmas.{IsOver, agrees, long}
 use Rattle.fc_volume.proofs.ReplaceLemmas as over
 use Rattle.fc_volume.proofs.ReplaceImageLemmas.{takes_over, writes_places}

@@ -22,13 +22,14 @@ use Rattle.fc_tree.specs.Parts.{AreOwners, ArePartsOf, Parts}
 use Rattle.fc_laws.specs.takeover.Laws.{TakesOver}
 use Rattle.fc_volume.specs.declared.changes.putting.FileWords.{FileWords}
 use Rattle.fc_volume.specs.declared.changes.putting.NewFile.{NewFile}
-use Rattle.fc_volume.specs.declared.copies.Copies.{Copies}
+use Rattle.fc_writing.specs.declared.copies.Copies.{Copies}
 use Rattle.fc_volume.specs.SaveLaws.{SaveLaws}
 use Rattle.fc_volume.specs.Changing.{HasChanged, WritesPlaces}
 use Rattle.fc_volume.specs.Admitting.{IsAdmitted}
 use Rattle.fc_volume.specs.Filing.{HasPut, IsFileDone, nodes_put}
 use Rattle.fc_volume.specs.Owners.{entry_owner, with_owner}
-use Rattle.fc_volume.specs.Volume.{HasCopies, HoldsMap, StandsFor, Volume, parts_of}
+use Rattle.fc_holdings.specs.Holdings.{HoldsMap}
+use Rattle.fc_volume.specs.Volume.{HasCopies, StandsFor, Volume, parts_of}
 use Rattle.fc_volume.proofs.CdirVolumeLemmas.{same_nodes}
 use Rattle.fc_volume.proofs.SaveLemmas as new_file
 use Rattle.fc_volume.proofs.SaveLemmas.{IsReady, agrees, takes_over, writes_places}

@@ -24,10 +24,11 @@ use Rattle.fc_tree.specs.declared.node.Node.{Node}
 use Rattle.fc_tree.specs.Agree.{Agree}
 use Rattle.fc_tree.specs.Nodes.{nodes_of}
 use Rattle.fc_tree.specs.Parts.{AreOwners, ArePartsOf, Parts}
-use Rattle.fc_volume.specs.declared.copies.Copies.{Copies}
-use Rattle.fc_volume.specs.declared.copies.Copies.TheVariants.{Equal}
+use Rattle.fc_writing.specs.declared.copies.Copies.{Copies}
+use Rattle.fc_writing.specs.declared.copies.Copies.TheVariants.{Equal}
 use Rattle.fc_volume.specs.Compacting.{CanCompact, CompactsParts, IsDone, KeepsDisc}
-use Rattle.fc_volume.specs.Volume.{HasCopies, HoldsMap, StandsFor, Volume, parts_of}
+use Rattle.fc_holdings.specs.Holdings.{HoldsMap}
+use Rattle.fc_volume.specs.Volume.{HasCopies, StandsFor, Volume, parts_of}
 use Rattle.fc_volume.proofs.AgreeLemmas.{agree_after, own_same, parts_after}
 use Rattle.fc_volume.proofs.CompactedLemmas.{compacts, new_kind}
 use Rattle.fc_objects.proofs.CopyLemmas.{one_told as some_same}

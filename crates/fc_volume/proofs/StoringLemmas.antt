@@ -13,7 +13,7 @@ use Rattle.fc_image.specs.Layout.{Layout, is_among, is_apart}
 use Rattle.fc_changes.specs.Owed.{IsMapAfter, IsWritten}
 use Rattle.fc_objects.specs.Extents.{sectors_in}
 use Rattle.fc_laws.proofs.lemmas.takeover.WriteLemmas.{written_bytes_law}
-use Rattle.fc_volume.specs.declared.copies.Copies.{Copies}
+use Rattle.fc_writing.specs.declared.copies.Copies.{Copies}
 use Rattle.fc_volume.specs.Compacting.{KeepsMap}
 use Rattle.fc_volume.specs.Rewrites.{IsRepairedAndWritten}
 use Rattle.fc_volume.specs.Storing.{AreStored, IsFirstStored, IsTakenAndNamed}

@@ -12,7 +12,7 @@ use Rattle.fc_image.specs.declared.ImageFault.{ImageFault}
 use Rattle.fc_image.specs.Layout.{Layout, sector_bytes, disc_sectors, bytes_in, sectors_at}
 use Rattle.fc_tree.specs.declared.node.Node.{Node}
 use Rattle.fc_tree.specs.Nodes.{nodes_of}
-use Rattle.fc_volume.specs.declared.lines.CommandError.{CommandError}
+use Rattle.fc_holdings.specs.declared.error.CommandError.{CommandError}
 use Rattle.fc_volume.specs.declared.lines.FileRef.{FileRef}
 use Rattle.fc_volume.specs.declared.lines.Line.{Line}
 use Rattle.fc_volume.specs.declared.lines.Listed.{Listed}

@@ -13,8 +13,8 @@ use Rattle.fc_image.specs.Layout.{Layout}
 use Rattle.fc_image.specs.Opening.{MapAndRoot, map_and_root, reserved_in}
 use Rattle.fc_image.specs.Walk.{reader_of}
 use Rattle.fc_tree.specs.Reads.{unless_fault, walk_sectors}
-use Rattle.fc_volume.specs.declared.copies.Copies.{Copies}
-use Rattle.fc_volume.specs.declared.copies.Copies.TheVariants.{Equal, Chosen}
+use Rattle.fc_writing.specs.declared.copies.Copies.{Copies}
+use Rattle.fc_writing.specs.declared.copies.Copies.TheVariants.{Equal, Chosen}
 
 -- one for each zone of copy 1, and of copy 2, if that counts
 abbrev pub copy_reads : Which → ℕ → ℕ

@@ -23,7 +23,7 @@ use Rattle.fc_volume.specs.declared.changes.carrying.CopySpace.{CopySpace}
 use Rattle.fc_volume.specs.declared.changes.moving.Leaving.{Leaving}
 use Rattle.fc_volume.specs.declared.changes.relocate.Relocation.{Relocation}
 use Rattle.fc_volume.specs.declared.changes.rewrite.Rewrite.{Rewrite}
-use Rattle.fc_volume.specs.declared.copies.Copies.TheVariants.{Equal}
+use Rattle.fc_writing.specs.declared.copies.Copies.TheVariants.{Equal}
 use Rattle.fc_volume.specs.Copying.{IsFirstCopied}
 use Rattle.fc_volume.specs.Moving.{IsEntering, IsLeaving}
 use Rattle.fc_volume.specs.Owners.{entry_owner}

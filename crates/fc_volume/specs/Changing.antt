@@ -21,9 +21,9 @@ use Rattle.fc_image.specs.effects.Effect.{Changes}
 use Rattle.fc_image.specs.effects.Short.{short}
 use Rattle.fc_image.specs.effects.Steady.{idle_sectors, may_be_rewritten}
 use Rattle.fc_tree.specs.Parts.{ArePartsOf, Parts}
-use Rattle.fc_volume.specs.declared.lines.CommandError.{CommandError}
-use Rattle.fc_volume.specs.declared.lines.CommandError.TheVariants.{Refused, NoMemory, DiskFault}
-use Rattle.fc_volume.specs.Compacting.{UnlessFault}
+use Rattle.fc_holdings.specs.declared.error.CommandError.{CommandError}
+use Rattle.fc_holdings.specs.declared.error.CommandError.TheVariants.{DiskFault}
+use Rattle.fc_holdings.specs.Answers.{AnswersBy, UnlessFault}
 use Rattle.fc_volume.specs.Volume.{StandsFor, Volume, parts_of}
 
 -- ---- refusals
@@ -31,18 +31,6 @@ use Rattle.fc_volume.specs.Volume.{StandsFor, Volume, parts_of}
 -- why a command is refused, if it is: by the model over the tree, and then for lack of space
 abbrev pub refusal_in : Opened → List ℕ → Bool → Command → Option Refusal
 refusal_in v image read_only c = first_of (reasons (tree_of image v.layout v.listings) (dir_form v.layout) read_only c ++ short v c ∷ [])
-
--- The call answers this refusal, or none if there is none. It may be out of memory in either case; the disk fails only after a command
--- that is accepted.
-abbrev pub AnswersBy : {T : Type 0} → Option Refusal → Result T CommandError → Type 0
-AnswersBy None (Ok value) = Unit {0}
-AnswersBy None (Err (Refused r)) = ⊥
-AnswersBy None (Err NoMemory) = Unit {0}
-AnswersBy None (Err DiskFault) = Unit {0}
-AnswersBy (Some refusal) (Ok value) = ⊥
-AnswersBy (Some refusal) (Err (Refused r)) = r ≡ refusal
-AnswersBy (Some refusal) (Err NoMemory) = Unit {0}
-AnswersBy (Some refusal) (Err DiskFault) = ⊥
 
 -- It is so over each walk whose objects the nodes hold, whatever bytes its files have.
 abbrev pub AnswersOver : {T : Type 0} → Volume → Command → Result T CommandError → Type 0

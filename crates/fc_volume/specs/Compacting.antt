@@ -1,5 +1,5 @@
 -- What compaction of a volume answers and leaves.
-use Rattle.std.specs.Prelude.{◌≡◌, ◌<◌, false, List, ℕ, Result, Ok, Err}
+use Rattle.std.specs.Prelude.{◌≡◌, ◌<◌, false, List, ℕ}
 use Rattle.std.specs.Option.{ForSome}
 use Rattle.fc_device.specs.declared.disk.Disk.{Ghosts}
 use Rattle.fc_device.specs.Calls.{StopsAndExitsLeave}
@@ -18,17 +18,8 @@ use Rattle.fc_image.specs.effects.Effect.{Compacts}
 use Rattle.fc_compact.specs.Ready.{AreOwnersOf, IsReady, is_movable_by}
 use Rattle.fc_compact.specs.Compacting.{ChangesLoose, CompactedBy, IsSettledBy, ZoneStays}
 use Rattle.fc_tree.specs.Parts.{Parts, ArePartsOf}
-use Rattle.fc_volume.specs.declared.copies.Copies.{Copies}
-use Rattle.fc_volume.specs.declared.lines.CommandError.{CommandError}
-use Rattle.fc_volume.specs.declared.lines.CommandError.TheVariants.{Refused, NoMemory, DiskFault}
+use Rattle.fc_writing.specs.declared.copies.Copies.{Copies}
 use Rattle.fc_volume.specs.Volume.{HasCopies}
-
--- P, unless the disk failed
-abbrev pub UnlessFault : {T : Type 0} → Result T CommandError → Type 0 → Type 0
-UnlessFault (Ok value) P = P
-UnlessFault (Err (Refused refusal)) P = P
-UnlessFault (Err NoMemory) P = P
-UnlessFault (Err DiskFault) P = Unit {0}
 
 -- ---- the map
 

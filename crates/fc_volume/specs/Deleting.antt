@@ -23,7 +23,7 @@ use Rattle.fc_tree.specs.Counts.{address_in}
 use Rattle.fc_tree.specs.Nodes.{body_in, nodes_of}
 use Rattle.fc_volume.specs.declared.changes.removal.Removal.{Removal}
 use Rattle.fc_volume.specs.declared.changes.rewrite.Rewrite.{Rewrite}
-use Rattle.fc_volume.specs.declared.copies.Copies.TheVariants.{Equal}
+use Rattle.fc_writing.specs.declared.copies.Copies.TheVariants.{Equal}
 use Rattle.fc_volume.specs.Rewrites.{IsPrepared, IsRepairedAndWritten}
 use Rattle.fc_volume.specs.Volume.{Volume}
 

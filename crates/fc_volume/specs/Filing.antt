@@ -41,7 +41,7 @@ use Rattle.fc_plan.specs.Applied.{CanTakePlan}
 use Rattle.fc_plan.specs.Giving.{is_one_of}
 use Rattle.fc_placing.specs.Space.{IsMapEdited, zones_changed}
 use Rattle.fc_volume.specs.declared.changes.filing.Filing.{Filing}
-use Rattle.fc_volume.specs.declared.copies.Copies.TheVariants.{Equal}
+use Rattle.fc_writing.specs.declared.copies.Copies.TheVariants.{Equal}
 use Rattle.fc_volume.specs.Volume.{Volume}
 use Rattle.fc_volume.specs.Storing.{AreStored, HasSpaceOf, IsFirstStored, IsPlaceOf}
 

@@ -1,5 +1,4 @@
 pub mod Volume
-pub mod NoSpace
 pub mod Answers
 pub mod Calls
 pub mod Maps
@@ -30,3 +29,4 @@ pub mod Saving
 pub mod Replacing
 pub mod ReplaceLaws
 pub mod SaveLaws
+pub mod Fitness

@@ -21,9 +21,9 @@ use Rattle.fc_alloc.specs.declared.owner.Owner.{Owner}
 use Rattle.fc_laws.specs.nodes.Edits.{with_body}
 use Rattle.fc_space.specs.Space.{layout_of}
 use Rattle.fc_volume.specs.declared.changes.making.Making.{Making}
-use Rattle.fc_volume.specs.declared.lines.CommandError.{CommandError}
-use Rattle.fc_volume.specs.declared.lines.CommandError.TheVariants.{Refused, NoMemory, DiskFault}
-use Rattle.fc_volume.specs.declared.copies.Copies.TheVariants.{Equal}
+use Rattle.fc_holdings.specs.declared.error.CommandError.{CommandError}
+use Rattle.fc_holdings.specs.declared.error.CommandError.TheVariants.{Refused, NoMemory, DiskFault}
+use Rattle.fc_writing.specs.declared.copies.Copies.TheVariants.{Equal}
 use Rattle.fc_volume.specs.Owners.{entry_owner}
 use Rattle.fc_volume.specs.Rewrites.{IsPrepared}
 use Rattle.fc_volume.specs.Volume.{Volume}

@@ -13,7 +13,7 @@ use Rattle.fc_tree.specs.Nodes.{body_in, nodes_of}
 use Rattle.fc_laws.specs.nodes.Edits.{Nodes, with_body, with_entry, with_holder}
 use Rattle.fc_volume.specs.declared.changes.rewrite.Rewrite.{Rewrite}
 use Rattle.fc_volume.specs.declared.changes.relocate.Relocation.{Relocation}
-use Rattle.fc_volume.specs.declared.copies.Copies.TheVariants.{Equal}
+use Rattle.fc_writing.specs.declared.copies.Copies.TheVariants.{Equal}
 use Rattle.fc_volume.specs.Compacting.{KeepsMap}
 use Rattle.fc_volume.specs.Volume.{Volume}
 

@@ -24,7 +24,7 @@ use Rattle.fc_volume.specs.declared.changes.putting.FileSpace.{FileSpace}
 use Rattle.fc_volume.specs.declared.changes.putting.FileWords.{FileWords}
 use Rattle.fc_volume.specs.declared.changes.replacing.Replacement.{Replacement}
 use Rattle.fc_volume.specs.declared.changes.reword.Rewording.{Rewording}
-use Rattle.fc_volume.specs.declared.copies.Copies.TheVariants.{Equal}
+use Rattle.fc_writing.specs.declared.copies.Copies.TheVariants.{Equal}
 use Rattle.fc_volume.specs.Filing.{IsFileSpace}
 use Rattle.fc_volume.specs.Owners.{entry_owner}
 use Rattle.fc_volume.specs.Rewrites.{HoldsEntry, IsPrepared}

@@ -14,7 +14,7 @@ use Rattle.fc_tree.specs.Counts.{address_in}
 use Rattle.fc_tree.specs.Nodes.{body_in, nodes_of}
 use Rattle.fc_laws.specs.nodes.Edits.{with_body, with_entry}
 use Rattle.fc_volume.specs.declared.changes.reword.Rewording.{Rewording}
-use Rattle.fc_volume.specs.declared.copies.Copies.TheVariants.{Equal}
+use Rattle.fc_writing.specs.declared.copies.Copies.TheVariants.{Equal}
 use Rattle.fc_volume.specs.Rewrites.{IsPrepared}
 use Rattle.fc_volume.specs.Volume.{Volume}
 

@@ -1,15 +1,10 @@
 -- Volumes, and when one stands for a disk.
-use Rattle.std.specs.Prelude.{◌≡◌, ◌≤◌, ◌+◌, ◌*◌, Bool, ℕ, List, Ok}
+use Rattle.std.specs.Prelude.{◌≡◌, ◌≤◌, Bool, ℕ, List}
 use Rattle.std.specs.Option.{ForSome}
 use Rattle.fc_device.specs.declared.disk.Disk.{Ghosts}
 use Rattle.fc_device.specs.Calls.{StopsAsBefore}
 use Rattle.fc_device.specs.Stops.{StillLeaves}
 use Rattle.fc_record.specs.declared.Kind.{Kind}
-use Rattle.fc_oldmap.specs.Holes.{AreHoles}
-use Rattle.fc_oldmap.specs.OldMap.{map_units}
-use Rattle.fc_newmap.specs.Map.{Map}
-use Rattle.fc_copies.specs.declared.Which.{Which}
-use Rattle.fc_copies.specs.Copies.{chosen, copy_of}
 use Rattle.fc_alloc.specs.declared.owner.Owner.{Owner}
 use Rattle.fc_image.specs.Layout.{Layout, disc_sectors, sector_bytes}
 use Rattle.fc_image.specs.Stays.{HasEqualCopies}
@@ -19,8 +14,11 @@ use Rattle.fc_tree.specs.Agree.{Agree}
 use Rattle.fc_tree.specs.Nodes.{Numbers, nodes_of}
 use Rattle.fc_tree.specs.Parts.{Parts}
 use Rattle.fc_tree.specs.Stands.{StandsForImage}
-use Rattle.fc_volume.specs.declared.copies.Copies.{Copies}
-use Rattle.fc_volume.specs.declared.copies.Copies.TheVariants.{Equal, Chosen}
+use Rattle.fc_writing.specs.declared.copies.Copies.{Copies}
+use Rattle.fc_writing.specs.declared.copies.Copies.TheVariants.{Equal, Chosen}
+use Rattle.fc_writing.specs.Copies.{CountsAs}
+use Rattle.fc_holdings.specs.declared.holdings.Holdings.{Holdings}
+use Rattle.fc_holdings.specs.Holdings.{HoldsMap}
 
 -- a volume: its map, what is known of the map's copies, its objects, who owns which identifier, and whether it may be changed, and
 -- used at all
@@ -36,21 +34,15 @@ pub record Volume : Type 0 where
 abbrev pub parts_of : Volume → Parts
 parts_of v = record { layout = layout_of v.space; nodes = nodes_of v.tree; owners = v.owners }
 
--- The copy that counts is this one, and has the map's zones.
-pub record CountsAs (m : Map) (which : Which) (image : List ℕ) : Type 0 where
-  pub counts : chosen m.geometry image ≡ Ok which
-  pub content : copy_of m.geometry which image ≡ m.zones
+-- what it holds of its disc
+abbrev pub holdings_of : Volume → Holdings
+holdings_of v = record { tree = v.tree; places = v.space; owners = v.owners; copies = v.copies }
 
 -- What is known of the copies is so in this image.
 abbrev pub HasCopies : Copies → Layout → List ℕ → Type 0
 HasCopies Equal layout image = HasEqualCopies image layout
 HasCopies (Chosen which) (Layout.New m) image = CountsAs m which image
 HasCopies (Chosen which) (Layout.Old space) image = ⊥
-
--- The map lies within so many sectors. The holes of an old map lie after it.
-abbrev pub HoldsMap : Layout → ℕ → Type 0
-HoldsMap (Layout.New m) sectors = m.geometry.map_sector + 2 * m.geometry.zones ≤ sectors
-HoldsMap (Layout.Old space) sectors = (2 ≤ sectors) × AreHoles space.disc_units space.sector_units (map_units space.sector_units) space.holes
 
 -- The volume stands for the disk: the disk has the volume's sectors, as many as its disc and its map take at least; the parts agree with each
 -- other; and if the disk tells its bytes, these are the parts of its image, and its copies are as they are known to be.

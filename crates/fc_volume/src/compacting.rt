@@ -10,8 +10,10 @@ ghost use Rattle.fc_image.specs.Moves.{KeepsObjects};
 ghost use Rattle.fc_image.specs.Stays.{IsNewLayout};
 ghost use Rattle.fc_compact.specs.Compacting.{ChangesLoose};
 ghost use Rattle.fc_space.specs.Space.{layout_of};
-ghost use Rattle.fc_volume.specs.Compacting.{CanCompact, CompactsParts, IsDone, KeepsDisc, KeepsMap, UnlessFault};
-ghost use Rattle.fc_volume.specs.Volume.{HasCopies, HoldsMap, StandsFor, parts_of};
+ghost use Rattle.fc_holdings.specs.Answers.{UnlessFault};
+ghost use Rattle.fc_holdings.specs.Holdings.{HoldsMap};
+ghost use Rattle.fc_volume.specs.Compacting.{CanCompact, CompactsParts, IsDone, KeepsDisc, KeepsMap};
+ghost use Rattle.fc_volume.specs.Volume.{HasCopies, StandsFor, parts_of};
 
 use crate::{CommandError, Copies, Volume};
 use fc_alloc::Owners;
@@ -136,10 +138,15 @@ impl Volume {
         if self.read_only {
             return Err(CommandError::Refused(Refusal::ReadOnly));
         }
-        match compact_places(disk, &mut self.places, self.copies, &self.owners) {
+        match compact_places(
+            disk,
+            &mut self.holdings.places,
+            self.holdings.copies,
+            &self.holdings.owners,
+        ) {
             Ok(()) => {
-                self.copies = Copies::Equal;
-                let _ = self.places.index(alloc);
+                self.holdings.copies = Copies::Equal;
+                let _ = self.holdings.places.index(alloc);
                 Ok(())
             }
             Err(DiskFault) => {

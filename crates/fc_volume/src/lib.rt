@@ -3,7 +3,7 @@
 
 pub mod changes;
 pub mod compacting;
-mod copies;
+mod fitness;
 mod lines;
 mod maps;
 mod misplaced;
@@ -13,6 +13,7 @@ mod pieces;
 mod reading;
 mod volume;
 
-pub use copies::Copies;
-pub use lines::{CommandError, FileRef, Line, Listed, MountError};
+pub use fc_holdings::{CommandError, Copies, Holdings};
+pub use fitness::is_fit_after;
+pub use lines::{FileRef, Line, Listed, MountError};
 pub use volume::Volume;

@@ -1,49 +1,12 @@
 // What calls of volumes answer.
 ghost use Rattle.std.specs.Prelude.{◌≡◌};
-ghost use Rattle.fc_volume.specs.declared.lines.CommandError.TheVariants as errors;
 ghost use Rattle.fc_volume.specs.declared.lines.MountError.TheVariants as mount_errors;
 ghost use Rattle.fc_volume.specs.Mounting.{mount_error};
-ghost use Rattle.fc_volume.specs.NoSpace.{no_space};
 
 use fc_device::NoMemory;
 use fc_image::ImageFault;
-use fc_names::{Name, Refusal};
-use fc_plan::PlanError;
+use fc_names::Name;
 use fc_tree::TreeError;
-
-/// Why a command isn't done.
-#[derive(Clone, Copy)]
-pub enum CommandError {
-    /// The first reason that applies.
-    Refused(Refusal),
-    NoMemory,
-    /// A call of the disk failed.
-    DiskFault,
-}
-
-impl From<PlanError> for CommandError {
-    ghost from_gives = { λ error answer. answer ≡ no_space error };
-
-    fn from(error: PlanError) -> Self
-        ensures { result ≡ no_space error }
-    {
-        match error {
-            PlanError::IdsFull => CommandError::Refused(Refusal::IdsFull),
-            PlanError::DiscFull => CommandError::Refused(Refusal::DiscFull),
-            PlanError::NoMemory => CommandError::NoMemory,
-        }
-    }
-}
-
-impl From<NoMemory> for CommandError {
-    ghost from_gives = { λ _ answer. answer ≡ errors.NoMemory };
-
-    fn from(_: NoMemory) -> Self
-        ensures { result ≡ errors.NoMemory }
-    {
-        CommandError::NoMemory
-    }
-}
 
 /// Why a disk isn't mounted.
 #[derive(Drop)]

@@ -19,7 +19,8 @@ ghost use Rattle.fc_space.specs.Space.{layout_of};
 ghost use Rattle.fc_volume.specs.Answers.{IsFaultOf};
 ghost use Rattle.fc_volume.specs.Calls.{chosen_reads, copies_reads, copy_reads, layout_reads, map_reads};
 ghost use Rattle.fc_volume.specs.Maps.{Finds, HasOldMap, found_of, zone_fault, zones_layout};
-ghost use Rattle.fc_volume.specs.Volume.{HasCopies, HoldsMap};
+ghost use Rattle.fc_holdings.specs.Holdings.{HoldsMap};
+ghost use Rattle.fc_volume.specs.Volume.{HasCopies};
 
 use crate::{Copies, MountError};
 use fc_checks::zone_check;

@@ -22,6 +22,7 @@ use crate::misplaced::{misplaced_sector, reserved_rows};
 use crate::owners::owners_of;
 use crate::{MountError, Volume};
 use fc_device::{Disk, NoMemory};
+use fc_holdings::Holdings;
 use fc_image::ImageFault;
 use fc_record::kinds::kind;
 use fc_record::{Front, Kind, KindError};
@@ -108,10 +109,12 @@ fn volume_of<D: Disk>(
     let owners = owners_of(alloc, &tree, space)?;
     match misplaced_sector(kind, space, &owners) {
         None => Ok(Volume {
-            places,
-            copies: found.copies,
-            tree,
-            owners,
+            holdings: Holdings {
+                tree,
+                places,
+                owners,
+                copies: found.copies,
+            },
             read_only,
             fit: true,
         }),

@@ -53,8 +53,12 @@ impl Volume {
         requires named { IsRef self.now f.now }
         ensures { IfOk result (λ place. IsPlace self.now f.now place.items) }
     {
-        let node = self.tree.node(f.node).unwrap();
-        match self.places.place_of(alloc, node.entry.address, f.len) {
+        let node = self.holdings.tree.node(f.node).unwrap();
+        match self
+            .holdings
+            .places
+            .place_of(alloc, node.entry.address, f.len)
+        {
             Ok(place) => Ok(place),
             Err(PlaceError::NoMemory) => Err(NoMemory),
             // Each file of the volume has a place.
@@ -83,14 +87,15 @@ impl Volume {
         ensures few { D.read_calls disk.new ≤ D.read_calls disk.old + 1 }
         ensures cause { FailsByFault D.Disk disk.old disk.new result }
     {
-        let size = self.places.sector_bytes();
+        let size = self.holdings.places.sector_bytes();
         let count = piece_length(size, f.len, at, into.len());
         if count == 0 {
             return Ok(0);
         }
-        self.places.places_suffice();
-        let node = self.tree.node(f.node).unwrap();
+        self.holdings.places.places_suffice();
+        let node = self.holdings.tree.node(f.node).unwrap();
         let sector = self
+            .holdings
             .places
             .space()
             .sector_of(node.entry.address, f.len, at / size);

@@ -205,8 +205,8 @@ impl Volume {
         ensures no_fault { IfErr result (λ error. error ≢ CommandError.DiskFault) }
         ensures disk { disk.new ≡ disk.old }
     {
-        self.places.places_suffice();
-        lines_at(alloc, &self.tree, p)
+        self.holdings.places.places_suffice();
+        lines_at(alloc, &self.holdings.tree, p)
     }
 
     /// The file that a path names. No memory is taken.
@@ -223,7 +223,7 @@ impl Volume {
         ensures refused { IfErr result (λ error. (refusal : Refusal) × (error ≡ CommandError.Refused refusal)) }
         ensures disk { disk.new ≡ disk.old }
     {
-        file_at(&self.tree, p)
+        file_at(&self.holdings.tree, p)
     }
 
     /// The bytes of all holes, and of the largest.
@@ -231,7 +231,7 @@ impl Volume {
         ensures all { result.0 ≡ free_bytes (parts_of self.now).layout }
         ensures largest { result.1 ≡ largest_hole (parts_of self.now).layout }
     {
-        match self.places.space() {
+        match self.holdings.places.space() {
             Space::OldMapped(map) => old_free(map.holes()),
             Space::NewMapped(map) => new_free(map),
         }

@@ -1,21 +1,18 @@
 // Volumes and their parts.
 ghost use Rattle.std.specs.Prelude.{◌≡◌};
 
-use crate::Copies;
 use fc_alloc::Owners;
-use fc_space::{Places, Space};
+use fc_holdings::Holdings;
+use fc_space::Space;
 use fc_tree::Tree;
 use std::alloc::Global;
 use std::marker::Model;
 
-/// The filing system over one disk: its map, its objects as a tree, and who owns which identifier. A volume doesn't hold the
-/// disk; each call is given it.
+/// The filing system over one disk: what it holds of its disc in memory, whether it may be changed, and whether it is fit. A volume
+/// doesn't hold the disk; each call is given it.
 #[derive(Drop)]
 pub struct Volume {
-    pub places: Places,
-    pub copies: Copies,
-    pub tree: Tree,
-    pub owners: Owners,
+    pub holdings: Holdings,
     pub read_only: bool,
     pub fit: bool,
 }
@@ -25,7 +22,7 @@ impl Model for Volume {
 
     ghost Value = { volume.Volume };
 
-    ghost view = { λ v. record { space = v.places; copies = v.copies; tree = v.tree; owners = v.owners; read_only = v.read_only; fit = v.fit } };
+    ghost view = { λ v. record { space = v.holdings.places; copies = v.holdings.copies; tree = v.holdings.tree; owners = v.holdings.owners; read_only = v.read_only; fit = v.fit } };
 }
 
 impl Volume {
@@ -33,21 +30,21 @@ impl Volume {
     pub fn tree(&self) -> &Tree
         ensures { result.now ≡ self.now.tree }
     {
-        &self.tree
+        &self.holdings.tree
     }
 
     /// The map.
     pub fn space(&self) -> &Space
         ensures { result.now ≡ self.now.space }
     {
-        self.places.space()
+        self.holdings.places.space()
     }
 
     /// The owners of identifiers.
     pub fn owners(&self) -> &Owners
         ensures { result.now ≡ self.now.owners }
     {
-        &self.owners
+        &self.holdings.owners
     }
 
     /// Before a file's place is looked for: makes the index of the map again, which a change drops, if a place was looked for since. If
@@ -55,6 +52,6 @@ impl Volume {
     pub fn renew_index(&mut self, alloc: Global)
         ensures { self.new ≡ self.old }
     {
-        self.places.renew_index(alloc);
+        self.holdings.places.renew_index(alloc);
     }
 }

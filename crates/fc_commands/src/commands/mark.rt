@@ -4,7 +4,7 @@ ghost use Rattle.fc_device.specs.Calls.{StopsAndExitsLeave};
 ghost use Rattle.fc_image.specs.Layout.{dir_form};
 ghost use Rattle.fc_model.specs.Command.{Command};
 ghost use Rattle.fc_space.specs.Space.{layout_of};
-ghost use Rattle.fc_course.specs.Holdings.{Stands, parts_of};
+ghost use Rattle.fc_holdings.specs.Holdings.{Stands, parts_of};
 ghost use Rattle.fc_course.specs.Jobs.{FitAttributes, HasLaws};
 ghost use Rattle.fc_course.specs.Promises.{ChangeKeeps, HasChanged, SameCopies, WritesPlacesOf};
 ghost use Rattle.fc_commands.specs.Answers.{AnswersOver};

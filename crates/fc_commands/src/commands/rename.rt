@@ -1,7 +1,7 @@
 // `rename`: another name, or another directory, or both.
 ghost use Rattle.std.specs.Prelude.{[]};
 ghost use Rattle.fc_model.specs.Command.{Command};
-ghost use Rattle.fc_course.specs.Holdings.{parts_of};
+ghost use Rattle.fc_holdings.specs.Holdings.{parts_of};
 ghost use Rattle.fc_commands.specs.Judgments.{IsJudgment};
 
 use crate::judged::Judged;

@@ -2,7 +2,7 @@
 ghost use Rattle.std.specs.Prelude.{◌<◌, [], IfOk, IsFalse, IsTrue, OnOk};
 ghost use Rattle.fc_device.specs.Calls.{StopsAndExitsLeave};
 ghost use Rattle.fc_model.specs.Command.{Command};
-ghost use Rattle.fc_course.specs.Holdings.{Stands, parts_of};
+ghost use Rattle.fc_holdings.specs.Holdings.{Stands, parts_of};
 ghost use Rattle.fc_course.specs.Jobs.{HasLaws};
 ghost use Rattle.fc_course.specs.Promises.{ChangeKeeps, HasChanged, SameCopies, WritesPlacesOf};
 ghost use Rattle.fc_commands.specs.Answers.{AnswersOver};

@@ -16,10 +16,10 @@ impl Volume {
         ensures ok { OnOk result (IsAdmitted self.old self.new n holder e.now) }
         ensures err { OnErr result (self.new ≡ self.old) }
     {
-        let owner = entry_owner(self.places.space(), n, holder, e);
-        self.tree.reserve()?;
-        if add(&mut self.owners, owner).is_err() {
-            self.tree.release();
+        let owner = entry_owner(self.holdings.places.space(), n, holder, e);
+        self.holdings.tree.reserve()?;
+        if add(&mut self.holdings.owners, owner).is_err() {
+            self.holdings.tree.release();
             return Err(NoMemory);
         }
         Ok(())

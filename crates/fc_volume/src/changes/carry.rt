@@ -15,7 +15,8 @@ ghost use Rattle.fc_tree.specs.Nodes.{nodes_of};
 ghost use Rattle.fc_volume.specs.Carrying.{CanCarry, HasCarried, IsCarried, IsTakenAndMoved, LieBelow, carried_nodes, relocation_of, sectors_of_carrying};
 ghost use Rattle.fc_volume.specs.Relocating.{CanTakeOver};
 ghost use Rattle.fc_volume.specs.Storing.{HasSpaceOf};
-ghost use Rattle.fc_volume.specs.Volume.{HasCopies, HoldsMap, StandsFor, parts_of};
+ghost use Rattle.fc_holdings.specs.Holdings.{HoldsMap};
+ghost use Rattle.fc_volume.specs.Volume.{HasCopies, StandsFor, parts_of};
 
 use crate::changes::carrying::Carrying;
 use crate::changes::copying::copy_first;
@@ -165,10 +166,15 @@ impl Volume {
         ensures faults { D.faults disk.old ≤ D.faults disk.new }
         ensures cause { result ≡ Err CommandError.DiskFault → Rose (D.faults disk.old) (D.faults disk.new) }
     {
-        match write_placed(disk, &mut self.places, self.copies, &change) {
+        match write_placed(
+            disk,
+            &mut self.holdings.places,
+            self.holdings.copies,
+            &change,
+        ) {
             Ok(()) => {
-                self.copies = Copies::Equal;
-                take_carried(&mut self.tree, &mut self.owners, change);
+                self.holdings.copies = Copies::Equal;
+                take_carried(&mut self.holdings.tree, &mut self.holdings.owners, change);
                 Ok(())
             }
             Err(DiskFault) => {

@@ -14,7 +14,7 @@ ghost use Rattle.fc_space.specs.Space.{layout_of};
 ghost use Rattle.fc_tree.specs.declared.node.Node.{Node};
 ghost use Rattle.fc_tree.specs.Nodes.{body_in, nodes_of};
 ghost use Rattle.fc_volume.specs.Changing.{AnswersOver, ChangeKeeps, HasChanged, WritesOnlyPlaces};
-ghost use Rattle.fc_volume.specs.Compacting.{UnlessFault};
+ghost use Rattle.fc_holdings.specs.Answers.{UnlessFault};
 ghost use Rattle.fc_volume.specs.Making.{AnswersSpace, CanMakeIn, IsMakingReady};
 ghost use Rattle.fc_volume.specs.Roomy.{IsRoomy};
 ghost use Rattle.fc_volume.specs.Volume.{StandsFor, parts_of};
@@ -103,17 +103,22 @@ impl Volume {
         ensures form_stays { UnlessFault result (dir_form (parts_of self.new).layout ≡ dir_form (parts_of self.old).layout) }
     {
         cdir_laws();
-        is_new_map(&self.places);
-        self.places.places_suffice();
-        let dir = match judge_cdir(&self.tree, self.places.dir_form(), self.read_only, p) {
+        is_new_map(&self.holdings.places);
+        self.holdings.places.places_suffice();
+        let dir = match judge_cdir(
+            &self.holdings.tree,
+            self.holdings.places.dir_form(),
+            self.read_only,
+            p,
+        ) {
             Ok(dir) => dir,
             Err(refusal) => return Err(CommandError::Refused(refusal)),
         };
-        let change = match draft_cdir(alloc, &self.tree, &self.places, dir, p) {
+        let change = match draft_cdir(alloc, &self.holdings.tree, &self.holdings.places, dir, p) {
             Ok(change) => change,
             Err(error) => return Err(error),
         };
-        let n = self.tree.next_number();
+        let n = self.holdings.tree.next_number();
         match self.admit(n, change.directory.node, &change.entry) {
             Ok(()) => self.make(disk, change),
             Err(NoMemory) => Err(CommandError::NoMemory),

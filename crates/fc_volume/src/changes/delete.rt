@@ -8,7 +8,7 @@ ghost use Rattle.fc_newmap.specs.Map.{Map};
 ghost use Rattle.fc_placing.specs.Space.{zones_changed};
 ghost use Rattle.fc_space.specs.Space.{layout_of};
 ghost use Rattle.fc_tree.specs.Nodes.{nodes_of};
-ghost use Rattle.fc_volume.specs.Compacting.{UnlessFault};
+ghost use Rattle.fc_holdings.specs.Answers.{UnlessFault};
 ghost use Rattle.fc_volume.specs.Changing.{AnswersOver, ChangeKeeps, HasChanged, WritesOnlyPlaces};
 ghost use Rattle.fc_volume.specs.Deleting.{IsDeleteReady, LeavesOut};
 ghost use Rattle.fc_volume.specs.Rewrites.{HoldsEntry};
@@ -119,13 +119,19 @@ impl Volume {
         ensures form_stays { UnlessFault result (dir_form (parts_of self.new).layout ≡ dir_form (parts_of self.old).layout) }
     {
         change_laws();
-        is_new_map(&self.places);
-        self.places.places_suffice();
-        let target = match judge_delete(&self.tree, self.read_only, p) {
+        is_new_map(&self.holdings.places);
+        self.holdings.places.places_suffice();
+        let target = match judge_delete(&self.holdings.tree, self.read_only, p) {
             Ok(target) => target,
             Err(refusal) => return Err(CommandError::Refused(refusal)),
         };
-        match prepare_delete(alloc, &self.tree, &self.places, &self.owners, target) {
+        match prepare_delete(
+            alloc,
+            &self.holdings.tree,
+            &self.holdings.places,
+            &self.holdings.owners,
+            target,
+        ) {
             Ok(change) => self.remove(disk, change),
             Err(NoMemory) => Err(CommandError::NoMemory),
         }

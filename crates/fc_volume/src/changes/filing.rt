@@ -13,7 +13,8 @@ ghost use Rattle.fc_objects.specs.Extents.{sectors_in};
 ghost use Rattle.fc_placing.specs.Space.{IsMapEdited, zones_changed};
 ghost use Rattle.fc_space.specs.Space.{layout_of};
 ghost use Rattle.fc_volume.specs.Filing.{CanFile, CanTake, HasPlanned, HasWritten, IsFileDone, IsNamedAndGiven, IsStoredAndTaken};
-ghost use Rattle.fc_volume.specs.Volume.{HasCopies, HoldsMap, parts_of};
+ghost use Rattle.fc_holdings.specs.Holdings.{HoldsMap};
+ghost use Rattle.fc_volume.specs.Volume.{HasCopies, parts_of};
 
 use crate::changes::rewrite::Rewrite;
 use crate::changes::storing::{store, store_first};
@@ -206,9 +207,15 @@ impl Volume {
         ensures faults { D.faults disk.old ≤ D.faults disk.new }
         ensures cause { result ≡ Err CommandError.DiskFault → Rose (D.faults disk.old) (D.faults disk.new) }
     {
-        match write_placed(disk, &mut self.places, self.copies, change, bytes) {
+        match write_placed(
+            disk,
+            &mut self.holdings.places,
+            self.holdings.copies,
+            change,
+            bytes,
+        ) {
             Ok(()) => {
-                self.copies = Copies::Equal;
+                self.holdings.copies = Copies::Equal;
                 Ok(())
             }
             Err(DiskFault) => {

@@ -12,7 +12,8 @@ ghost use Rattle.fc_objects.specs.Extents.{sectors_in};
 ghost use Rattle.fc_tree.specs.Nodes.{next_number, nodes_of};
 ghost use Rattle.fc_volume.specs.Making.{HasMade, nodes_made};
 ghost use Rattle.fc_volume.specs.Storing.{CanStore, HasSpaceOf, IsObjectMade};
-ghost use Rattle.fc_volume.specs.Volume.{HasCopies, HoldsMap, parts_of};
+ghost use Rattle.fc_holdings.specs.Holdings.{HoldsMap};
+ghost use Rattle.fc_volume.specs.Volume.{HasCopies, parts_of};
 
 use crate::changes::making::Making;
 use crate::changes::rewrite::Rewrite;
@@ -79,14 +80,14 @@ impl Volume {
     {
         match write_new_placed(
             disk,
-            &mut self.places,
-            self.copies,
+            &mut self.holdings.places,
+            self.holdings.copies,
             &change.object,
             &change.directory,
         ) {
             Ok(()) => {
-                self.copies = Copies::Equal;
-                take_over(&mut self.tree, change);
+                self.holdings.copies = Copies::Equal;
+                take_over(&mut self.holdings.tree, change);
                 Ok(())
             }
             Err(DiskFault) => {

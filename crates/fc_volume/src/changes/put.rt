@@ -11,7 +11,8 @@ ghost use Rattle.fc_newmap.specs.Map.{Map};
 ghost use Rattle.fc_objects.specs.Extents.{sectors_in};
 ghost use Rattle.fc_tree.specs.Nodes.{next_number, nodes_of};
 ghost use Rattle.fc_volume.specs.Filing.{CanFile, HasPut, IsFileDone, nodes_put};
-ghost use Rattle.fc_volume.specs.Volume.{HasCopies, HoldsMap, parts_of};
+ghost use Rattle.fc_holdings.specs.Holdings.{HoldsMap};
+ghost use Rattle.fc_volume.specs.Volume.{HasCopies, parts_of};
 
 use crate::changes::filing::Filing;
 use crate::changes::putting::NewFile;
@@ -76,7 +77,7 @@ impl Volume {
         ensures cause { result ≡ Err CommandError.DiskFault → Rose (D.faults disk.old) (D.faults disk.new) }
     {
         self.write_filing(disk, &change.filing, bytes)?;
-        take_over(&mut self.tree, change);
+        take_over(&mut self.holdings.tree, change);
         Ok(())
     }
 }

@@ -12,7 +12,8 @@ ghost use Rattle.fc_laws.specs.nodes.Edits.{with_holder};
 ghost use Rattle.fc_space.specs.Space.{layout_of};
 ghost use Rattle.fc_tree.specs.Nodes.{nodes_of};
 ghost use Rattle.fc_volume.specs.Relocating.{AreMoreFilled, CanTakeOver, HasMore, HasOwner, HasRelocated, IsRelocationWritten, LieWithin, more_sectors, relocated, sectors_of_relocation, with_more, with_owner};
-ghost use Rattle.fc_volume.specs.Volume.{HasCopies, HoldsMap, StandsFor, parts_of};
+ghost use Rattle.fc_holdings.specs.Holdings.{HoldsMap};
+ghost use Rattle.fc_volume.specs.Volume.{HasCopies, StandsFor, parts_of};
 
 use crate::changes::rewrite::Rewrite;
 use crate::changes::taking::{set_body, set_entry};
@@ -200,10 +201,10 @@ impl Volume {
         ensures faults { D.faults disk.old ≤ D.faults disk.new }
         ensures cause { result ≡ Err CommandError.DiskFault → Rose (D.faults disk.old) (D.faults disk.new) }
     {
-        match write_relocation(disk, &self.places, self.copies, &change) {
+        match write_relocation(disk, &self.holdings.places, self.holdings.copies, &change) {
             Ok(()) => {
-                self.copies = Copies::Equal;
-                take_over(&mut self.tree, &mut self.owners, change);
+                self.holdings.copies = Copies::Equal;
+                take_over(&mut self.holdings.tree, &mut self.holdings.owners, change);
                 Ok(())
             }
             Err(DiskFault) => {

@@ -15,7 +15,8 @@ ghost use Rattle.fc_placing.specs.Space.{zones_changed};
 ghost use Rattle.fc_space.specs.Space.{layout_of};
 ghost use Rattle.fc_tree.specs.Nodes.{body_in, nodes_of};
 ghost use Rattle.fc_volume.specs.Deleting.{HasRemoved, IsRemovalDone};
-ghost use Rattle.fc_volume.specs.Volume.{HasCopies, HoldsMap, StandsFor, parts_of};
+ghost use Rattle.fc_holdings.specs.Holdings.{HoldsMap};
+ghost use Rattle.fc_volume.specs.Volume.{HasCopies, StandsFor, parts_of};
 
 use crate::changes::rewrite::Rewrite;
 use crate::changes::taking::set_body;
@@ -137,11 +138,16 @@ impl Volume {
         ensures faults { D.faults disk.old ≤ D.faults disk.new }
         ensures cause { result ≡ Err CommandError.DiskFault → Rose (D.faults disk.old) (D.faults disk.new) }
     {
-        match write_removal(disk, &mut self.places, self.copies, &change) {
+        match write_removal(
+            disk,
+            &mut self.holdings.places,
+            self.holdings.copies,
+            &change,
+        ) {
             Ok(()) => {
-                self.copies = Copies::Equal;
-                self.owners.remove(change.node);
-                take_over(&mut self.tree, change.directory, change.node);
+                self.holdings.copies = Copies::Equal;
+                self.holdings.owners.remove(change.node);
+                take_over(&mut self.holdings.tree, change.directory, change.node);
                 Ok(())
             }
             Err(DiskFault) => {

@@ -8,7 +8,7 @@ ghost use Rattle.fc_model.specs.Command.{Command};
 ghost use Rattle.fc_tree.specs.Parts.{ArePartsOf};
 ghost use Rattle.fc_volume.specs.Changing.{AnswersOver, ChangeKeeps, HasChanged, WritesOnlyPlaces, refusal_in};
 ghost use Rattle.fc_placing.specs.Copying.{SaysCopied};
-ghost use Rattle.fc_volume.specs.Compacting.{UnlessFault};
+ghost use Rattle.fc_holdings.specs.Answers.{UnlessFault};
 ghost use Rattle.fc_volume.specs.Renaming.{IsAccepted};
 ghost use Rattle.fc_volume.specs.Roomy.{IsRoomy};
 ghost use Rattle.fc_volume.specs.Volume.{StandsFor, parts_of};
@@ -32,7 +32,13 @@ impl Volume {
         ensures refused { IfErr result (λ refusal. (v : Opened) (image : List ℕ) → AreSound v.layout v.listings → ArePartsOf (parts_of self.now) v
             → refusal_in v image self.now.read_only (Command.Rename from.now to.now) ≡ Some refusal) }
     {
-        judge_rename(&self.tree, self.places.dir_form(), self.read_only, from, to)
+        judge_rename(
+            &self.holdings.tree,
+            self.holdings.places.dir_form(),
+            self.read_only,
+            from,
+            to,
+        )
     }
 
     // Gives an object, which the judge has accepted, another name in its directory, which has room for it.
@@ -58,9 +64,15 @@ impl Volume {
         ensures form_stays { UnlessFault result (dir_form (parts_of self.new).layout ≡ dir_form (parts_of self.old).layout) }
     {
         rename_laws();
-        is_new_map(&self.places);
-        self.places.places_suffice();
-        match prepare_within(alloc, &self.tree, &self.places, renaming.target, to) {
+        is_new_map(&self.holdings.places);
+        self.holdings.places.places_suffice();
+        match prepare_within(
+            alloc,
+            &self.holdings.tree,
+            &self.holdings.places,
+            renaming.target,
+            to,
+        ) {
             Ok(change) => self.relocate(disk, change),
             Err(NoMemory) => Err(CommandError::NoMemory),
         }
@@ -91,17 +103,17 @@ impl Volume {
         ensures form_stays { UnlessFault result (dir_form (parts_of self.new).layout ≡ dir_form (parts_of self.old).layout) }
     {
         rename_laws();
-        is_new_map(&self.places);
-        self.places.places_suffice();
-        let _ = self.owners.list();
-        if is_full(&self.tree, renaming.holder) {
+        is_new_map(&self.holdings.places);
+        self.holdings.places.places_suffice();
+        let _ = self.holdings.owners.list();
+        if is_full(&self.holdings.tree, renaming.holder) {
             return Err(CommandError::Refused(Refusal::DirFull));
         }
         match prepare_move(
             alloc,
-            &self.tree,
-            &self.places,
-            &self.owners,
+            &self.holdings.tree,
+            &self.holdings.places,
+            &self.holdings.owners,
             renaming.target,
             renaming.holder,
             to,
@@ -136,16 +148,16 @@ impl Volume {
         ensures form_stays { UnlessFault result (dir_form (parts_of self.new).layout ≡ dir_form (parts_of self.old).layout) }
     {
         carry_laws();
-        is_new_map(&self.places);
-        self.places.places_suffice();
-        let _ = self.owners.list();
-        if is_full(&self.tree, renaming.holder) {
+        is_new_map(&self.holdings.places);
+        self.holdings.places.places_suffice();
+        let _ = self.holdings.owners.list();
+        if is_full(&self.holdings.tree, renaming.holder) {
             return Err(CommandError::Refused(Refusal::DirFull));
         }
         match prepare_carrying(
             alloc,
-            &self.tree,
-            &self.places,
+            &self.holdings.tree,
+            &self.holdings.places,
             renaming.target,
             renaming.holder,
             to,
@@ -190,7 +202,7 @@ impl Volume {
         if renaming.holder == renaming.target.holder {
             return self.rename_within(alloc, disk, from, to, renaming);
         }
-        if is_copied(&self.owners, renaming.target.node, renaming.holder) {
+        if is_copied(&self.holdings.owners, renaming.target.node, renaming.holder) {
             return self.rename_copied(alloc, disk, from, to, renaming);
         }
         self.rename_across(alloc, disk, from, to, renaming)

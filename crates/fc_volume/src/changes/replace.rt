@@ -5,7 +5,7 @@ ghost use Rattle.fc_image.specs.Stays.{IsNewLayout};
 ghost use Rattle.fc_model.specs.Command.{Command};
 ghost use Rattle.fc_refusals.specs.declared.target.Slot.{Slot};
 ghost use Rattle.fc_volume.specs.Changing.{AnswersOver, ChangeKeeps, HasChanged, WritesOnlyPlaces};
-ghost use Rattle.fc_volume.specs.Compacting.{UnlessFault};
+ghost use Rattle.fc_holdings.specs.Answers.{UnlessFault};
 ghost use Rattle.fc_volume.specs.Saving.{IsFileAccepted, MakesFilled};
 ghost use Rattle.fc_volume.specs.Volume.{StandsFor, parts_of};
 
@@ -49,14 +49,14 @@ impl Volume {
         ensures form_stays { UnlessFault result (dir_form (parts_of self.new).layout ≡ dir_form (parts_of self.old).layout) }
     {
         replace_laws();
-        is_new_map(&self.places);
-        self.places.places_suffice();
-        let _ = self.owners.list();
+        is_new_map(&self.holdings.places);
+        self.holdings.places.places_suffice();
+        let _ = self.holdings.owners.list();
         let change = match draft_replacing(
             alloc,
-            &self.tree,
-            &self.places,
-            &self.owners,
+            &self.holdings.tree,
+            &self.holdings.places,
+            &self.holdings.owners,
             target,
             words,
         ) {

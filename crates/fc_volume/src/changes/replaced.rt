@@ -16,7 +16,8 @@ ghost use Rattle.fc_tree.specs.Nodes.{body_in, nodes_of};
 ghost use Rattle.fc_volume.specs.Filing.{CanFile, IsFileDone};
 ghost use Rattle.fc_volume.specs.Relocating.{HasOwner};
 ghost use Rattle.fc_volume.specs.Replacing.{HasOwnerNow, HasReplacedFile, IsReplacingAdmitted, owners_with_room};
-ghost use Rattle.fc_volume.specs.Volume.{HasCopies, HoldsMap, parts_of};
+ghost use Rattle.fc_holdings.specs.Holdings.{HoldsMap};
+ghost use Rattle.fc_volume.specs.Volume.{HasCopies, parts_of};
 
 use crate::changes::filing::Filing;
 use crate::changes::replacing::Replacement;
@@ -89,7 +90,7 @@ impl Volume {
         ensures ok { OnOk result (IsReplacingAdmitted self.old self.new change.now) }
         ensures err { OnErr result (self.new ≡ self.old) }
     {
-        make_room(&mut self.owners, change.owner)
+        make_room(&mut self.holdings.owners, change.owner)
     }
 
     /// Writes a file in the place of another, for which the volume has memory, the map with its space, the directory that
@@ -127,8 +128,8 @@ impl Volume {
         ensures cause { result ≡ Err CommandError.DiskFault → Rose (D.faults disk.old) (D.faults disk.new) }
     {
         self.write_filing(disk, &change.filing, bytes)?;
-        set_owner(&mut self.owners, change.node, change.owner);
-        take_nodes(&mut self.tree, change);
+        set_owner(&mut self.holdings.owners, change.node, change.owner);
+        take_nodes(&mut self.holdings.tree, change);
         Ok(())
     }
 }

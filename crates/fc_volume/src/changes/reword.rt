@@ -80,10 +80,15 @@ impl Volume {
         ensures faults { D.faults disk.old ≤ D.faults disk.new }
         ensures cause { result ≡ Err CommandError.DiskFault → Rose (D.faults disk.old) (D.faults disk.new) }
     {
-        match write_placed(disk, &self.places, self.copies, &change.directory) {
+        match write_placed(
+            disk,
+            &self.holdings.places,
+            self.holdings.copies,
+            &change.directory,
+        ) {
             Ok(()) => {
-                self.copies = Copies::Equal;
-                take_over(&mut self.tree, change);
+                self.holdings.copies = Copies::Equal;
+                take_over(&mut self.holdings.tree, change);
                 Ok(())
             }
             Err(DiskFault) => {

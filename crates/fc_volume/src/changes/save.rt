@@ -17,7 +17,7 @@ ghost use Rattle.fc_tree.specs.declared.node.Node.{Node};
 ghost use Rattle.fc_tree.specs.Nodes.{body_in, nodes_of};
 ghost use Rattle.fc_tree.specs.Parts.{ArePartsOf};
 ghost use Rattle.fc_volume.specs.Changing.{AnswersOver, ChangeKeeps, HasChanged, WritesOnlyPlaces, refusal_in};
-ghost use Rattle.fc_volume.specs.Compacting.{UnlessFault};
+ghost use Rattle.fc_holdings.specs.Answers.{UnlessFault};
 ghost use Rattle.fc_volume.specs.Filing.{IsFileDrafted, WantsFile};
 ghost use Rattle.fc_volume.specs.Making.{AnswersSpace};
 ghost use Rattle.fc_volume.specs.Roomy.{IsRoomy, IsRoomyFor};
@@ -93,7 +93,12 @@ impl Volume {
         ensures refused { IfErr result (λ refusal. (v : Opened) (image : List ℕ) (c : Command) (load exec : ℕ) (bytes : List ℕ) → MakesFile c p.now load exec bytes
             → AreSound v.layout v.listings → ArePartsOf (parts_of self.now) v → refusal_in v image self.now.read_only c ≡ Some refusal) }
     {
-        judge_save(&self.tree, self.places.dir_form(), self.read_only, p)
+        judge_save(
+            &self.holdings.tree,
+            self.holdings.places.dir_form(),
+            self.read_only,
+            p,
+        )
     }
 
     // Writes a new file into the directory of a node, which the judge has accepted. Of the file's bytes the first are given;
@@ -122,13 +127,21 @@ impl Volume {
         ensures form_stays { UnlessFault result (dir_form (parts_of self.new).layout ≡ dir_form (parts_of self.old).layout) }
     {
         save_laws();
-        is_new_map(&self.places);
-        self.places.places_suffice();
-        let change = match draft_put(alloc, &self.tree, &self.places, &self.owners, dir, p, words) {
+        is_new_map(&self.holdings.places);
+        self.holdings.places.places_suffice();
+        let change = match draft_put(
+            alloc,
+            &self.holdings.tree,
+            &self.holdings.places,
+            &self.holdings.owners,
+            dir,
+            p,
+            words,
+        ) {
             Ok(change) => change,
             Err(error) => return Err(error),
         };
-        let n = self.tree.next_number();
+        let n = self.holdings.tree.next_number();
         match self.admit(n, change.filing.directory.node, &change.entry) {
             Ok(()) => self.put_new(disk, change, bytes),
             Err(NoMemory) => Err(CommandError::NoMemory),

@@ -5,7 +5,7 @@ ghost use Rattle.fc_image.specs.Stays.{IsNewLayout};
 ghost use Rattle.fc_model.specs.Command.{Command};
 ghost use Rattle.fc_tree.specs.Nodes.{nodes_of};
 ghost use Rattle.fc_space.specs.Space.{layout_of};
-ghost use Rattle.fc_volume.specs.Compacting.{UnlessFault};
+ghost use Rattle.fc_holdings.specs.Answers.{UnlessFault};
 ghost use Rattle.fc_volume.specs.Changing.{AnswersOver, ChangeKeeps, HasChanged, WritesOnlyPlaces};
 ghost use Rattle.fc_volume.specs.Volume.{StandsFor, parts_of};
 ghost use Rattle.fc_volume.specs.Rewrites.{HoldsEntry};
@@ -81,13 +81,21 @@ impl Volume {
         ensures form_stays { UnlessFault result (dir_form (parts_of self.new).layout ≡ dir_form (parts_of self.old).layout) }
     {
         change_laws();
-        is_new_map(&self.places);
-        self.places.places_suffice();
-        let target = match judge_set(&self.tree, self.read_only, p) {
+        is_new_map(&self.holdings.places);
+        self.holdings.places.places_suffice();
+        let target = match judge_set(&self.holdings.tree, self.read_only, p) {
             Ok(target) => target,
             Err(refusal) => return Err(CommandError::Refused(refusal)),
         };
-        match prepare_set(alloc, &self.tree, &self.places, target, load, exec, access) {
+        match prepare_set(
+            alloc,
+            &self.holdings.tree,
+            &self.holdings.places,
+            target,
+            load,
+            exec,
+            access,
+        ) {
             Ok(change) => self.reword(disk, change),
             Err(NoMemory) => Err(CommandError::NoMemory),
         }

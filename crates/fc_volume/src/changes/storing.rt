@@ -15,7 +15,8 @@ ghost use Rattle.fc_placing.specs.Space.{zones_changed};
 ghost use Rattle.fc_plan.specs.Parts.{fronts};
 ghost use Rattle.fc_space.specs.Space.{layout_of};
 ghost use Rattle.fc_volume.specs.Storing.{AreStored, CanStore, HasSpaceOf, IsFirstStored, IsObjectMade, IsReadyObject, IsTakenAndNamed};
-ghost use Rattle.fc_volume.specs.Volume.{HasCopies, HoldsMap};
+ghost use Rattle.fc_holdings.specs.Holdings.{HoldsMap};
+ghost use Rattle.fc_volume.specs.Volume.{HasCopies};
 
 use crate::Copies;
 use crate::changes::rewrite::Rewrite;

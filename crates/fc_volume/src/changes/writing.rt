@@ -11,7 +11,8 @@ ghost use Rattle.fc_objects.specs.Extents.{sectors_in};
 ghost use Rattle.fc_objects.specs.Written.{AreApart, IsPartWritten};
 ghost use Rattle.fc_space.specs.Space.{layout_of};
 ghost use Rattle.fc_volume.specs.Rewrites.{IsRepairedAndWritten};
-ghost use Rattle.fc_volume.specs.Volume.{HasCopies, HoldsMap};
+ghost use Rattle.fc_holdings.specs.Holdings.{HoldsMap};
+ghost use Rattle.fc_volume.specs.Volume.{HasCopies};
 
 use crate::Copies;
 use crate::changes::rewrite::Rewrite;

@@ -2,8 +2,8 @@ use Rattle.std.proofs.Common.{Bool, List, ℕ, sym, subst}
 use Rattle.std.specs.Prelude.{Err, Ok, Result}
 use Rattle.fc_device.proofs.DiskLaws.{laws}
 use Rattle.fc_model.specs.Command.{Command}
-use Rattle.fc_course.specs.declared.error.CommandError.{CommandError}
-use Rattle.fc_course.specs.Holdings.{parts_of}
+use Rattle.fc_holdings.specs.declared.error.CommandError.{CommandError}
+use Rattle.fc_holdings.specs.Holdings.{parts_of}
 use Rattle.fc_course.proofs.ChangeLemmas.{nothing_written}
 use Rattle.fc_commands.specs.declared.judged.Judged.{Judged}
 use Rattle.fc_commands.specs.Judgments.{IsJudgment}

@@ -8,10 +8,10 @@ use Rattle.fc_image.specs.Layout.{Layout}
 use Rattle.fc_space.specs.Space.{layout_of}
 use Rattle.fc_tree.specs.Nodes.{next_number}
 use Rattle.fc_writing.specs.declared.copies.Copies.TheVariants.{Equal}
-use Rattle.fc_course.specs.declared.error.CommandError.{CommandError}
-use Rattle.fc_course.specs.declared.holdings.Holdings.{Holdings}
+use Rattle.fc_holdings.specs.declared.error.CommandError.{CommandError}
+use Rattle.fc_holdings.specs.declared.holdings.Holdings.{Holdings}
 use Rattle.fc_course.specs.Answers.{AnswersShort}
-use Rattle.fc_course.specs.Holdings.{IsSameKind, parts_of}
+use Rattle.fc_holdings.specs.Holdings.{IsSameKind, parts_of}
 use Rattle.fc_course.specs.Written.{CanWriteOn, ChangeLeavesOn, IsChangedOn, IsGivenOn}
 use Rattle.fc_course.proofs.AdmitLemmas.{can_take_over, laws_for, layout_stays, room_made, run_is}
 use Rattle.fc_course.proofs.ChangeLemmas.{accepts, faults, has_changed, nothing_written, refuses, same_form, stands_now, written}

@@ -5,7 +5,7 @@ use Rattle.fc_device.specs.Calls.{StopsAndExitsLeave}
 use Rattle.fc_image.specs.Layout.{Layout}
 use Rattle.fc_space.specs.declared.space.Space.{Space}
 use Rattle.fc_space.specs.Space.{layout_of}
-use Rattle.fc_course.specs.Holdings.{CopiesAre}
+use Rattle.fc_holdings.specs.Holdings.{CopiesAre}
 use Rattle.fc_course.specs.Written.{ChangeLeavesOn, IsChangedOn}
 use Rattle.fc_course.proofs.writing.write_change.Goals as goal
 

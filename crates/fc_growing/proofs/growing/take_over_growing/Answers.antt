@@ -11,5 +11,5 @@ use Rattle.fc_growing.proofs.growing.take_over_growing.Goals as goal
 pub set_body-requires : goal.set_body-requires
 set_body-requires c =
     subst (λ (nodes : Nodes). IsSome (get nodes c.args.r.node)) (sym c.take_over_around.ensures.nodes)
-    (grown_placed c.args.r (nodes_of c.volume.inside.tree) c.volume.inside.owners
+    (grown_placed c.args.r (nodes_of c.volume.inside.holdings.tree) c.volume.inside.holdings.owners
     (subst (λ (v : Volume). CanTakeOver (nodes_of v.tree) v.owners c.args.r) (sym c.volume.view_is) c.requires))

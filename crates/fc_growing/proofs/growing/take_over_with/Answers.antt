@@ -8,8 +8,8 @@ use Rattle.fc_growing.proofs.growing.take_over_with.Goals as goal
 
 pub take_over_growing-requires : goal.take_over_growing-requires
 take_over_growing-requires c =
-    subst (λ (nodes : Nodes). CanTakeOver nodes c.volume.inside.owners c.args.r) (sym c.add.ensures.nodes)
-    (can_with c.args.r (nodes_of c.volume.inside.tree) c.volume.inside.owners
+    subst (λ (nodes : Nodes). CanTakeOver nodes c.volume.inside.holdings.owners c.args.r) (sym c.add.ensures.nodes)
+    (can_with c.args.r (nodes_of c.volume.inside.holdings.tree) c.volume.inside.holdings.owners
     (subst (λ (v : Volume). CanTakeOver (nodes_of v.tree) v.owners c.args.r) (sym c.volume.view_is) c.requires.can) c.add.result c.args.node)
 
 pub returns : goal.returns

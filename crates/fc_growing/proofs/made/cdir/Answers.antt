@@ -9,8 +9,9 @@ use Rattle.fc_names.specs.declared.refusal.Refusal.{Refusal}
 use Rattle.fc_names.specs.declared.refusal.Refusal.TheVariants as refusals
 use Rattle.fc_space.specs.Space.{layout_of}
 use Rattle.fc_tree.specs.Nodes.{HoldObjects, nodes_of}
-use Rattle.fc_volume.specs.declared.lines.CommandError.TheVariants.{Refused}
-use Rattle.fc_volume.specs.Changing.{AnswersBy, refusal_in}
+use Rattle.fc_holdings.specs.declared.error.CommandError.TheVariants.{Refused}
+use Rattle.fc_holdings.specs.Answers.{AnswersBy}
+use Rattle.fc_volume.specs.Changing.{refusal_in}
 use Rattle.fc_volume.specs.Volume.{Volume}
 use Rattle.fc_volume.proofs.ChangeLemmas.{writes_nothing}
 use Rattle.fc_volume.proofs.JudgedLemmas.{refused_by}
@@ -48,7 +49,7 @@ room_at-requires-clause-there g c = lemma.holder_there _ c.args.volume.now c.vol
 pub cdir-requires-clause-roomy : goal.cdir-requires-clause-roomy
 cdir-requires-clause-roomy g c =
     lemma.roomy _ c.args.volume.now c.volume.view_is c.is_new_map.ensures c.args.p.now c.in-Ok.dir c.requires.stands c.requires.new_map c.in-Ok.ensures.vacant
-    (subst (HasRoomAt (nodes_of c.volume.inside.tree) c.in-Ok.dir (last_name c.args.p.now)) c.in-Fits.is c.in-Ok-room_at.ensures)
+    (subst (HasRoomAt (nodes_of c.volume.inside.holdings.tree) c.in-Ok.dir (last_name c.args.p.now)) c.in-Fits.is c.in-Ok-room_at.ensures)
 
 pub cdir_growing-requires-clause-vacant : goal.cdir_growing-requires-clause-vacant
 cdir_growing-requires-clause-vacant g c =
@@ -57,7 +58,7 @@ cdir_growing-requires-clause-vacant g c =
 pub cdir_growing-requires-clause-grows : goal.cdir_growing-requires-clause-grows
 cdir_growing-requires-clause-grows g c =
     lemma.room_now _ c.args.volume.now c.volume.view_is c.is_new_map.ensures c.args.p.now c.in-Ok.dir c.requires.stands c.requires.new_map c.in-Ok.ensures.vacant (rooms.Grows c.in-Grows.len)
-    (subst (HasRoomAt (nodes_of c.volume.inside.tree) c.in-Ok.dir (last_name c.args.p.now)) c.in-Grows.is c.in-Ok-room_at.ensures)
+    (subst (HasRoomAt (nodes_of c.volume.inside.holdings.tree) c.in-Ok.dir (last_name c.args.p.now)) c.in-Grows.is c.in-Ok-room_at.ensures)
 
 pub returns-in-Full-clause-refused : goal.returns-in-Full-clause-refused
 returns-in-Full-clause-refused g c = λ v image sound parts.
@@ -67,7 +68,7 @@ returns-in-Full-clause-refused g c = λ v image sound parts.
     (by_space v image c.volume.inside.read_only c.args.p.now c.dir_form-form.result (c.dir_form-form.ensures ∙ ap dir_form (ap (λ (x : Volume). layout_of x.space) c.volume.view_is ∙ parts.layout))
     (c.in-Ok.ensures.refusal image v.layout v.listings sound held)
     ∙ lemma.full _ c.args.volume.now c.volume.view_is c.is_new_map.ensures c.args.p.now c.in-Ok.dir c.requires.stands c.requires.new_map c.in-Ok.ensures.vacant
-    (subst (HasRoomAt (nodes_of c.volume.inside.tree) c.in-Ok.dir (last_name c.args.p.now)) c.in-Full.is c.in-Ok-room_at.ensures) v sound parts))
+    (subst (HasRoomAt (nodes_of c.volume.inside.holdings.tree) c.in-Ok.dir (last_name c.args.p.now)) c.in-Full.is c.in-Ok-room_at.ensures) v sound parts))
 
 pub returns-in-Grows-clause-refused : goal.returns-in-Grows-clause-refused
 returns-in-Grows-clause-refused g c = λ v image sound parts.

@@ -8,7 +8,7 @@ use Rattle.fc_model.specs.Command.{Command}
 use Rattle.fc_space.specs.declared.space.Space.{Space}
 use Rattle.fc_space.specs.Space.{layout_of}
 use Rattle.fc_tree.specs.Nodes.{next_number}
-use Rattle.fc_volume.specs.declared.copies.Copies.{Copies}
+use Rattle.fc_writing.specs.declared.copies.Copies.{Copies}
 use Rattle.fc_volume.specs.Volume.{HasCopies}
 use Rattle.fc_volume.proofs.AdmittingLemmas.{admitted_from}
 use Rattle.fc_volume.proofs.ChangeLemmas.{ok_both, ok_then, only_faults, places_written, unless_fault, writes_nothing}

@@ -46,22 +46,22 @@ room_of-requires-clause-can g c =
 pub rename-requires-clause-roomy : goal.rename-requires-clause-roomy
 rename-requires-clause-roomy g c =
     fits_so _ c.args.volume.now c.volume.view_is c.args.from.now c.args.to.now c.in-Ok.renaming c.in-Ok.ensures.accepted
-    (subst (IsRoomFor (nodes_of c.volume.inside.tree) c.in-Ok.renaming (last_name c.args.to.now)) c.in-Fits.is c.in-Ok-room_of.ensures)
+    (subst (IsRoomFor (nodes_of c.volume.inside.holdings.tree) c.in-Ok.renaming (last_name c.args.to.now)) c.in-Fits.is c.in-Ok-room_of.ensures)
 
 pub grow_within-requires-clause-grows : goal.grow_within-requires-clause-grows
 grow_within-requires-clause-grows g c =
     room_now _ c.args.volume.now c.volume.view_is c.args.from.now c.args.to.now c.in-Ok.renaming c.in-Ok.ensures.accepted (rooms.Grows c.in-Grows.len)
-    (subst (IsRoomFor (nodes_of c.volume.inside.tree) c.in-Ok.renaming (last_name c.args.to.now)) c.in-Grows.is c.in-Ok-room_of.ensures)
+    (subst (IsRoomFor (nodes_of c.volume.inside.holdings.tree) c.in-Ok.renaming (last_name c.args.to.now)) c.in-Grows.is c.in-Ok-room_of.ensures)
 
 pub grow_across-requires-clause-grows : goal.grow_across-requires-clause-grows
 grow_across-requires-clause-grows g c =
     room_now _ c.args.volume.now c.volume.view_is c.args.from.now c.args.to.now c.in-Ok.renaming c.in-Ok.ensures.accepted (rooms.Grows c.in-Grows.len)
-    (subst (IsRoomFor (nodes_of c.volume.inside.tree) c.in-Ok.renaming (last_name c.args.to.now)) c.in-Grows.is c.in-Ok-room_of.ensures)
+    (subst (IsRoomFor (nodes_of c.volume.inside.holdings.tree) c.in-Ok.renaming (last_name c.args.to.now)) c.in-Grows.is c.in-Ok-room_of.ensures)
 
 pub grow_copied-requires-clause-grows : goal.grow_copied-requires-clause-grows
 grow_copied-requires-clause-grows g c =
     room_now _ c.args.volume.now c.volume.view_is c.args.from.now c.args.to.now c.in-Ok.renaming c.in-Ok.ensures.accepted (rooms.Grows c.in-Grows.len)
-    (subst (IsRoomFor (nodes_of c.volume.inside.tree) c.in-Ok.renaming (last_name c.args.to.now)) c.in-Grows.is c.in-Ok-room_of.ensures)
+    (subst (IsRoomFor (nodes_of c.volume.inside.holdings.tree) c.in-Ok.renaming (last_name c.args.to.now)) c.in-Grows.is c.in-Ok-room_of.ensures)
 
 pub grow_copied-requires-clause-copied : goal.grow_copied-requires-clause-copied
 grow_copied-requires-clause-copied g c =
@@ -77,4 +77,4 @@ pub returns-in-Full-clause-refused : goal.returns-in-Full-clause-refused
 returns-in-Full-clause-refused g c = λ v image sound parts.
     refused_by (Unit {0}) _ refusals.DirFull
     (full_so _ c.args.volume.now c.volume.view_is c.args.from.now c.args.to.now c.in-Ok.renaming c.in-Ok.ensures.accepted
-    (subst (IsRoomFor (nodes_of c.volume.inside.tree) c.in-Ok.renaming (last_name c.args.to.now)) c.in-Full.is c.in-Ok-room_of.ensures) v image sound parts)
+    (subst (IsRoomFor (nodes_of c.volume.inside.holdings.tree) c.in-Ok.renaming (last_name c.args.to.now)) c.in-Full.is c.in-Ok-room_of.ensures) v image sound parts)

@@ -7,7 +7,7 @@ use Rattle.fc_device.proofs.DiskLaws.{laws}
 use Rattle.fc_image.specs.Stays.{IsNewLayout}
 use Rattle.fc_names.specs.declared.refusal.Refusal.TheVariants as refusals
 use Rattle.fc_space.specs.Space.{layout_of}
-use Rattle.fc_volume.specs.declared.copies.Copies.TheVariants.{Equal}
+use Rattle.fc_writing.specs.declared.copies.Copies.TheVariants.{Equal}
 use Rattle.fc_volume.specs.Volume.{Volume, parts_of}
 use Rattle.fc_volume.proofs.StandsLemmas.{new_layout}
 use Rattle.fc_reclaim.specs.Reclaiming.{CanReclaim, LeavesOwned}
@@ -54,7 +54,7 @@ pub reclaim_places-requires-clause-ready : goal.reclaim_places-requires-clause-r
 reclaim_places-requires-clause-ready g c = λ m layout image told.
     let can = subst (λ (w : Volume). CanReclaim m (which_in w.copies) w.owners image) (sym c.volume.view_is)
     (can_reclaim g.D.Disk c.args.volume.now c.args.disk.now m c.requires.stands (sym (ap (λ (w : Volume). layout_of w.space) c.volume.view_is) ∙ layout) image told) in
-    subst (λ (w : Option Which). CanReclaim m w c.volume.inside.owners image) (sym c.which_of-which.ensures) can
+    subst (λ (w : Option Which). CanReclaim m w c.volume.inside.holdings.owners image) (sym c.which_of-which.ensures) can
 
 pub returns-in-Ok-clause-refused : goal.returns-in-Ok-clause-refused
 returns-in-Ok-clause-refused g c reason =
@@ -69,8 +69,8 @@ returns-in-Ok-clause-reclaimed g c =
     let now : Volume = record {
       space = c.reclaim_places.new.places;
       copies = Equal;
-      tree = c.volume.inside.tree;
-      owners = c.volume.inside.owners;
+      tree = c.volume.inside.holdings.tree;
+      owners = c.volume.inside.holdings.owners;
       read_only = c.volume.inside.read_only;
       fit = c.volume.inside.fit;
     } in
@@ -102,8 +102,8 @@ returns-in-Ok-clause-keeps g c =
     let now : Volume = record {
       space = c.reclaim_places.new.places;
       copies = Equal;
-      tree = c.volume.inside.tree;
-      owners = c.volume.inside.owners;
+      tree = c.volume.inside.holdings.tree;
+      owners = c.volume.inside.holdings.owners;
       read_only = c.volume.inside.read_only;
       fit = c.volume.inside.fit;
     } in
@@ -144,9 +144,9 @@ returns-in-Err-clause-keeps g c =
     let new = c.reclaim_places.new.disk in
     let now : Volume = record {
       space = c.reclaim_places.new.places;
-      copies = c.volume.inside.copies;
-      tree = c.volume.inside.tree;
-      owners = c.volume.inside.owners;
+      copies = c.volume.inside.holdings.copies;
+      tree = c.volume.inside.holdings.tree;
+      owners = c.volume.inside.holdings.owners;
       read_only = c.volume.inside.read_only;
       fit = false;
     } in

@@ -11,25 +11,25 @@ use Rattle.fc_oldvolume.proofs.compacting.compact.Goals as goal
 pub write_compacted-requires-clause-bodies : goal.write_compacted-requires-clause-bodies
 write_compacted-requires-clause-bodies g c =
     let layout = map_is _ c.args.volume.now c.volume.view_is c.requires.old_map c.map_of-map.result c.map_of-map.ensures in
-    let prepared = subst (λ (s : Space). IsReadyToCompact (layout_of s) (nodes_of c.volume.inside.tree) (bound_of c.volume.inside.tree) c.in-Ok.ready) c.space.ensures c.in-Ok.ensures in
+    let prepared = subst (λ (s : Space). IsReadyToCompact (layout_of s) (nodes_of c.volume.inside.holdings.tree) (bound_of c.volume.inside.holdings.tree) c.in-Ok.ready) c.space.ensures c.in-Ok.ensures in
     (are_ready g.D.Disk c.move_laws.ensures _ c.args.volume.now c.volume.view_is c.args.disk.now c.requires.stands c.map_of-map.result layout c.is_old_map.ensures c.in-Ok.ready prepared c.bound.ensures.above).bodies
 
 pub write_compacted-requires-clause-small : goal.write_compacted-requires-clause-small
 write_compacted-requires-clause-small g c =
     let layout = map_is _ c.args.volume.now c.volume.view_is c.requires.old_map c.map_of-map.result c.map_of-map.ensures in
-    let prepared = subst (λ (s : Space). IsReadyToCompact (layout_of s) (nodes_of c.volume.inside.tree) (bound_of c.volume.inside.tree) c.in-Ok.ready) c.space.ensures c.in-Ok.ensures in
+    let prepared = subst (λ (s : Space). IsReadyToCompact (layout_of s) (nodes_of c.volume.inside.holdings.tree) (bound_of c.volume.inside.holdings.tree) c.in-Ok.ready) c.space.ensures c.in-Ok.ensures in
     no_big g.D.Disk c.move_laws.ensures _ c.args.volume.now c.volume.view_is c.args.disk.now c.requires.stands c.map_of-map.result layout c.is_old_map.ensures c.in-Ok.ready prepared c.bound.ensures.above
 
 pub write_compacted-requires-clause-placed : goal.write_compacted-requires-clause-placed
 write_compacted-requires-clause-placed g c =
     let layout = map_is _ c.args.volume.now c.volume.view_is c.requires.old_map c.map_of-map.result c.map_of-map.ensures in
-    let prepared = subst (λ (s : Space). IsReadyToCompact (layout_of s) (nodes_of c.volume.inside.tree) (bound_of c.volume.inside.tree) c.in-Ok.ready) c.space.ensures c.in-Ok.ensures in
+    let prepared = subst (λ (s : Space). IsReadyToCompact (layout_of s) (nodes_of c.volume.inside.holdings.tree) (bound_of c.volume.inside.holdings.tree) c.in-Ok.ready) c.space.ensures c.in-Ok.ensures in
     placed g.D.Disk c.move_laws.ensures _ c.args.volume.now c.volume.view_is c.args.disk.now c.requires.stands c.map_of-map.result layout c.is_old_map.ensures c.in-Ok.ready prepared c.bound.ensures.above
 
 pub returns-in-Ok-write_compacted-clause-compacted : goal.returns-in-Ok-write_compacted-clause-compacted
 returns-in-Ok-write_compacted-clause-compacted g c =
     let layout = map_is _ c.args.volume.now c.volume.view_is c.requires.old_map c.map_of-map.result c.map_of-map.ensures in
-    let prepared = subst (λ (s : Space). IsReadyToCompact (layout_of s) (nodes_of c.volume.inside.tree) (bound_of c.volume.inside.tree) c.in-Ok.ready) c.space.ensures c.in-Ok.ensures in
+    let prepared = subst (λ (s : Space). IsReadyToCompact (layout_of s) (nodes_of c.volume.inside.holdings.tree) (bound_of c.volume.inside.holdings.tree) c.in-Ok.ready) c.space.ensures c.in-Ok.ensures in
     λ image told. let w = c.in-Ok-write_compacted.ensures.bytes image told in (
       w.2,
       w.3,
@@ -41,7 +41,7 @@ returns-in-Ok-write_compacted-clause-compacted g c =
 pub returns-in-Ok-write_compacted-clause-keeps : goal.returns-in-Ok-write_compacted-clause-keeps
 returns-in-Ok-write_compacted-clause-keeps g c =
     let layout = map_is _ c.args.volume.now c.volume.view_is c.requires.old_map c.map_of-map.result c.map_of-map.ensures in
-    let prepared = subst (λ (s : Space). IsReadyToCompact (layout_of s) (nodes_of c.volume.inside.tree) (bound_of c.volume.inside.tree) c.in-Ok.ready) c.space.ensures c.in-Ok.ensures in
+    let prepared = subst (λ (s : Space). IsReadyToCompact (layout_of s) (nodes_of c.volume.inside.holdings.tree) (bound_of c.volume.inside.holdings.tree) c.in-Ok.ready) c.space.ensures c.in-Ok.ensures in
     record {
       unchanged = tt;
       stands = stands_after g.D.Disk c.move_laws.ensures _ c.args.volume.now c.volume.view_is c.args.disk.now c.requires.stands c.map_of-map.result layout c.is_old_map.ensures c.in-Ok.ready prepared c.bound.ensures.above
@@ -61,13 +61,13 @@ returns-in-Ok-write_compacted-clause-keeps g c =
 pub returns-in-Ok-write_compacted-clause-places : goal.returns-in-Ok-write_compacted-clause-places
 returns-in-Ok-write_compacted-clause-places g c =
     let layout = map_is _ c.args.volume.now c.volume.view_is c.requires.old_map c.map_of-map.result c.map_of-map.ensures in
-    let prepared = subst (λ (s : Space). IsReadyToCompact (layout_of s) (nodes_of c.volume.inside.tree) (bound_of c.volume.inside.tree) c.in-Ok.ready) c.space.ensures c.in-Ok.ensures in
+    let prepared = subst (λ (s : Space). IsReadyToCompact (layout_of s) (nodes_of c.volume.inside.holdings.tree) (bound_of c.volume.inside.holdings.tree) c.in-Ok.ready) c.space.ensures c.in-Ok.ensures in
     only_places g.D.Disk c.move_laws.ensures _ c.args.volume.now c.volume.view_is c.args.disk.now c.requires.stands c.map_of-map.result layout c.is_old_map.ensures c.in-Ok.ready prepared c.bound.ensures.above
     c.write_compacted.new.disk c.write_compacted.ensures.places
 
 pub returns-clause-places : goal.returns-clause-places
 returns-clause-places g c =
     let layout = map_is _ c.args.volume.now c.volume.view_is c.requires.old_map c.map_of-map.result c.map_of-map.ensures in
-    let prepared = subst (λ (s : Space). IsReadyToCompact (layout_of s) (nodes_of c.volume.inside.tree) (bound_of c.volume.inside.tree) c.in-Ok.ready) c.space.ensures c.in-Ok.ensures in
+    let prepared = subst (λ (s : Space). IsReadyToCompact (layout_of s) (nodes_of c.volume.inside.holdings.tree) (bound_of c.volume.inside.holdings.tree) c.in-Ok.ready) c.space.ensures c.in-Ok.ensures in
     only_places g.D.Disk c.move_laws.ensures _ c.args.volume.now c.volume.view_is c.args.disk.now c.requires.stands c.map_of-map.result layout c.is_old_map.ensures c.in-Ok.ready prepared c.bound.ensures.above
     c.write_compacted.new.disk c.write_compacted.ensures.places

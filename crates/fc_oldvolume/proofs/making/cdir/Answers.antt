@@ -17,8 +17,9 @@ use Rattle.fc_laws.specs.nodes.Edits.{Nodes}
 use Rattle.fc_space.specs.declared.space.Space.{Space}
 use Rattle.fc_space.specs.Space.{layout_of}
 use Rattle.fc_tree.specs.Nodes.{HoldObjects, Numbers, next_number, nodes_of}
-use Rattle.fc_volume.specs.declared.lines.CommandError.TheVariants.{Refused}
-use Rattle.fc_volume.specs.Changing.{AnswersBy, refusal_in}
+use Rattle.fc_holdings.specs.declared.error.CommandError.TheVariants.{Refused}
+use Rattle.fc_holdings.specs.Answers.{AnswersBy}
+use Rattle.fc_volume.specs.Changing.{refusal_in}
 use Rattle.fc_volume.specs.Volume.{StandsFor, Volume, parts_of}
 use Rattle.fc_volume.proofs.ChangeLemmas.{ok_both, ok_then, only_faults, unless_fault}
 use Rattle.fc_volume.proofs.JudgedLemmas.{done_by, refused_by}

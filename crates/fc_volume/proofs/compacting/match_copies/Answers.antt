@@ -6,7 +6,7 @@ use Rattle.fc_record.specs.declared.Geometry.{Geometry}
 use Rattle.fc_newmap.proofs.HeldLemmas.{geometry_facts}
 use Rattle.fc_copies.specs.Copies.{chosen}
 use Rattle.fc_image.specs.Layout.{Layout}
-use Rattle.fc_volume.specs.declared.copies.Copies.{Copies}
+use Rattle.fc_writing.specs.declared.copies.Copies.{Copies}
 use Rattle.fc_volume.specs.Volume.{HasCopies}
 use Rattle.fc_volume.proofs.RepairedLemmas.{equal_kept, repaired, repaired_copies}
 use Rattle.fc_volume.proofs.compacting.match_copies.Goals as goal

@@ -4,7 +4,7 @@ use Rattle.fc_image.specs.Layout.{Layout}
 use Rattle.fc_record.specs.Record.{geometry}
 use Rattle.fc_newmap.specs.Map.{zones_in}
 use Rattle.fc_space.specs.Space.{layout_of}
-use Rattle.fc_volume.specs.Volume.{HoldsMap}
+use Rattle.fc_holdings.specs.Holdings.{HoldsMap}
 use Rattle.fc_volume.proofs.MapsLemmas.{counted, new_is}
 use Rattle.fc_volume.proofs.OneZoneLemmas.{one_sector}
 use Rattle.fc_volume.proofs.maps.map_of_one.Goals as goal

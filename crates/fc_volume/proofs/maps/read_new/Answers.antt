@@ -6,7 +6,7 @@ use Rattle.fc_record.specs.Record.{geometry}
 use Rattle.fc_newmap.specs.Map.{zones_in}
 use Rattle.fc_space.specs.Space.{layout_of}
 use Rattle.fc_volume.specs.Calls.{copy_reads, layout_reads}
-use Rattle.fc_volume.specs.Volume.{HoldsMap}
+use Rattle.fc_holdings.specs.Holdings.{HoldsMap}
 use Rattle.fc_volume.proofs.MapsLemmas.{counted, new_room, new_is, no_copy}
 use Rattle.fc_volume.proofs.maps.read_new.Goals as goal
 

@@ -4,7 +4,7 @@ use Rattle.fc_image.specs.Layout.{dir_form}
 use Rattle.fc_model.specs.Command.{Command}
 use Rattle.fc_space.specs.Space.{layout_of}
 use Rattle.fc_change.specs.declared.job.Job.TheVariants as jobs
-use Rattle.fc_course.specs.Holdings.{parts_of}
+use Rattle.fc_holdings.specs.Holdings.{parts_of}
 use Rattle.fc_commands.proofs.JudgmentLemmas.{by_form, judged_job, not_judged}
 use Rattle.fc_commands.proofs.commands.cdir.cdir_job.Goals as goal
 

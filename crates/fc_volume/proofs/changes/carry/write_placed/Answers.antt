@@ -5,7 +5,7 @@ use Rattle.fc_newmap.specs.Map.{Map}
 use Rattle.fc_space.specs.declared.space.Space.{Space}
 use Rattle.fc_space.specs.Space.{layout_of}
 use Rattle.fc_volume.specs.Carrying.{IsCarried}
-use Rattle.fc_volume.specs.Volume.{HoldsMap}
+use Rattle.fc_holdings.specs.Holdings.{HoldsMap}
 use Rattle.fc_volume.proofs.StoringLemmas.{by_maps}
 use Rattle.fc_volume.proofs.changes.carry.write_placed.Goals as goal
 use Rattle.fc_image.proofs.SameMapLemmas.{new_map as one_map}

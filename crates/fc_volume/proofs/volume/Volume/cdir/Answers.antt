@@ -17,12 +17,14 @@ use Rattle.fc_image.specs.effects.Short.{short}
 use Rattle.fc_laws.specs.nodes.Edits.{Nodes}
 use Rattle.fc_space.specs.declared.space.Space.{Space}
 use Rattle.fc_volume.specs.declared.changes.making.Making.{Making}
-use Rattle.fc_volume.specs.declared.copies.Copies.{Copies}
+use Rattle.fc_writing.specs.declared.copies.Copies.{Copies}
 use Rattle.fc_space.specs.Space.{layout_of}
 use Rattle.fc_tree.specs.Nodes.{HoldObjects, Numbers, next_number, nodes_of}
-use Rattle.fc_volume.specs.declared.lines.CommandError.TheVariants.{Refused, NoMemory, DiskFault}
-use Rattle.fc_volume.specs.Changing.{AnswersBy, refusal_in}
-use Rattle.fc_volume.specs.Volume.{HasCopies, HoldsMap, StandsFor, Volume, parts_of}
+use Rattle.fc_holdings.specs.declared.error.CommandError.TheVariants.{Refused, NoMemory, DiskFault}
+use Rattle.fc_holdings.specs.Answers.{AnswersBy}
+use Rattle.fc_holdings.specs.Holdings.{HoldsMap}
+use Rattle.fc_volume.specs.Changing.{refusal_in}
+use Rattle.fc_volume.specs.Volume.{HasCopies, StandsFor, Volume, parts_of}
 use Rattle.fc_volume.proofs.StandsLemmas.{new_layout}
 use Rattle.fc_volume.proofs.ChangeLemmas.{ok_both, ok_then, only_faults, places_written, unless_fault, writes_nothing}
 use Rattle.fc_volume.proofs.JudgedLemmas.{done_by, refused_by}

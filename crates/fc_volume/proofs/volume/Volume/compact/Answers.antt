@@ -3,7 +3,7 @@ use Rattle.fc_device.proofs.DiskLaws.{laws}
 use Rattle.fc_device.proofs.StopLemmas.{keeps_start}
 use Rattle.fc_alloc.specs.declared.owner.Owner.{Owner}
 use Rattle.fc_space.specs.Space.{layout_of}
-use Rattle.fc_volume.specs.declared.copies.Copies.TheVariants.{Equal}
+use Rattle.fc_writing.specs.declared.copies.Copies.TheVariants.{Equal}
 use Rattle.fc_volume.specs.Compacting.{CanCompact, IsDone, KeepsDisc}
 use Rattle.fc_volume.specs.Volume.{Volume, parts_of}
 use Rattle.fc_volume.proofs.RepairedLemmas.{loose_same}
@@ -28,8 +28,8 @@ returns-in-Ok-clause-compacted g c =
     let now : Volume = record {
       space = c.index.new.self;
       copies = Equal;
-      tree = c.self.inside.tree;
-      owners = c.self.inside.owners;
+      tree = c.self.inside.holdings.tree;
+      owners = c.self.inside.holdings.owners;
       read_only = c.self.inside.read_only;
       fit = c.self.inside.fit;
     } in

@@ -9,8 +9,9 @@ use Rattle.fc_image.specs.Layout.{disc_sectors, sector_bytes}
 use Rattle.fc_space.specs.declared.space.Space.{Space}
 use Rattle.fc_space.specs.Space.{layout_of}
 use Rattle.fc_volume.specs.Maps.{found_of}
-use Rattle.fc_volume.specs.declared.copies.Copies.{Copies}
-use Rattle.fc_volume.specs.Volume.{HasCopies, HoldsMap, parts_of}
+use Rattle.fc_writing.specs.declared.copies.Copies.{Copies}
+use Rattle.fc_holdings.specs.Holdings.{HoldsMap}
+use Rattle.fc_volume.specs.Volume.{HasCopies, parts_of}
 use Rattle.fc_volume.proofs.MountLemmas.{agrees, are_parts, both_of, no_map, no_parts, opens, opens_as, shapes_then, view}
 use Rattle.fc_volume.proofs.OpenReadsLemmas.{of_kind, of_map, of_walk}
 use Rattle.fc_volume.proofs.volume.Volume.mount.Goals as goal

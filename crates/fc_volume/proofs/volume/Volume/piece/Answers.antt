@@ -19,7 +19,7 @@ sector_of-sector-requires g c =
     let there = ap (λ w. get (nodes_of w.tree) f.node) (sym c.self.view_is) ∙ sym c.node.ensures ∙ ap (option_map (λ n. n.now)) c.unwrap-node.ensures in
     let layout = ap (λ w. layout_of w.space) c.self.view_is in
     let placed = file_placed v f node c.requires.stands.agree c.requires.named there in
-    rw c.space.ensures (sector_there (layout_of c.self.inside.places) node.entry.address f.len c.sector_bytes-size.result c.args.at placed.0
+    rw c.space.ensures (sector_there (layout_of c.self.inside.holdings.places) node.entry.address f.len c.sector_bytes-size.result c.args.at placed.0
     (ap (λ (l : Layout). sectors_at l node.entry.address f.len) layout ∙ placed.1) c.places_suffice.ensures c.sector_bytes-size.ensures
     (omega (arith, c.piece_length-count.ensures, c.if-count-eq0.false)))
 

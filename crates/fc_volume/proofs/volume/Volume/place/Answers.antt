@@ -10,7 +10,7 @@ use Rattle.fc_volume.proofs.volume.Volume.place.Goals as goal
 
 pub returns-in-Ok : goal.returns-in-Ok
 returns-in-Ok c =
-    place_is c.args.self.now c.args.f.now c.unwrap-node.result.now (layout_of c.self.inside.places) c.in-Ok.place.items
+    place_is c.args.self.now c.args.f.now c.unwrap-node.result.now (layout_of c.self.inside.holdings.places) c.in-Ok.place.items
     (ap (λ v. get (nodes_of v.tree) c.args.f.now.node) (sym c.self.view_is) ∙ sym c.node.ensures ∙ ap (option_map (λ n. n.now)) c.unwrap-node.ensures)
     (ap (λ v. layout_of v.space) c.self.view_is) c.in-Ok.ensures.place c.in-Ok.ensures.suffice
 
@@ -18,4 +18,4 @@ pub unreachable-requires : goal.unreachable-requires
 unreachable-requires c =
     not_outside c.args.self.now c.args.f.now c.unwrap-node.result.now c.requires.agree c.requires.named
     (ap (λ v. get (nodes_of v.tree) c.args.f.now.node) (sym c.self.view_is) ∙ sym c.node.ensures ∙ ap (option_map (λ n. n.now)) c.unwrap-node.ensures)
-    (layout_of c.self.inside.places) (ap (λ v. layout_of v.space) c.self.view_is) (c.place_of.ensures.outside (subst (λ r. IsErrOf r PlaceError.Outside) (sym (c.in-Err-Outside.is ∙ ap Err c.in-Err-Outside.field-0-is)) refl))
+    (layout_of c.self.inside.holdings.places) (ap (λ v. layout_of v.space) c.self.view_is) (c.place_of.ensures.outside (subst (λ r. IsErrOf r PlaceError.Outside) (sym (c.in-Err-Outside.is ∙ ap Err c.in-Err-Outside.field-0-is)) refl))

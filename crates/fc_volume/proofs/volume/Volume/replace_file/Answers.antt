@@ -15,10 +15,11 @@ use Rattle.fc_space.specs.Space.{layout_of}
 use Rattle.fc_tree.specs.Nodes.{Numbers, nodes_of}
 use Rattle.fc_volume.specs.declared.changes.making.Making.{Making}
 use Rattle.fc_volume.specs.declared.changes.replacing.Replacement.{Replacement}
-use Rattle.fc_volume.specs.declared.copies.Copies.{Copies}
+use Rattle.fc_writing.specs.declared.copies.Copies.{Copies}
 use Rattle.fc_volume.specs.Changing.{refusal_in}
 use Rattle.fc_volume.specs.Saving.{filled}
-use Rattle.fc_volume.specs.Volume.{HasCopies, HoldsMap, StandsFor, Volume, parts_of}
+use Rattle.fc_holdings.specs.Holdings.{HoldsMap}
+use Rattle.fc_volume.specs.Volume.{HasCopies, StandsFor, Volume, parts_of}
 use Rattle.fc_volume.proofs.CdirAskedLemmas.{kept_as_it_was, no_memory, space_answer, unless_any}
 use Rattle.fc_volume.proofs.ChangeLemmas.{ok_both, ok_then, only_faults, places_written, unless_fault, writes_nothing}
 use Rattle.fc_volume.proofs.FilledLemmas.{file_done, length-filled}

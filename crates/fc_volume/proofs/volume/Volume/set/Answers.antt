@@ -6,8 +6,9 @@ use Rattle.fc_image.specs.Layout.{dir_form}
 use Rattle.fc_image.specs.Stays.{IsNewLayout}
 use Rattle.fc_model.specs.Command.{Command}
 use Rattle.fc_tree.specs.Nodes.{HoldObjects, nodes_of}
-use Rattle.fc_volume.specs.declared.lines.CommandError.TheVariants.{Refused}
-use Rattle.fc_volume.specs.Changing.{AnswersBy, refusal_in}
+use Rattle.fc_holdings.specs.declared.error.CommandError.TheVariants.{Refused}
+use Rattle.fc_holdings.specs.Answers.{AnswersBy}
+use Rattle.fc_volume.specs.Changing.{refusal_in}
 use Rattle.fc_volume.specs.Volume.{Volume, parts_of}
 use Rattle.fc_volume.proofs.StandsLemmas.{new_layout}
 use Rattle.fc_volume.proofs.ChangeLemmas.{ok_both, ok_then, only_faults, places_written, unless_fault, writes_nothing}

@@ -3,6 +3,8 @@ use Rattle.std.specs.Prelude.{◌≡◌, ◌≤◌, ◌+◌, ◌*◌, ℕ, List}
 use Rattle.std.specs.Option.{ForSome}
 use Rattle.fc_device.specs.declared.disk.Disk.{Ghosts}
 use Rattle.fc_record.specs.declared.Kind.{Kind}
+use Rattle.fc_oldmap.specs.Holes.{AreHoles}
+use Rattle.fc_oldmap.specs.OldMap.{map_units}
 use Rattle.fc_image.specs.Layout.{Layout, disc_sectors, sector_bytes}
 use Rattle.fc_space.specs.Space.{layout_of}
 use Rattle.fc_tree.specs.Agree.{Agree}
@@ -12,8 +14,7 @@ use Rattle.fc_tree.specs.Stands.{StandsForImage}
 use Rattle.fc_writing.specs.declared.copies.Copies.{Copies}
 use Rattle.fc_writing.specs.declared.copies.Copies.TheVariants.{Equal}
 use Rattle.fc_writing.specs.Copies.{HasCopies}
-use Rattle.fc_change.specs.OldSpace.{LieBehind}
-use Rattle.fc_course.specs.declared.holdings.Holdings.{Holdings}
+use Rattle.fc_holdings.specs.declared.holdings.Holdings.{Holdings}
 
 abbrev pub parts_of : Holdings → Parts
 parts_of h = record { layout = layout_of h.places; nodes = nodes_of h.tree; owners = h.owners }
@@ -26,7 +27,7 @@ CopiesAre copies (Layout.Old space) image = copies ≡ Equal
 -- The map lies within so many sectors. The holes of an old map lie after it.
 abbrev pub HoldsMap : Layout → ℕ → Type 0
 HoldsMap (Layout.New m) sectors = m.geometry.map_sector + 2 * m.geometry.zones ≤ sectors
-HoldsMap (Layout.Old space) sectors = (2 ≤ sectors) × LieBehind space
+HoldsMap (Layout.Old space) sectors = (2 ≤ sectors) × AreHoles space.disc_units space.sector_units (map_units space.sector_units) space.holes
 
 -- The holdings stand for the disk: the disk has the disc's sectors, as many as the disc and its map take at least; the parts agree with
 -- each other; and if the disk tells its bytes, these are the parts of its image, and its copies are as they are known to be.
