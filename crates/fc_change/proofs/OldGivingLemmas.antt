@@ -17,8 +17,8 @@ use Rattle.fc_tree.specs.declared.node.Node.{Node}
 use Rattle.fc_writing.specs.declared.ready.MapStep.{MapStep}
 use Rattle.fc_change.specs.declared.job.Wants.{Wants}
 use Rattle.fc_change.specs.declared.placing.old.Taken.{Taken}
-use Rattle.fc_change.specs.OldSpace.{CanFreeFrom, IsMapNow, map_after, map_given, map_taken, space_at, units_of}
-use Rattle.fc_change.specs.Places.{ArePlacedOld, IsOldStep, IsTakenFor}
+use Rattle.fc_change.specs.OldSpace.{CanFreeFrom, IsMapNow, map_after, map_given, map_taken, space_at, units_given, units_of}
+use Rattle.fc_change.specs.Places.{ArePlacedOld, IsStepTo, IsTakenFor}
 use Rattle.fc_change.proofs.OldTakingLemmas.{after_is}
 
 pub is_there : {X Y : Type 0} (f : X → Y) (o : Option X) (y : Y) → option_map f o ≡ Some y → IsSome o
@@ -60,13 +60,14 @@ never_full space h w t given is taken now =
 
 -- Both steps are those of the wants.
 pub placed_old : (space : OldMapContent) (h : Parts) (w : Wants) (t : Taken) (given : Option OldMapContent) (take give : MapStep) → IsTakenFor space w t
-    → IsMapNow (map_after space t.map) (map_given space h.nodes w.goes (map_after space t.map)) given
-    → ((was now : OldMapContent) → IsMapNow was now t.map → IsOldStep was now take) → ((was now : OldMapContent) → IsMapNow was now given → IsOldStep was now give)
-    → ArePlacedOld space h w (record { object = t.place; copied = None; grown = None; take = take; give = give })
-placed_old space h w t given take give taken now first last = record {
+    → IsMapNow (map_after space t.map) (map_given space h.nodes w.goes (map_after space t.map)) given → (units_given space h.nodes w.goes ≡ 0 → given ≡ None)
+    → IsStepTo t.map take → IsStepTo given give → ArePlacedOld space h w (record { object = t.place; copied = None; grown = None; take = take; give = give })
+placed_old space h w t given take give taken now none first last = record {
   object = taken.place;
   copied = refl;
   grown = refl;
-  take = first space (map_taken space w.bytes) taken.map;
-  give = last (map_taken space w.bytes) (map_given space h.nodes w.goes (map_taken space w.bytes)) (given_from space h.nodes w t given taken now);
+  take = first.leads space (map_taken space w.bytes) taken.map;
+  give = last.leads (map_taken space w.bytes) (map_given space h.nodes w.goes (map_taken space w.bytes)) (given_from space h.nodes w t given taken now);
+  takes_none = λ empty. first.none (taken.none empty);
+  gives_none = λ stays. last.none (none stays);
 }

@@ -134,6 +134,7 @@ pub nothing_taken : (space : OldMapContent) (w : Wants) (o : Option Place) → I
 nothing_taken space w o is empty without = record {
   place = placed_without space w o empty without;
   map = none_taken space w.bytes is empty;
+  none = λ e. refl;
   behind = λ now e. absurd (cc);
 }
 
@@ -161,6 +162,7 @@ is_taken space w p now is behind spaces some answer place now_is =
         wanted = ap (λ (b : Bool). b && is_none w.shares) (ne_eqb w.bytes 0 (λ none. omega (arith, none, some)));
       };
       map = (now_is ∙ same, subst (λ (m : OldMapContent). length m.holes ≤ hole_limit) same (omega (arith, long, few)));
+      none = λ e. absurd (omega (arith, some, e));
       behind = λ other e. subst LieBehind (sym now_is ∙ same_some now other e) (left_behind space w.bytes is behind);
     }
 

@@ -38,6 +38,11 @@ abbrev pub map_given : OldMapContent → Nodes → Option ℕ → OldMapContent 
 map_given space nodes None now = now
 map_given space nodes (Some n) now = option_map_or (λ (node : Node). with_space_of node.entry now) (get nodes n) now
 
+-- the units that the object of a node takes, if one goes
+abbrev pub units_given : OldMapContent → Nodes → Option ℕ → ℕ
+units_given space nodes None = 0
+units_given space nodes (Some n) = option_map_or (λ (node : Node). units_of space node.entry) (get nodes n) 0
+
 -- the map after a step, if there is one
 abbrev pub map_after : OldMapContent → Option OldMapContent → OldMapContent
 map_after space None = space

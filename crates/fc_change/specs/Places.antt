@@ -28,7 +28,7 @@ use Rattle.fc_writing.specs.declared.ready.MapStep.{MapStep}
 use Rattle.fc_writing.specs.declared.ready.MapStep.TheVariants as steps
 use Rattle.fc_change.specs.declared.spaces.Place.{Place}
 use Rattle.fc_change.specs.declared.spaces.Spaces.{Spaces}
-use Rattle.fc_change.specs.OldSpace.{CanFree, IsMapNow, LieBehind, map_given, map_taken}
+use Rattle.fc_change.specs.OldSpace.{CanFree, IsMapNow, LieBehind, map_given, map_taken, units_given}
 use Rattle.fc_change.specs.declared.placing.old.Taken.{Taken}
 use Rattle.fc_change.specs.GrownSpace.{IsGrown, freed, gone_at_once, kept_parts, place_of_plan, plans_of, root_of}
 use Rattle.fc_change.specs.Prepared.{HasPlace}
@@ -130,6 +130,11 @@ IsOldStep was now (steps.Old space) = IsMapNow was now (Some space)
 IsOldStep was now (steps.New s) = ⊥
 IsOldStep was now steps.Nothing = IsMapNow was now None
 
+-- The step is that to this map, if there is one, and nothing is done else.
+pub record IsStepTo (map : Option OldMapContent) (step : MapStep) : Type 0 where
+  pub leads : (was now : OldMapContent) → IsMapNow was now map → IsOldStep was now step
+  pub none : map ≡ None → step ≡ steps.Nothing
+
 -- some bytes at the front of the first hole that is long enough for them, and none at address 0
 pub record IsOldAt (space : OldMapContent) (w : Wants) (p : Place) : Type 0 where
   pub address : ((0 < w.bytes) × (first_fit_place (old_need space w.bytes) space.holes ≡ Some p.address)) ⊎ ((w.bytes ≡ 0) × (p.address ≡ 0))
@@ -147,18 +152,22 @@ abbrev pub IsPlaceWithout : Wants → Option Place → Type 0
 IsPlaceWithout w (Some p) = (p.address ≡ 0) × (sectors_in p.extents.items ≡ []) × IsFalse (is_none w.shares)
 IsPlaceWithout w None = w.shares ≡ None
 
--- The object's place, and the map without its space.
+-- The object's place, and the map without its space; no bytes take none.
 pub record IsTakenFor (space : OldMapContent) (w : Wants) (t : Taken) : Type 0 where
   pub place : IsOldPlaced space w t.place
   pub map : IsMapNow space (map_taken space w.bytes) t.map
+  pub none : w.bytes ≡ 0 → t.map ≡ None
   pub behind : (now : OldMapContent) → t.map ≡ Some now → LieBehind now
 
+-- Where there is nothing to take, or nothing with space goes, nothing is done to the map.
 pub record ArePlacedOld (space : OldMapContent) (h : Parts) (w : Wants) (s : Spaces) : Type 0 where
   pub object : IsOldPlaced space w s.object
   pub copied : s.copied ≡ None
   pub grown : s.grown ≡ None
   pub take : IsOldStep space (map_taken space w.bytes) s.take
   pub give : IsOldStep (map_taken space w.bytes) (map_given space h.nodes w.goes (map_taken space w.bytes)) s.give
+  pub takes_none : w.bytes ≡ 0 → s.take ≡ steps.Nothing
+  pub gives_none : units_given space h.nodes w.goes ≡ 0 → s.give ≡ steps.Nothing
 
 -- ---- on either
 

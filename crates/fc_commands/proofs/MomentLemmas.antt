@@ -1,4 +1,4 @@
--- `set` and `mark` leave a new map as it is, at any moment.
+-- `set` and `mark` leave the map as it is, at any moment.
 use Rattle.std.proofs.Common.{⊎_elim, ℕ, List}
 use Rattle.fc_names.specs.Names.{Path}
 use Rattle.fc_device.specs.declared.disk.Disk.{Ghosts}
@@ -7,23 +7,18 @@ use Rattle.fc_device.proofs.DiskLaws.{Laws}
 use Rattle.fc_device.proofs.StopLemmas.{keeps_weaker}
 use Rattle.fc_record.specs.declared.Kind.{Kind}
 use Rattle.fc_model.specs.Command.{Command}
-use Rattle.fc_image.specs.Layout.{Layout}
 use Rattle.fc_tree.specs.Agree.{Agree}
 use Rattle.fc_tree.specs.Parts.{Parts}
-use Rattle.fc_course.specs.Promises.{SameCopies, SameMap}
+use Rattle.fc_course.specs.Promises.{SameMap}
 use Rattle.fc_course.proofs.StillLemmas.{mark_still, set_still}
 use Rattle.fc_commands.specs.Judgments.{CommandLeaves}
 
-before_copies : (layout : Layout) (was image : List ℕ) → SameMap layout was image → SameCopies layout was image
-before_copies (Layout.New m) was image same = same
-before_copies (Layout.Old space) was image same = tt
-
 module _ {D : Type 0} (d : Ghosts D) (law : Laws d) (old new : D) (h : Parts) (kind : Kind) (a : Agree kind h) (path : Path) where
-  pub set_keeps : (load exec access : ℕ) → StopsAndExitsLeave d old new (CommandLeaves (Command.Set path load exec access) h) → StopsAndExitsLeave d old new (SameCopies h.layout)
+  pub set_keeps : (load exec access : ℕ) → StopsAndExitsLeave d old new (CommandLeaves (Command.Set path load exec access) h) → StopsAndExitsLeave d old new (SameMap h.layout)
   set_keeps load exec access keeps =
       keeps_weaker law keeps
-      (λ first image left. ⊎_elim (λ before. before_copies h.layout first image before.map) (λ way. set_still h kind a way.job way.name way.bytes first image way.moment path load exec access way.of_command) left)
+      (λ first image left. ⊎_elim (λ before. before.map) (λ way. set_still h kind a way.job way.name way.bytes first image way.moment path load exec access way.of_command) left)
 
-  pub mark_keeps : (attrs : ℕ) → StopsAndExitsLeave d old new (CommandLeaves (Command.Mark path attrs) h) → StopsAndExitsLeave d old new (SameCopies h.layout)
+  pub mark_keeps : (attrs : ℕ) → StopsAndExitsLeave d old new (CommandLeaves (Command.Mark path attrs) h) → StopsAndExitsLeave d old new (SameMap h.layout)
   mark_keeps attrs keeps =
-      keeps_weaker law keeps (λ first image left. ⊎_elim (λ before. before_copies h.layout first image before.map) (λ way. mark_still h kind a way.job way.name way.bytes first image way.moment path attrs way.of_command) left)
+      keeps_weaker law keeps (λ first image left. ⊎_elim (λ before. before.map) (λ way. mark_still h kind a way.job way.name way.bytes first image way.moment path attrs way.of_command) left)

@@ -1,8 +1,9 @@
--- `set` and `mark` leave a new map as it is, at any moment.
-use Rattle.std.proofs.Common.{◌≡◌, ℕ, List, [], ◌++◌, refl, subst, Option, None}
+-- `set` and `mark` leave the map as it is, at any moment.
+use Rattle.std.proofs.Common.{◌≡◌, ℕ, List, [], ◌++◌, ap, refl, subst, Option, None}
 use Rattle.fc_names.specs.Names.{Path}
 use Rattle.fc_record.specs.declared.Kind.{Kind}
 use Rattle.fc_newmap.specs.Map.{Map}
+use Rattle.fc_oldmap.specs.OldMap.{OldMapContent}
 use Rattle.fc_model.specs.Command.{Command}
 use Rattle.fc_image.specs.Layout.{Layout}
 use Rattle.fc_image.specs.Walk.{Listing}
@@ -22,11 +23,12 @@ use Rattle.fc_change.specs.declared.spaces.Spaces.{Spaces}
 use Rattle.fc_change.specs.GrownSpace.{freed}
 use Rattle.fc_change.specs.Jobs.{IsJob}
 use Rattle.fc_change.specs.Needs.{AreWants}
-use Rattle.fc_change.specs.Places.{AreLeft, ArePlaced, ArePlacesOn, plan_in}
+use Rattle.fc_change.specs.OldSpace.{units_given}
+use Rattle.fc_change.specs.Places.{AreLeft, ArePlacesFor, ArePlacesOn, plan_in}
 use Rattle.fc_change.specs.Shortage.{is_grown_alone}
 use Rattle.fc_change.specs.Steps.{IsStep}
 use Rattle.fc_course.specs.Jobs.{IsJobFor}
-use Rattle.fc_course.specs.Promises.{IsUnderWay, SameCopies, StepsMap}
+use Rattle.fc_course.specs.Promises.{IsUnderWay, SameMap, StepsMap}
 use Rattle.fc_course.proofs.EmptySpaceLemmas.{none_planned, placed_nowhere, takes_none}
 use Rattle.fc_course.proofs.RemovalStageLemmas.{view_of}
 use Rattle.fc_course.proofs.RewordingLemmas.{Wording, job_of}
@@ -65,8 +67,8 @@ no_step m (steps.New s) is = absurd (is.some (record { plans_are = refl; gone_ar
 no_step m (steps.Old space) is = absurd is
 no_step m steps.Nothing is = refl
 
-makes_none : (h : Parts) (m : Map) (t : Target) (x : Wording) (name : List ℕ) (w : Wants) (s : Spaces) → AreWants h (job_of t x) name w → ArePlaced m h w s → MakesNone s
-makes_none h m t x name w s wants p =
+makes_none : (h : Parts) (layout : Layout) (t : Target) (x : Wording) (name : List ℕ) (w : Wants) (s : Spaces) → AreWants h (job_of t x) name w → ArePlacesOn layout h w s → MakesNone s
+makes_none h (Layout.New m) t x name w s wants p =
     let none = wants_none h t x name w wants in
     let nowhere = placed_nowhere h w none.0 m h.owners p.placing p.is in
     let planned = none_planned h w none.0 m (plan_in p.placing) p.dir s.grown p.grown in
@@ -75,24 +77,34 @@ makes_none h m t x name w s wants p =
       no_step m s.take (takes_none m (is_grown_alone h w.grows) p.placing p.dir s.grown s.take nowhere planned.0 planned.1 p.take),
       no_step m s.give (subst (λ (gone : List ℕ). IsStep m [] gone [] None s.give) left gives),
     )
+makes_none h (Layout.Old space) t x name w s wants p =
+    let none = wants_none h t x name w wants in (p.takes_none none.0.bytes, p.gives_none (ap (units_given space h.nodes) none.1))
 
 -- ---- the map
 
-still_on : (h : Parts) (layout : Layout) (t : Target) (x : Wording) (name : List ℕ) (w : Wants) (s : Spaces) (was image : List ℕ) → AreWants h (job_of t x) name w → ArePlacesOn layout h w s
-    → StepsMap layout s.take s.give was image → SameCopies layout was image
-still_on h (Layout.New m) t x name w s was image wants places map = let none = makes_none h m t x name w s wants places in map.still none.0 none.1
-still_on h (Layout.Old space) t x name w s was image wants places map = tt
+still : (layout : Layout) (take give : MapStep) (was image : List ℕ) → take ≡ steps.Nothing → give ≡ steps.Nothing → StepsMap layout take give was image → SameMap layout was image
+still (Layout.New m) take give was image no_take no_give map = map.still no_take no_give
+still (Layout.Old space) take give was image no_take no_give map = map.still no_take no_give
 
-job_still : (h : Parts) (job : Job) (name was image : List ℕ) → IsWording job → IsUnderWay h job name was image → SameCopies h.layout was image
+-- A job on an old map that wants no bytes, and by which nothing with space goes.
+pub old_still : (h : Parts) (space : OldMapContent) → h.layout ≡ Layout.Old space → (job : Job) (name was image : List ℕ) (way : IsUnderWay h job name was image) → way.wants.bytes ≡ 0
+    → units_given space h.nodes way.wants.goes ≡ 0 → SameMap h.layout was image
+old_still h space at job name was image way none stays =
+    let placed = subst (λ (l : Layout). ArePlacesOn l h way.wants way.spaces) at way.spaced.places in
+    still h.layout way.spaces.take way.spaces.give was image (placed.takes_none none) (placed.gives_none stays) way.map
+
+job_still : (h : Parts) (job : Job) (name was image : List ℕ) → IsWording job → IsUnderWay h job name was image → SameMap h.layout was image
 job_still h job name was image wording way =
-    still_on h h.layout wording.0 wording.1 name way.wants way.spaces was image (subst (λ (j : Job). AreWants h j name way.wants) wording.2 way.spaced.wants) way.spaced.places way.map
+    let wants = subst (λ (j : Job). AreWants h j name way.wants) wording.2 way.spaced.wants in
+    let none = makes_none h h.layout wording.0 wording.1 name way.wants way.spaces wants way.spaced.places in
+    still h.layout way.spaces.take way.spaces.give was image none.0 none.1 way.map
 
 module _ (h : Parts) (kind : Kind) (a : Agree kind h) (job : Job) (name bytes was image : List ℕ) (way : IsUnderWay h job name was image) where
-  pub set_still : (path : Path) (load exec access : ℕ) → IsJobFor (Command.Set path load exec access) h job name bytes → SameCopies h.layout was image
+  pub set_still : (path : Path) (load exec access : ℕ) → IsJobFor (Command.Set path load exec access) h job name bytes → SameMap h.layout was image
   set_still path load exec access j =
       job_still h job name was image
       (set_job h.nodes a.listings path load exec access job name (j.is (view_of h kind a) (agreed_law.sound_by kind h a) (agreed_law.viewed kind h a))) way
 
-  pub mark_still : (path : Path) (attrs : ℕ) → IsJobFor (Command.Mark path attrs) h job name bytes → SameCopies h.layout was image
+  pub mark_still : (path : Path) (attrs : ℕ) → IsJobFor (Command.Mark path attrs) h job name bytes → SameMap h.layout was image
   mark_still path attrs j =
       job_still h job name was image (mark_job h.nodes a.listings path attrs job name (j.is (view_of h kind a) (agreed_law.sound_by kind h a) (agreed_law.viewed kind h a))) way

@@ -82,11 +82,6 @@ abbrev pub SameMap : Layout → List ℕ → List ℕ → Type 0
 SameMap (Layout.New m) was image = Chooses m.geometry m.zones image
 SameMap (Layout.Old space) was image = front_in space image ≡ front_in space was
 
--- The same, of a new map alone.
-abbrev pub SameCopies : Layout → List ℕ → List ℕ → Type 0
-SameCopies (Layout.New m) was image = SameMap (Layout.New m) was image
-SameCopies (Layout.Old space) was image = Unit {0}
-
 -- n is the map before these two steps, after the first, or after both.
 abbrev pub IsInSteps : Map → (take give : MapStep) → Map → Type 0
 IsInSteps m take give n = (n ≡ m) ⊎ (HasStepped m n take ⊎ ((mid : Map) × HasStepped m mid take × HasStepped mid n give))

@@ -1,5 +1,5 @@
 // Places on old maps. A volume's map is never edited: a copy of it is.
-ghost use Rattle.std.specs.Prelude.{◌≡◌, ◌<◌, ℕ, Some, Ok, Err, length, IfErr, IfOk, IsErr};
+ghost use Rattle.std.specs.Prelude.{◌≡◌, ◌<◌, ℕ, Some, None, Ok, Err, length, IfErr, IfOk, IsErr};
 ghost use Rattle.fc_image.specs.Layout.{Layout};
 ghost use Rattle.fc_image.specs.effects.Short.{old_need};
 ghost use Rattle.fc_oldchanges.specs.Owed.{holding};
@@ -8,8 +8,8 @@ ghost use Rattle.fc_oldmap.specs.Holes.{after_take, hole_limit, take_answer};
 ghost use Rattle.fc_oldmap.specs.OldMap.{OldMapContent};
 ghost use Rattle.fc_space.specs.Space.{layout_of};
 ghost use Rattle.fc_change.specs.Held.{parts_of};
-ghost use Rattle.fc_change.specs.OldSpace.{CanFreeFrom, IsMapNow, IsSameDisc, LieBehind, map_after, map_given, space_at, units_of, with_space_of};
-ghost use Rattle.fc_change.specs.Places.{ArePlacedOld, CanPlace, IsOldStep, IsPlaceWithout, IsTakenFor};
+ghost use Rattle.fc_change.specs.OldSpace.{CanFreeFrom, IsMapNow, IsSameDisc, LieBehind, map_after, map_given, space_at, units_given, units_of, with_space_of};
+ghost use Rattle.fc_change.specs.Places.{ArePlacedOld, CanPlace, IsPlaceWithout, IsStepTo, IsTakenFor};
 ghost use Rattle.fc_change.specs.Refused.{refused_take};
 ghost use Rattle.fc_change.specs.Shortage.{AnswersSpace, short_old, short_take};
 
@@ -52,7 +52,7 @@ pub fn units_for(map: &OldMap, bytes: u64) -> u64
 
 // A step to another map, if it is another.
 fn step_to(map: Option<OldMap>) -> MapStep
-    ensures { (was now : OldMapContent) → IsMapNow was now map → IsOldStep was now result }
+    ensures { IsStepTo map result }
 {
     match map {
         Some(now) => MapStep::Old(now),
@@ -68,6 +68,7 @@ fn map_without(map: &OldMap, space: &Space, e: &Entry) -> Result<Option<OldMap>,
     requires disc { IsSameDisc (layout_of space.now) map.now }
     requires free { 0 < units_of map.now e.now → CanGive map.now map.now.holes (space_at map.now e.now) }
     ensures now { IfOk result (λ now. IsMapNow map.now (with_space_of e.now map.now) now) }
+    ensures none { IfOk result (λ now. units_of map.now e.now ≡ 0 → now ≡ None) }
     ensures full { IsErr result → hole_limit < length (with_space_of e.now map.now).holes }
 {
     let units = units_for(map, object_bytes(space, e));
@@ -94,6 +95,7 @@ fn give_back(
     requires behind { LieBehind map.now }
     requires free { (n : ℕ) → goes ≡ Some n → CanFreeFrom map.now (map_after map.now taken.now) (parts_of held.now).nodes n }
     ensures now { IfOk result (λ now. IsMapNow (map_after map.now taken.now) (map_given map.now (parts_of held.now).nodes goes (map_after map.now taken.now)) now) }
+    ensures none { IfOk result (λ now. units_given map.now (parts_of held.now).nodes goes ≡ 0 → now ≡ None) }
     ensures full { IsErr result → hole_limit < length (map_given map.now (parts_of held.now).nodes goes (map_after map.now taken.now)).holes }
 {
     let Some(n) = goes else {
