@@ -1,5 +1,5 @@
 -- What follows from a judgment.
-use Rattle.std.proofs.Common.{◌≡◌, ◌⊎◌, inl, inr, ⊎_elim, ℕ, Bool, false, List, refl, sym, ap, subst, ◌∙◌, arith, Option, Some, None}
+use Rattle.std.proofs.Common.{◌≡◌, ◌<◌, ◌^◌, ◌⊎◌, inl, inr, ⊎_elim, ℕ, Bool, false, List, refl, sym, ap, subst, ◌∙◌, arith, Option, Some, None}
 use Rattle.std.specs.Prelude.{Err, IsFalse, Ok, OnOk, Result}
 use Rattle.fc_device.specs.declared.disk.Disk.{Ghosts}
 use Rattle.fc_device.specs.Calls.{StopsAndExitsLeave}
@@ -18,20 +18,24 @@ use Rattle.fc_image.specs.Walk.{Listing}
 use Rattle.fc_image.specs.effects.Short.{short}
 use Rattle.fc_tree.specs.Parts.{ArePartsOf, Parts}
 use Rattle.fc_change.specs.Jobs.{IsJob}
+use Rattle.fc_change.specs.declared.job.FileWords.{FileWords}
 use Rattle.fc_change.specs.declared.job.Job.{Job}
+use Rattle.fc_change.specs.declared.job.Job.TheVariants as jobs
+use Rattle.fc_refusals.specs.declared.target.Slot.{Slot}
 use Rattle.fc_holdings.specs.declared.error.CommandError.{CommandError}
 use Rattle.fc_holdings.specs.declared.error.CommandError.TheVariants.{Refused, NoMemory, DiskFault}
 use Rattle.fc_holdings.specs.declared.holdings.Holdings.{Holdings}
-use Rattle.fc_course.specs.Answers.{AnswersShort}
 use Rattle.fc_holdings.specs.Answers.{AnswersBy}
+use Rattle.fc_course.specs.Answers.{AnswersShort}
 use Rattle.fc_holdings.specs.Holdings.{Stands, parts_of}
-use Rattle.fc_course.specs.Jobs.{HasBytes, IsJobFor}
+use Rattle.fc_course.specs.Jobs.{HasBytes, HasLaws, IsJobFor}
 use Rattle.fc_course.specs.Promises.{ChangeKeeps, IsAsBefore, JobLeaves}
 use Rattle.fc_course.proofs.AnswerLemmas.{no_memory, refused_by}
 use Rattle.fc_course.proofs.KeepLemmas.{kept_same}
 use Rattle.fc_course.proofs.MomentLemmas.{nothing_left}
 use Rattle.fc_commands.specs.declared.judged.Judged.{Judged}
 use Rattle.fc_commands.specs.Answers.{AnswersOver, refusal_in}
+use Rattle.fc_commands.specs.Growth.{GrowsNone}
 use Rattle.fc_commands.specs.Judgments.{CommandLeaves, IsJudgment, IsRefusalOf, RefusesBy}
 use Rattle.fc_commands.proofs.ReasonLemmas.{first_last, first_some, rights}
 
@@ -98,3 +102,8 @@ module _ {D : Type 0} (d : Ghosts D) (law : Laws d) (c : Command) where
 pub ok_then : {T E : Type 0} {A B : Type 0} (r : Result T E) → (A → B) → OnOk r A → OnOk r B
 ok_then (Ok value) f a = f a
 ok_then (Err e) f a = a
+
+-- The laws of a file's job stand if no directory grows for it.
+pub file_covered : (c : Command) (h : Parts) (slot : Slot) (words : FileWords) (name bytes : List ℕ) → words.len < 2 ^ 32 → IsJobFor c h (jobs.File slot words) name bytes → GrowsNone c h → HasLaws h (jobs.File slot words) name
+file_covered c h (Slot.New dir) words name bytes few is grows = (few, grows (jobs.File (Slot.New dir) words) name bytes is)
+file_covered c h (Slot.Over target) words name bytes few is grows = few

@@ -2,3 +2,4 @@ pub mod ReasonLemmas
 pub mod NameLemmas
 pub mod JudgmentLemmas
 pub mod MomentLemmas
+pub mod GrowthLemmas

@@ -6,11 +6,11 @@ mod commands;
 mod judged;
 mod name;
 
-pub use commands::cdir::cdir_job;
+pub use commands::cdir::{cdir, cdir_job};
 pub use commands::delete::{delete, delete_job};
 pub use commands::mark::{can_mark, mark, mark_job};
-pub use commands::rename::rename_job;
-pub use commands::save::file_job;
+pub use commands::rename::{rename, rename_job};
+pub use commands::save::{create, file_job, save};
 pub use commands::set::{set, set_job};
 pub use fc_course::{CommandError, Holdings};
 pub use judged::Judged;

@@ -1,13 +1,19 @@
 // `cdir`: an empty directory.
-ghost use Rattle.std.specs.Prelude.{[]};
+ghost use Rattle.std.specs.Prelude.{[], IfOk, IsFalse, IsTrue, OnOk};
+ghost use Rattle.fc_device.specs.Calls.{StopsAndExitsLeave};
 ghost use Rattle.fc_model.specs.Command.{Command};
-ghost use Rattle.fc_holdings.specs.Holdings.{parts_of};
-ghost use Rattle.fc_commands.specs.Judgments.{IsJudgment};
+ghost use Rattle.fc_holdings.specs.Holdings.{Stands, parts_of};
+ghost use Rattle.fc_course.specs.Jobs.{HasLaws};
+ghost use Rattle.fc_course.specs.Promises.{ChangeKeeps, HasChanged, WritesPlacesOf};
+ghost use Rattle.fc_commands.specs.Answers.{AnswersOver};
+ghost use Rattle.fc_commands.specs.Growth.{GrowsNone};
+ghost use Rattle.fc_commands.specs.Judgments.{CommandLeaves, IsJudgment};
 
-use crate::judged::Judged;
+use crate::judged::{Judged, carry_out};
 use crate::name::last_name;
 use fc_change::Job;
 use fc_course::{CommandError, Holdings};
+use fc_device::Disk;
 use fc_names::Path;
 use fc_refusals::judge_cdir;
 use std::alloc::Global;
@@ -20,7 +26,8 @@ pub fn cdir_job(
     read_only: bool,
     path: &Path,
 ) -> Result<Judged, CommandError>
-    ensures { IsJudgment read_only (Command.Cdir path.now) (parts_of holdings.now) [] result }
+    ensures judged { IsJudgment read_only (Command.Cdir path.now) (parts_of holdings.now) [] result }
+    ensures covered { GrowsNone (Command.Cdir path.now) (parts_of holdings.now) → IfOk result (λ judged. HasLaws (parts_of holdings.now) judged.job judged.name) }
 {
     let dir = judge_cdir(&holdings.tree, holdings.places.dir_form(), read_only, path)?;
     let name = last_name(alloc, path)?;
@@ -28,4 +35,31 @@ pub fn cdir_job(
         job: Job::Directory(dir),
         name,
     })
+}
+
+/// Makes an empty directory. Copies of a new map that may differ are made equal first; then the new directory is written into free space,
+/// the map with its space, and the directory that holds it. So a crash between two of these writes leaves lost space at worst. One
+/// inside the holder's may tear it, and then the disc isn't accepted.
+///
+/// Refused with the first reason that applies, and then nothing has changed; `NoMemory` leaves all as it was, too. `DiskFault` only if
+/// the disk's count of faults rose; the holdings stand for nothing afterwards.
+pub fn cdir<D: Disk>(
+    alloc: Global,
+    disk: &mut D,
+    holdings: &mut Holdings,
+    read_only: bool,
+    path: &Path,
+) -> Result<(), CommandError>
+    requires attached { IsTrue (D.attached disk.old) }
+    requires settled { IsFalse (D.pending disk.old) }
+    requires stands { Stands D.Disk holdings.old disk.old }
+    requires grows { GrowsNone (Command.Cdir path.now) (parts_of holdings.old) }
+    ensures refused { AnswersOver read_only (Command.Cdir path.now) (parts_of holdings.old) result }
+    ensures changed { OnOk result (HasChanged D.Disk (Command.Cdir path.now) (parts_of holdings.old) (parts_of holdings.new) disk.old disk.new) }
+    ensures places { StopsAndExitsLeave D.Disk disk.old disk.new (WritesPlacesOf (Command.Cdir path.now) (parts_of holdings.old)) }
+    ensures leaves { StopsAndExitsLeave D.Disk disk.old disk.new (CommandLeaves (Command.Cdir path.now) (parts_of holdings.old)) }
+    ensures keeps { ChangeKeeps D.Disk disk.old disk.new holdings.old holdings.new result }
+{
+    let judged = cdir_job(alloc, holdings, read_only, path);
+    carry_out(alloc, disk, holdings, judged, &[])
 }

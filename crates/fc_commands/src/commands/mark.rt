@@ -6,7 +6,7 @@ ghost use Rattle.fc_model.specs.Command.{Command};
 ghost use Rattle.fc_space.specs.Space.{layout_of};
 ghost use Rattle.fc_holdings.specs.Holdings.{Stands, parts_of};
 ghost use Rattle.fc_course.specs.Jobs.{FitAttributes, HasLaws};
-ghost use Rattle.fc_course.specs.Promises.{ChangeKeeps, HasChanged, SameCopies, WritesPlacesOf};
+ghost use Rattle.fc_course.specs.Promises.{ChangeKeeps, HasChanged, SameMap, WritesPlacesOf};
 ghost use Rattle.fc_commands.specs.Answers.{AnswersOver};
 ghost use Rattle.fc_commands.specs.Judgments.{CommandLeaves, IsJudgment};
 
@@ -71,7 +71,7 @@ pub fn mark<D: Disk>(
     ensures changed { OnOk result (HasChanged D.Disk (Command.Mark path.now attrs) (parts_of holdings.old) (parts_of holdings.new) disk.old disk.new) }
     ensures places { StopsAndExitsLeave D.Disk disk.old disk.new (WritesPlacesOf (Command.Mark path.now attrs) (parts_of holdings.old)) }
     ensures leaves { StopsAndExitsLeave D.Disk disk.old disk.new (CommandLeaves (Command.Mark path.now attrs) (parts_of holdings.old)) }
-    ensures map { StopsAndExitsLeave D.Disk disk.old disk.new (SameCopies (parts_of holdings.old).layout) }
+    ensures map { StopsAndExitsLeave D.Disk disk.old disk.new (SameMap (parts_of holdings.old).layout) }
     ensures keeps { ChangeKeeps D.Disk disk.old disk.new holdings.old holdings.new result }
 {
     let judged = mark_job(alloc, holdings, read_only, path, attrs);

@@ -1,13 +1,19 @@
 // `save` and `create`: a file, new or in the place of another.
-ghost use Rattle.std.specs.Prelude.{◌≡◌, [], List, ℕ, length};
+ghost use Rattle.std.specs.Prelude.{◌≡◌, [], IfOk, IsFalse, IsTrue, List, OnOk, ℕ, length};
+ghost use Rattle.fc_device.specs.Calls.{StopsAndExitsLeave};
 ghost use Rattle.fc_model.specs.Command.{Command};
-ghost use Rattle.fc_holdings.specs.Holdings.{parts_of};
-ghost use Rattle.fc_commands.specs.Judgments.{IsJudgment};
+ghost use Rattle.fc_holdings.specs.Holdings.{Stands, parts_of};
+ghost use Rattle.fc_course.specs.Jobs.{HasLaws};
+ghost use Rattle.fc_course.specs.Promises.{ChangeKeeps, HasChanged, WritesPlacesOf};
+ghost use Rattle.fc_commands.specs.Answers.{AnswersOver};
+ghost use Rattle.fc_commands.specs.Growth.{GrowsNone};
+ghost use Rattle.fc_commands.specs.Judgments.{CommandLeaves, IsJudgment};
 
-use crate::judged::Judged;
+use crate::judged::{Judged, carry_out};
 use crate::name::last_name;
 use fc_change::{FileWords, Job};
 use fc_course::{CommandError, Holdings};
+use fc_device::Disk;
 use fc_names::Path;
 use fc_refusals::judge_save;
 use std::alloc::Global;
@@ -24,6 +30,9 @@ pub fn file_job(
     ensures saved { (bytes : List ℕ) → length bytes ≡ words.len
         → IsJudgment read_only (Command.Save path.now words.load words.exec bytes) (parts_of holdings.now) bytes result }
     ensures created { IsJudgment read_only (Command.Create path.now words.load words.exec words.len) (parts_of holdings.now) [] result }
+    ensures saves { (bytes : List ℕ) → length bytes ≡ words.len → GrowsNone (Command.Save path.now words.load words.exec bytes) (parts_of holdings.now)
+        → IfOk result (λ judged. HasLaws (parts_of holdings.now) judged.job judged.name) }
+    ensures creates { GrowsNone (Command.Create path.now words.load words.exec words.len) (parts_of holdings.now) → IfOk result (λ judged. HasLaws (parts_of holdings.now) judged.job judged.name) }
 {
     let slot = judge_save(&holdings.tree, holdings.places.dir_form(), read_only, path)?;
     let name = last_name(alloc, path)?;
@@ -31,4 +40,58 @@ pub fn file_job(
         job: Job::File(slot, words),
         name,
     })
+}
+
+/// Writes a file of these bytes, as many as the words say, new or in the place of another, which keeps its name and its attributes.
+/// Copies of a new map that may differ are made equal first; then the bytes are written into free space, the map with their space, the
+/// directory, and the map without the space of the file that was there. So a crash between two of these writes leaves lost space at
+/// worst. One inside the directory's may tear it, and then the disc isn't accepted.
+///
+/// Refused with the first reason that applies, and then nothing has changed; `NoMemory` leaves all as it was, too. `DiskFault` only if
+/// the disk's count of faults rose; the holdings stand for nothing afterwards.
+pub fn save<D: Disk>(
+    alloc: Global,
+    disk: &mut D,
+    holdings: &mut Holdings,
+    read_only: bool,
+    path: &Path,
+    words: FileWords,
+    bytes: &[u8],
+) -> Result<(), CommandError>
+    requires attached { IsTrue (D.attached disk.old) }
+    requires settled { IsFalse (D.pending disk.old) }
+    requires stands { Stands D.Disk holdings.old disk.old }
+    requires length { length bytes.now ≡ words.len }
+    requires grows { GrowsNone (Command.Save path.now words.load words.exec bytes.now) (parts_of holdings.old) }
+    ensures refused { AnswersOver read_only (Command.Save path.now words.load words.exec bytes.now) (parts_of holdings.old) result }
+    ensures changed { OnOk result (HasChanged D.Disk (Command.Save path.now words.load words.exec bytes.now) (parts_of holdings.old) (parts_of holdings.new) disk.old disk.new) }
+    ensures places { StopsAndExitsLeave D.Disk disk.old disk.new (WritesPlacesOf (Command.Save path.now words.load words.exec bytes.now) (parts_of holdings.old)) }
+    ensures leaves { StopsAndExitsLeave D.Disk disk.old disk.new (CommandLeaves (Command.Save path.now words.load words.exec bytes.now) (parts_of holdings.old)) }
+    ensures keeps { ChangeKeeps D.Disk disk.old disk.new holdings.old holdings.new result }
+{
+    let judged = file_job(alloc, holdings, read_only, path, words);
+    carry_out(alloc, disk, holdings, judged, bytes)
+}
+
+/// Writes a file of so many zeros as the words say, new or in the place of another, as `save` does. No memory of the file's size is taken.
+pub fn create<D: Disk>(
+    alloc: Global,
+    disk: &mut D,
+    holdings: &mut Holdings,
+    read_only: bool,
+    path: &Path,
+    words: FileWords,
+) -> Result<(), CommandError>
+    requires attached { IsTrue (D.attached disk.old) }
+    requires settled { IsFalse (D.pending disk.old) }
+    requires stands { Stands D.Disk holdings.old disk.old }
+    requires grows { GrowsNone (Command.Create path.now words.load words.exec words.len) (parts_of holdings.old) }
+    ensures refused { AnswersOver read_only (Command.Create path.now words.load words.exec words.len) (parts_of holdings.old) result }
+    ensures changed { OnOk result (HasChanged D.Disk (Command.Create path.now words.load words.exec words.len) (parts_of holdings.old) (parts_of holdings.new) disk.old disk.new) }
+    ensures places { StopsAndExitsLeave D.Disk disk.old disk.new (WritesPlacesOf (Command.Create path.now words.load words.exec words.len) (parts_of holdings.old)) }
+    ensures leaves { StopsAndExitsLeave D.Disk disk.old disk.new (CommandLeaves (Command.Create path.now words.load words.exec words.len) (parts_of holdings.old)) }
+    ensures keeps { ChangeKeeps D.Disk disk.old disk.new holdings.old holdings.new result }
+{
+    let judged = file_job(alloc, holdings, read_only, path, words);
+    carry_out(alloc, disk, holdings, judged, &[])
 }

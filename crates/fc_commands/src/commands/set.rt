@@ -4,7 +4,7 @@ ghost use Rattle.fc_device.specs.Calls.{StopsAndExitsLeave};
 ghost use Rattle.fc_model.specs.Command.{Command};
 ghost use Rattle.fc_holdings.specs.Holdings.{Stands, parts_of};
 ghost use Rattle.fc_course.specs.Jobs.{HasLaws};
-ghost use Rattle.fc_course.specs.Promises.{ChangeKeeps, HasChanged, SameCopies, WritesPlacesOf};
+ghost use Rattle.fc_course.specs.Promises.{ChangeKeeps, HasChanged, SameMap, WritesPlacesOf};
 ghost use Rattle.fc_commands.specs.Answers.{AnswersOver};
 ghost use Rattle.fc_commands.specs.Judgments.{CommandLeaves, IsJudgment};
 
@@ -39,7 +39,7 @@ pub fn set_job(
 
 /// Gives an object other load and exec words, and other access bits (bits 0 to 2 of its attributes; the others stay). Before the
 /// directory that holds it is written, copies of a new map that may differ are made equal; no other sector is written, and at any moment
-/// the copy that counts has the zones of before.
+/// the map is the one before.
 ///
 /// Refused with the first reason that applies, and then nothing has changed; `NoMemory` leaves all as it was, too. `DiskFault` only if
 /// the disk's count of faults rose; the holdings stand for nothing afterwards.
@@ -59,7 +59,7 @@ pub fn set<D: Disk>(
     ensures changed { OnOk result (HasChanged D.Disk (Command.Set path.now words.load words.exec words.access) (parts_of holdings.old) (parts_of holdings.new) disk.old disk.new) }
     ensures places { StopsAndExitsLeave D.Disk disk.old disk.new (WritesPlacesOf (Command.Set path.now words.load words.exec words.access) (parts_of holdings.old)) }
     ensures leaves { StopsAndExitsLeave D.Disk disk.old disk.new (CommandLeaves (Command.Set path.now words.load words.exec words.access) (parts_of holdings.old)) }
-    ensures map { StopsAndExitsLeave D.Disk disk.old disk.new (SameCopies (parts_of holdings.old).layout) }
+    ensures map { StopsAndExitsLeave D.Disk disk.old disk.new (SameMap (parts_of holdings.old).layout) }
     ensures keeps { ChangeKeeps D.Disk disk.old disk.new holdings.old holdings.new result }
 {
     let judged = set_job(alloc, holdings, read_only, path, words);
