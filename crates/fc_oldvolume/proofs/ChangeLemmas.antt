@@ -1,21 +1,14 @@
--- What a volume with an old map promises of a command that changes it, from what it wrote.
-use Rattle.std.proofs.Common.{◌≡◌, ℕ, List, [], refl, sym, subst, ◌∙◌}
-use Rattle.std.specs.Prelude.{Result, Ok, Err, OnOk, IfErr}
+-- Old maps, as layouts, as volumes have them, and as writes leave them.
+use Rattle.std.proofs.Common.{◌≡◌, ◌≤◌, List, [], ℕ, refl, sym, subst, ◌∙◌}
 use Rattle.fc_device.specs.declared.disk.Disk.{Ghosts}
-use Rattle.fc_device.specs.Calls.{StopsAndExitsLeave}
-use Rattle.fc_record.specs.declared.Kind.{Kind}
 use Rattle.fc_oldmap.specs.OldMap.{OldMapContent, IsOldMap}
-use Rattle.fc_model.specs.Command.{Command}
-use Rattle.fc_image.specs.Layout.{Layout, sector_bytes}
-use Rattle.fc_image.specs.Opening.{Opened}
-use Rattle.fc_image.specs.Stays.{OpensAs}
-use Rattle.fc_tree.specs.Parts.{ArePartsOf}
+use Rattle.fc_image.specs.Layout.{Layout}
 use Rattle.fc_oldchanges.specs.Owed.{IsWritten}
-use Rattle.fc_objects.specs.Written.{IsPartWritten}
-use Rattle.fc_oldlaws.specs.takeover.Places.{PlacesLaw}
-use Rattle.fc_oldlaws.specs.takeover.Writes.{WrittenBytesLaw}
-use Rattle.fc_volume.specs.Volume.{Volume, parts_of}
-use Rattle.fc_oldvolume.specs.Changing.{IsOldLayout, WritesOnlyPlaces, WritesPlaces}
+use Rattle.fc_space.specs.Space.{layout_of}
+use Rattle.fc_holdings.specs.Holdings.{HoldsMap}
+use Rattle.fc_volume.specs.Volume.{StandsFor, Volume}
+use Rattle.fc_oldvolume.specs.Changing.{IsOldLayout}
+use Rattle.fc_oldvolume.specs.Spaces.{LieBehind}
 
 pub old_layout : (l : Layout) → IsOldLayout l → (space : OldMapContent) × (l ≡ Layout.Old space)
 old_layout (Layout.New m) is = absurd is
@@ -30,38 +23,20 @@ one_space l a b first second = same a b (sym first ∙ second)
     same : (x y : OldMapContent) → (let p : Layout = Layout.Old x in p) ≡ Layout.Old y → x ≡ y
     same x y e = cc
 
--- nothing was written
-pub writes_nothing : (places : PlacesLaw) (kind : Kind) (view : Opened) (space : OldMapContent) (c : Command) (image : List ℕ) → OpensAs image kind view → view.layout ≡ Layout.Old space → IsOldMap space
-    → WritesPlaces view space c image image
-writes_nothing places kind view space c image opens at is = record {
-  sectors = [];
-  written = record { length_stays = refl; writes = λ s apart out. refl };
-  may = places.none view space c;
-  spared = places.spared kind image view space c [] (record { opens = opens; layout = at; is_map = is }) (places.none view space c);
-}
+-- ---- what is known of a volume with an old map
 
--- after writes whose every exit is known
-pub places_written : {D : Type 0} (d : Ghosts D) (c : Command) (v : Volume) (old new : D) (sectors : List ℕ) (space : OldMapContent) → (parts_of v).layout ≡ Layout.Old space
-    → StopsAndExitsLeave d old new (IsWritten space sectors)
-    → ((kind : Kind) (view : Opened) (was image : List ℕ) → OpensAs was kind view → ArePartsOf (parts_of v) view → IsWritten space sectors was image → WritesPlaces view space c was image)
-    → WritesOnlyPlaces d c (parts_of v) old new
-places_written d c v old new sectors space layout exits each was told =
-    let there = exits.exit was told in (
-      there.0,
-      there.1,
-      λ kind view other opens parts at. subst (λ (x : OldMapContent). WritesPlaces view x c was there.0) (one_space (parts_of v).layout space other layout (parts.layout ∙ at))
-          (each kind view was there.0 opens parts there.2),
-    )
+-- A map that a volume has is one.
+abbrev pub HasMap : Volume → Type 0
+HasMap v = (space : OldMapContent) → layout_of v.space ≡ Layout.Old space → IsOldMap space
 
--- A part of an object's bytes was written, by whatever name the layout has.
-pub part_written : (writes : WrittenBytesLaw) (layout : Layout) (space : OldMapContent) (sectors bytes : List ℕ) → layout ≡ Layout.Old space → (was image : List ℕ) → IsPartWritten (sector_bytes layout) sectors bytes was image
-    → IsWritten space sectors was image
-part_written writes layout space sectors bytes is was image part = writes.part space sectors bytes was image (subst (λ (l : Layout). IsPartWritten (sector_bytes l) sectors bytes was image) is part)
+-- the holes of the map of a volume that stands for a disk
+pub lie_behind : {D : Type 0} (d : Ghosts D) (v : Volume) (disk : D) (space : OldMapContent) → layout_of v.space ≡ Layout.Old space → StandsFor d v disk → LieBehind space
+lie_behind d v disk space layout stands = (subst (λ (l : Layout). HoldsMap l (d.sectors disk)) layout stands.map_room).1
 
--- the layout is an old map in any case
-pub still_old : {T E : Type 0} (result : Result T E) (l' l : Layout) → IsOldLayout l → IfErr result (λ error. l' ≡ l) → OnOk result (IsOldLayout l') → IsOldLayout l'
-still_old (Ok value) l' l is kept done = done
-still_old (Err error) l' l is kept done = subst IsOldLayout (sym kept) is
+pub two_sectors : {D : Type 0} (d : Ghosts D) (v : Volume) (disk : D) (space : OldMapContent) → layout_of v.space ≡ Layout.Old space → StandsFor d v disk → 2 ≤ d.sectors disk
+two_sectors d v disk space layout stands = (subst (λ (l : Layout). HoldsMap l (d.sectors disk)) layout stands.map_room).0
+
+-- ---- writes
 
 -- one write after another to the same sectors
 pub written_then : (space : OldMapContent) (sectors a b c : List ℕ) → IsWritten space sectors a b → IsWritten space sectors b c → IsWritten space sectors a c

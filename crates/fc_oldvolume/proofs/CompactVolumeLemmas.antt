@@ -49,7 +49,7 @@ use Rattle.fc_oldvolume.specs.declared.compacting.moves.Moves.{Moves}
 use Rattle.fc_oldvolume.proofs.ChangeLemmas.{old_layout}
 use Rattle.fc_oldvolume.proofs.CompactReadyLemmas.{all_small, is_ready}
 use Rattle.fc_oldvolume.proofs.RoomLemmas.{is_room, only_room}
-use Rattle.fc_oldvolume.proofs.SetVolumeLemmas.{HasMap, lie_behind}
+use Rattle.fc_oldvolume.proofs.ChangeLemmas.{HasMap, lie_behind}
 
 -- the map that was squashed is of the same disc
 pub squashed_map : (space space' : OldMapContent) (was now : List Owned) → KeepsBodies space space' was now → space' ≡ holding space space'.holes

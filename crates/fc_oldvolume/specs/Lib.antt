@@ -1,17 +1,5 @@
 pub mod Changing
-pub mod Laws
 pub mod Spaces
 pub mod Writing
-pub mod Deleting
-pub mod Taking
-pub mod Making
-pub mod MakingLaws
-pub mod Relocating
-pub mod Renaming
-pub mod RenameLaws
-pub mod Filing
-pub mod FilingLaws
-pub mod Replacing
-pub mod Saving
 pub mod Compacting
 pub mod Sparing

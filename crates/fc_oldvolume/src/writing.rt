@@ -1,56 +1,14 @@
-// What the changes of a volume with an old map write to the disk.
-ghost use Rattle.std.specs.Prelude.{◌≡◌, ◌<◌, ◌≤◌, ◌*◌, ◌++◌, [], All, IsTrue, IsFalse, OnOk, drop, length, take};
+// An old map, written to the disk.
+ghost use Rattle.std.specs.Prelude.{◌≡◌, ◌≤◌, ◌*◌, ◌++◌, [], IsTrue, IsFalse, OnOk, drop, length, take};
 ghost use Rattle.std.specs.Option.{ForSome};
 ghost use Rattle.fc_device.specs.Calls.{FailsByFault, SameForm, StopsAndExitsLeave};
-ghost use Rattle.fc_image.specs.Layout.{sector_bytes};
-ghost use Rattle.fc_objects.specs.Extents.{sectors_in};
-ghost use Rattle.fc_objects.specs.Written.{IsPartWritten};
 ghost use Rattle.fc_oldchanges.specs.Owed.{IsWritten};
 ghost use Rattle.fc_oldmap.specs.OldMap.{with_holes};
-ghost use Rattle.fc_space.specs.Space.{layout_of};
-ghost use Rattle.fc_volume.specs.Storing.{AreStored};
 ghost use Rattle.fc_oldvolume.specs.Writing.{ChangesFront, IsFrontWritten, IsMapWritten};
 
 use fc_device::{Disk, DiskFault, Extent};
 use fc_oldmap::OldMap;
-use fc_space::Places;
-use fc_volume::changes::rewrite::Rewrite;
 use fc_volume::changes::storing::store_in;
-
-/// Writes bytes into some sectors of a disc, and syncs.
-pub fn store_at<D: Disk>(
-    disk: &mut D,
-    places: &Places,
-    place: &[Extent],
-    bytes: &[u8],
-) -> Result<(), DiskFault>
-    requires attached { IsTrue (D.attached disk.old) }
-    requires settled { IsFalse (D.pending disk.old) }
-    requires size { D.sector_size disk.old ≡ sector_bytes (layout_of places.now) }
-    requires on_disk { All (λ n. n < D.sectors disk.old) (sectors_in place.now) }
-    ensures keeps { StopsAndExitsLeave D.Disk disk.old disk.new (IsPartWritten (sector_bytes (layout_of places.now)) (sectors_in place.now) bytes.now) }
-    ensures stored { OnOk result (ForSome (D.bytes disk.old) (λ was. ForSome (D.bytes disk.new) (AreStored (sector_bytes (layout_of places.now)) (sectors_in place.now) bytes.now was))) }
-    ensures durable { OnOk result (IsFalse (D.pending disk.new)) }
-    ensures form { SameForm D.Disk disk.old disk.new }
-    ensures cause { FailsByFault D.Disk disk.old disk.new result }
-{
-    store_in(disk, places.sector_bytes() as usize, place, bytes)
-}
-
-/// Writes a directory to its place, and syncs.
-pub fn write_directory<D: Disk>(disk: &mut D, places: &Places, r: &Rewrite) -> Result<(), DiskFault>
-    requires attached { IsTrue (D.attached disk.old) }
-    requires settled { IsFalse (D.pending disk.old) }
-    requires size { D.sector_size disk.old ≡ sector_bytes (layout_of places.now) }
-    requires on_disk { All (λ n. n < D.sectors disk.old) (sectors_in r.now.place.items) }
-    ensures keeps { StopsAndExitsLeave D.Disk disk.old disk.new (IsPartWritten (sector_bytes (layout_of places.now)) (sectors_in r.now.place.items) r.now.bytes.items) }
-    ensures stored { OnOk result (ForSome (D.bytes disk.old) (λ was. ForSome (D.bytes disk.new) (AreStored (sector_bytes (layout_of places.now)) (sectors_in r.now.place.items) r.now.bytes.items was))) }
-    ensures durable { OnOk result (IsFalse (D.pending disk.new)) }
-    ensures form { SameForm D.Disk disk.old disk.new }
-    ensures cause { FailsByFault D.Disk disk.old disk.new result }
-{
-    store_at(disk, places, &r.place, &r.bytes)
-}
 
 // Writes the holes of a map over the first 512 of some bytes.
 fn patch(map: &OldMap, front: &mut [u8])
