@@ -85,13 +85,13 @@ fn change_new<D: Disk>(
 {
     match asked {
         Command::Cdir { path } => fc_growing::cdir(volume, alloc, disk, path),
-        Command::Delete { path } => volume.delete(alloc, disk, path),
+        Command::Delete { path } => fc_newvolume::delete(volume, alloc, disk, path),
         Command::Set {
             path,
             load,
             exec,
             access,
-        } => volume.set(alloc, disk, path, *load, *exec, *access),
+        } => fc_newvolume::set(volume, alloc, disk, path, *load, *exec, *access),
         Command::Save {
             path,
             load,
