@@ -37,7 +37,7 @@ use Rattle.fc_tree.proofs.PlaceLemmas.{same_number}
 use Rattle.fc_tree.proofs.SoundLemmas.{folds_alike, root_or_child, same_listing}
 use Rattle.fc_tree.proofs.WalkedLemmas.{child_path, holder-push, listed_directory, root_path, same_some}
 use Rattle.fc_volume.specs.declared.changes.moving.Leaving.{Leaving}
-use Rattle.fc_volume.proofs.DeleteLemmas.{entries_left, form_left}
+use Rattle.fc_volume.proofs.EditedLemmas.{entries_left, form_left}
 use Rattle.fc_volume.proofs.RewriteLemmas as rewrite
 use Rattle.fc_volume.proofs.RewriteLemmas.{size_of_form}
 use Rattle.fc_volume.proofs.TargetLemmas as target_of

@@ -73,7 +73,7 @@ use Rattle.fc_growing.proofs.RenamingAcrossLemmas.{IsNamingAcross}
 use Rattle.fc_placing.specs.Copying.{SaysCopied}
 use Rattle.fc_growing.proofs.RenamingVolumeLemmas.{agreed, entries_law, on, on_view, view_of}
 use Rattle.std.proofs.lemmas.Bool.{or_right as or_second}
-use Rattle.fc_volume.proofs.SetVolumeLemmas.{HasMap}
+use Rattle.fc_volume.proofs.EditedLemmas.{HasMap}
 use Rattle.fc_tree.proofs.ReadingLemmas.{all_on_disk as all_low}
 
 -- ---- lists

@@ -68,7 +68,7 @@ use Rattle.fc_growing.proofs.RenamingOwnLemmas.{one_sectors, own_low}
 use Rattle.fc_growing.proofs.RenamingStepsLemmas as steps
 use Rattle.fc_growing.proofs.RenamingWithinLemmas as within
 use Rattle.fc_growing.proofs.RenamingWithinLemmas.{IsNamingWithin}
-use Rattle.fc_volume.proofs.SetVolumeLemmas.{HasMap}
+use Rattle.fc_volume.proofs.EditedLemmas.{HasMap}
 
 pub entries_law : EntriesLaw
 entries_law layout listings l sound at = children_stored layout listings sound l at

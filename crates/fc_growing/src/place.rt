@@ -20,7 +20,7 @@ use fc_newmap::NewMap;
 use fc_placing::directory_address;
 use fc_plan::{Plan, PlanError, Supply};
 use fc_space::Places;
-use fc_volume::changes::delete::as_list;
+use fc_volume::changes::leavings::as_list;
 use std::alloc::Global;
 
 /// Where a directory that grows is to lie, and what is taken beside it for a new object.

@@ -46,7 +46,7 @@ use Rattle.fc_volume.specs.declared.changes.rewrite.Rewrite.{Rewrite}
 use Rattle.fc_volume.specs.ChangeLaws.{ChangeLaws}
 use Rattle.fc_volume.specs.Moving.{IsEntering, IsLeaving}
 use Rattle.fc_volume.specs.Relocating.{AreFilled}
-use Rattle.fc_volume.proofs.DeleteLemmas.{entries_left, form_left}
+use Rattle.fc_volume.proofs.EditedLemmas.{entries_left, form_left}
 use Rattle.fc_volume.proofs.RenameLemmas.{too_long}
 use Rattle.fc_volume.proofs.RespelledLemmas.{entries_come}
 use Rattle.fc_volume.proofs.RoomyLemmas.{HasRoomFor, form_entered, size_entered}

@@ -58,7 +58,7 @@ use Rattle.fc_volume.proofs.CdirHeldLemmas.{hole_apart, hole_on_disc}
 use Rattle.fc_volume.proofs.ReadingLemmas.{each_at}
 use Rattle.fc_volume.proofs.RenameVolumeLemmas as vol
 use Rattle.fc_volume.proofs.RenameVolumeLemmas.{placed_low}
-use Rattle.fc_volume.proofs.SetVolumeLemmas.{HasMap}
+use Rattle.fc_volume.proofs.EditedLemmas.{HasMap}
 use Rattle.fc_volume.proofs.SpacedLemmas.{HasNow, has_changed as space_changed, stands_now as space_stands}
 use Rattle.fc_volume.proofs.RoomyLemmas.{addressed_by}
 use Rattle.fc_drafts.specs.Draft.{CanAddress}

@@ -33,7 +33,7 @@ use Rattle.fc_volume.proofs.CdirHeldLemmas.{can_make, formed, hole_apart, hole_o
 use Rattle.fc_volume.proofs.CdirLemmas.{IsReady}
 use Rattle.fc_volume.proofs.RoomyLemmas.{HasRoomFor, room_found}
 use Rattle.fc_volume.proofs.SettingLemmas.{one_content}
-use Rattle.fc_volume.proofs.SetVolumeLemmas.{HasMap}
+use Rattle.fc_volume.proofs.EditedLemmas.{HasMap}
 use Rattle.fc_volume.proofs.TargetLemmas as target_of
 use Rattle.fc_device.proofs.DiskLaws.{Laws, form_same}
 use Rattle.fc_device.proofs.StopLemmas.{started}

@@ -28,20 +28,6 @@ enough ids bits some need none nought =
     ap₂ (λ (a b : Bool). first_of (when a refusals.IdsFull ∷ when b refusals.DiscFull ∷ []))
     (ap (nat_lt ids) none ∙ none_below ids) (ap (nat_lt bits) nought ∙ none_below bits)
 
--- `set` takes no space of a new map
-pub set_takes_none : (v : Opened) (m : Map) (path : Path) (load exec access : ℕ) → v.layout ≡ Layout.New m → short v (Command.Set path load exec access) ≡ None
-unfolding short
-set_takes_none v m path load exec access is =
-    ap (λ (layout : Layout). first_of (space_reasons layout v (Command.Set path load exec access))) is
-    ∙ enough (length (new_ids m)) (bits_in (hole_runs m)) (needed_ids m v (Command.Set path load exec access)) (needed_bits m v (Command.Set path load exec access)) refl refl
-
--- nor does `delete`
-pub delete_takes_none : (v : Opened) (m : Map) (path : Path) → v.layout ≡ Layout.New m → short v (Command.Delete path) ≡ None
-unfolding short
-delete_takes_none v m path is =
-    ap (λ (layout : Layout). first_of (space_reasons layout v (Command.Delete path))) is
-    ∙ enough (length (new_ids m)) (bits_in (hole_runs m)) (needed_ids m v (Command.Delete path)) (needed_bits m v (Command.Delete path)) refl refl
-
 -- ---- the first refusal
 
 first_then : (xs : List (Option Refusal)) (o : Option Refusal) → o ≡ None → first_of (xs ++ o ∷ []) ≡ first_of xs

@@ -1,3 +1,4 @@
+pub mod EditedLemmas
 mod MapsLemmas
 mod OneZoneLemmas
 mod MapsOldLemmas
@@ -28,16 +29,12 @@ pub mod RespelledLemmas
 pub mod FitsLemmas
 pub mod TargetLemmas
 pub mod JudgedLemmas
-pub mod SetLemmas
 pub mod ChangeLemmas
-pub mod SetVolumeLemmas
 pub mod MadeLemmas
 pub mod CdirLemmas
 pub mod CdirHeldLemmas
 pub mod CdirVolumeLemmas
 pub mod CdirAskedLemmas
-pub mod DeleteLemmas
-mod DeleteVolumeLemmas
 pub mod FilingLemmas
 pub mod RewriteLemmas
 pub mod RelocatingLemmas

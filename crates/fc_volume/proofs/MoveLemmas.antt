@@ -65,7 +65,7 @@ use Rattle.fc_volume.proofs.TurnedLemmas.{Turns, now_of, sectors_turned, turns, 
 use Rattle.fc_volume.proofs.TargetLemmas as target_of
 use Rattle.fc_volume.proofs.RoomyLemmas.{HasRoomFor}
 use Rattle.fc_image.proofs.EntriesLemmas.{later as contains_later}
-use Rattle.fc_volume.proofs.DeleteLemmas.{found_there}
+use Rattle.fc_volume.proofs.EditedLemmas.{found_there}
 use Rattle.fc_laws.proofs.lemmas.agree.SayLemmas.{as_directory as says_it}
 
 -- ---- owners

@@ -70,7 +70,7 @@ use Rattle.fc_volume.proofs.RenameLemmas.{IsReady, agrees, long, takes_over, bot
 use Rattle.fc_volume.proofs.RenameSpaceLemmas.{needs_nothing, rename_takes_none, within_not_copied}
 use Rattle.fc_volume.proofs.RespelledLemmas.{HasRoomForOther, alike_hold, big_not_full, called_by, like, other_room, renamed_not_full}
 use Rattle.fc_volume.proofs.RoomyLemmas.{HasRoomFor, room_found, room_kept}
-use Rattle.fc_volume.proofs.SetVolumeLemmas.{HasMap}
+use Rattle.fc_volume.proofs.EditedLemmas.{HasMap}
 use Rattle.fc_volume.proofs.SettingLemmas.{one_content}
 use Rattle.fc_volume.proofs.TargetLemmas as target_of
 use Rattle.fc_volume.proofs.CdirHeldLemmas.{by_form}

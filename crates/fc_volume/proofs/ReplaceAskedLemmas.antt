@@ -62,7 +62,7 @@ use Rattle.fc_volume.proofs.ReplaceLemmas as over
 use Rattle.fc_volume.proofs.RenameLemmas.{object_as}
 use Rattle.fc_volume.proofs.SaveSpaceLemmas.{address_fits}
 use Rattle.fc_volume.proofs.SettingLemmas.{one_content}
-use Rattle.fc_volume.proofs.SetVolumeLemmas.{HasMap}
+use Rattle.fc_volume.proofs.EditedLemmas.{HasMap}
 use Rattle.fc_volume.proofs.TargetLemmas.{holds_entry}
 use Rattle.fc_volume.proofs.TargetLemmas as target_of
 use Rattle.fc_tree.proofs.ReadingLemmas.{all_on_disk as all_low}

@@ -61,7 +61,7 @@ use Rattle.fc_volume.proofs.ReplacedOwnersLemmas.{owners_after}
 use Rattle.fc_volume.proofs.RewriteLemmas.{size_of_form}
 use Rattle.fc_volume.proofs.RewriteLemmas as rewrite
 use Rattle.fc_volume.proofs.SavingLemmas.{of_both}
-use Rattle.fc_volume.proofs.SetLemmas.{entries_now, form_stays}
+use Rattle.fc_volume.proofs.EditedLemmas.{entries_now, form_stays}
 use Rattle.fc_volume.proofs.TargetLemmas as target_of
 use Rattle.fc_laws.proofs.lemmas.agree.SayLemmas.{as_directory as says_it}
 

@@ -47,7 +47,7 @@ use Rattle.fc_volume.proofs.SaveGainLemmas.{gains, holder_number, wants}
 use Rattle.fc_volume.proofs.SaveLemmas.{IsReady, can_file, place_is}
 use Rattle.fc_volume.proofs.SaveSpaceLemmas.{address_fits}
 use Rattle.fc_volume.proofs.SettingLemmas.{one_content}
-use Rattle.fc_volume.proofs.SetVolumeLemmas.{HasMap}
+use Rattle.fc_volume.proofs.EditedLemmas.{HasMap}
 use Rattle.fc_volume.proofs.TargetLemmas as target_of
 use Rattle.fc_tree.proofs.ReadingLemmas.{all_on_disk as all_low}
 

@@ -6,7 +6,7 @@ use Rattle.std.proofs.lemmas.Option.{slice_get-get_or}
 use Rattle.fc_dirs.specs.declared.Entry.{Entry}
 use Rattle.fc_dirs.specs.Directory.{Directory, entries_of}
 use Rattle.fc_drafts.specs.Draft.{CanAddress, CanHold, IsSayable}
-use Rattle.fc_drafts.specs.Entries.{saved_entry, set_entry}
+use Rattle.fc_drafts.specs.Entries.{saved_entry}
 use Rattle.fc_drafts.specs.Laws.{EntryLaw}
 use Rattle.fc_drafts.proofs.FindLemmas.{held}
 use Rattle.fc_image.specs.Layout.{Layout}
@@ -37,9 +37,6 @@ module _ (nodes : FinMap nat_cmp Node) (layout : Layout) (n at : ℕ) (holds : H
   pub entry_there : slice_get (entries_of content) at ≡ Some e
   entry_there =
       slice_get-get_or (entries_of content) at e within ∙ ap (λ (x : Entry). let o : Option Entry = Some x in o) (ap (λ (es : List Entry). get_or es at e) (sym same) ∙ sym is)
-
-  pub set_held : EntryLaw → IsSayable content → (load exec access : ℕ) → access < 8 → CanHold content (set_entry e load exec access)
-  set_held law sayable load exec access low = law.set_held content e load exec access (held content at e sayable entry_there) low
 
   pub saved_held : EntryLaw → IsSayable content → (load exec len address : ℕ) → CanAddress holds.content address → CanHold content (saved_entry e load exec len address)
   saved_held law sayable load exec len address can =

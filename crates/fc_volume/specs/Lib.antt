@@ -11,12 +11,10 @@ pub mod Compacting
 pub mod Changing
 pub mod Roomy
 pub mod Rewrites
-pub mod Setting
 pub mod Storing
 pub mod Making
 pub mod Filing
 pub mod ChangeLaws
-pub mod Deleting
 pub mod CdirLaws
 pub mod Relocating
 pub mod Renaming

@@ -14,8 +14,8 @@ ghost use Rattle.fc_volume.specs.Making.{AnswersSpace};
 ghost use Rattle.fc_volume.specs.Replacing.{CanSaveOver, IsReplacing, IsReplacingDrafted, IsSaved, owner_if};
 
 use crate::CommandError;
-use crate::changes::delete::{as_list, zones_given};
 use crate::changes::filing::Filing;
+use crate::changes::leavings::{as_list, zones_given};
 use crate::changes::putting::{FileSpace, FileWords, find_place, space_of};
 use crate::changes::reword::Rewording;
 use crate::changes::rewrite::{Rewrite, draft_of, holder_address};

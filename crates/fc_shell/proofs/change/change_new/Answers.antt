@@ -20,14 +20,14 @@ returns-in-Cdir g c =
 pub returns-in-Delete : goal.returns-in-Delete
 returns-in-Delete g c =
     let e = c.delete.ensures in
-    subst (λ a. IsAsked g.D.Disk (command a) c.args.volume.now c.delete.new.self c.args.disk.now c.delete.new.disk c.delete.result) (sym c.in-Delete.is)
-    (asked_new g.D.Disk (Model.Delete c.in-Delete.path) c.args.volume.now c.delete.new.self c.args.disk.now c.delete.new.disk c.delete.result e.refused e.changed e.keeps)
+    subst (λ a. IsAsked g.D.Disk (command a) c.args.volume.now c.delete.new.volume c.args.disk.now c.delete.new.disk c.delete.result) (sym c.in-Delete.is)
+    (asked_new g.D.Disk (Model.Delete c.in-Delete.path) c.args.volume.now c.delete.new.volume c.args.disk.now c.delete.new.disk c.delete.result e.refused e.changed e.keeps)
 
 pub returns-in-Set : goal.returns-in-Set
 returns-in-Set g c =
     let e = c.set.ensures in
-    subst (λ a. IsAsked g.D.Disk (command a) c.args.volume.now c.set.new.self c.args.disk.now c.set.new.disk c.set.result) (sym c.in-Set.is)
-    (asked_new g.D.Disk (Model.Set c.in-Set.path c.in-Set.load c.in-Set.exec c.in-Set.access) c.args.volume.now c.set.new.self c.args.disk.now c.set.new.disk c.set.result e.refused e.changed e.keeps)
+    subst (λ a. IsAsked g.D.Disk (command a) c.args.volume.now c.set.new.volume c.args.disk.now c.set.new.disk c.set.result) (sym c.in-Set.is)
+    (asked_new g.D.Disk (Model.Set c.in-Set.path c.in-Set.load c.in-Set.exec c.in-Set.access) c.args.volume.now c.set.new.volume c.args.disk.now c.set.new.disk c.set.result e.refused e.changed e.keeps)
 
 pub returns-in-Save : goal.returns-in-Save
 returns-in-Save g c =
