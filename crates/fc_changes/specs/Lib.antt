@@ -2,4 +2,5 @@ pub mod Owed
 pub mod Changed
 pub mod Laws
 pub mod Rows
-pub mod Copied
+pub mod growth
+pub mod old

@@ -17,7 +17,7 @@ use Rattle.fc_image.specs.Layout.{Layout, disc_sectors, sector_bytes}
 use Rattle.fc_image.specs.Objects.{objects_of}
 use Rattle.fc_image.specs.Opening.{Opened}
 use Rattle.fc_copies.specs.Copies.{ChangesCopies}
-use Rattle.fc_image.specs.Stays.{HasEqualCopies, IsNewLayout, OpensAs}
+use Rattle.fc_image.specs.Stays.{IsNewLayout, OpensAs}
 use Rattle.fc_image.specs.safe.Reclaim.{OwnedStay, Reclaims, StaysOwned, is_owned_run, reclaimed_bytes, sectors_that}
 use Rattle.fc_compact.specs.Ready.{AreOwnersOf}
 use Rattle.fc_space.specs.Space.{layout_of}
@@ -30,8 +30,9 @@ use Rattle.fc_reclaim.specs.Settled.{by_map}
 use Rattle.fc_reclaim.proofs.PartsLemmas.{agree_after, kind_after, parts_after}
 use Rattle.fc_writing.specs.declared.copies.Copies.{Copies}
 use Rattle.fc_writing.specs.declared.copies.Copies.TheVariants.{Equal, Chosen}
-use Rattle.fc_holdings.specs.Holdings.{HoldsMap}
-use Rattle.fc_volume.specs.Volume.{HasCopies, StandsFor, Volume, parts_of}
+use Rattle.fc_writing.specs.Copies.{HasCopies}
+use Rattle.fc_holdings.specs.Holdings.{CopiesAre, HoldsMap, TellsVersion}
+use Rattle.fc_volume.specs.Volume.{StandsFor, Volume, parts_of}
 use Rattle.fc_volume.proofs.StandsLemmas.{can_compact, new_layout}
 use Rattle.fc_lost.specs.Reclaiming.{HasGivenBack, HasReclaimed, LeavesOwnedOf, which_in}
 use Rattle.fc_lost.proofs.OwnersLemmas.{own_same}
@@ -39,7 +40,7 @@ use Rattle.fc_lost.proofs.OwnersLemmas.{own_same}
 -- ---- before
 
 -- what is known of the copies, in the words of the map's call
-counts_in : (k : Copies) (m : Map) (image : List ℕ) → HasCopies k (Layout.New m) image → CountsIn m (which_in k) image
+counts_in : (k : Copies) (m : Map) (image : List ℕ) → HasCopies k m image → CountsIn m (which_in k) image
 counts_in Equal m image has = has
 counts_in (Chosen which) m image has = (has.counts, has.content)
 
@@ -153,6 +154,7 @@ module _ {D : Type 0} {d : Ghosts D} (v v' : Volume) (old new : D) (m m' : Map) 
         (subst (λ (l : Layout). HoldsMap l (d.sectors old)) (sym layout')
         (subst (λ (g : Geometry). g.map_sector + 2 * g.zones ≤ d.sectors old) (sym geometry)
         (subst (λ (l : Layout). HoldsMap l (d.sectors old)) layout stands.map_room)));
+    version = subst TellsVersion (sym layout') (given.version ∙ subst TellsVersion layout stands.version ∙ ap (λ (g : Geometry). g.version) (sym geometry));
     agree = agrees;
     image = λ image told.
         (let was = owned.told image told in
@@ -160,6 +162,5 @@ module _ {D : Type 0} {d : Ghosts D} (v v' : Volume) (old new : D) (m m' : Map) 
         let done = reclaims was.0 image was.1 told s.0 s.1 s.2 s.3 in
         (s.0, by_map s.0 s.1 m', done.0.opens.opens, view_parts was.0 image was.1 told s.0 s.1 s.2 s.3));
     copies = λ image told.
-        subst (λ (k : Copies). HasCopies k (layout_of v'.space) image) (sym copies)
-        (subst (λ (l : Layout). HasEqualCopies image l) (sym layout') (given.map.ready image told).ready.copies);
+        subst (λ (l : Layout). CopiesAre v'.copies l image) (sym layout') (subst (λ (k : Copies). HasCopies k m' image) (sym copies) (given.map.ready image told).ready.copies);
   }

@@ -1,14 +1,12 @@
 -- What giving back lost space of a volume answers and leaves.
-use Rattle.std.specs.Prelude.{◌≡◌, ◌≤◌, ℕ, Bool, true, false, List, Option, Some, None, Result, Err, IfErr, IsFalse}
+use Rattle.std.specs.Prelude.{◌≡◌, ℕ, Bool, true, false, List, Option, Some, None, Result}
 use Rattle.std.specs.Option.{ForSome}
 use Rattle.fc_device.specs.declared.disk.Disk.{Ghosts}
-use Rattle.fc_device.specs.Calls.{SameForm}
-use Rattle.fc_device.specs.Faults.{Rose}
-use Rattle.fc_device.specs.Stops.{LeavesOnly}
 use Rattle.fc_names.specs.declared.refusal.Refusal.{Refusal}
 use Rattle.fc_names.specs.declared.refusal.Refusal.TheVariants as refusals
 use Rattle.fc_record.specs.declared.Kind.{Kind}
-use Rattle.fc_newmap.specs.Map.{Map}
+use Rattle.fc_record.specs.Kinds.{map_record}
+use Rattle.fc_newmap.specs.Map.{Map, sector_of}
 use Rattle.fc_alloc.specs.declared.owner.Owner.{Owner}
 use Rattle.fc_copies.specs.declared.Which.{Which}
 use Rattle.fc_image.specs.Layout.{Layout}
@@ -19,9 +17,8 @@ use Rattle.fc_tree.specs.Parts.{ArePartsOf, Parts}
 use Rattle.fc_writing.specs.declared.copies.Copies.{Copies}
 use Rattle.fc_writing.specs.declared.copies.Copies.TheVariants.{Equal, Chosen}
 use Rattle.fc_holdings.specs.declared.error.CommandError.{CommandError}
-use Rattle.fc_holdings.specs.declared.error.CommandError.TheVariants as errors
-use Rattle.fc_holdings.specs.Answers.{UnlessFault}
-use Rattle.fc_volume.specs.Volume.{StandsFor, Volume, parts_of}
+use Rattle.fc_volume.specs.Changing.{KeepsVolume}
+use Rattle.fc_volume.specs.Volume.{Volume, parts_of}
 use Rattle.fc_reclaim.specs.Reclaiming.{HasReclaimed as HasReclaimedMap, ReclaimsMap}
 
 -- ---- refusals
@@ -43,10 +40,11 @@ which_in (Chosen which) = Some which
 abbrev pub HasGeometryOf : Layout → Layout → Type 0
 HasGeometryOf was now = (m : Map) → was ≡ Layout.New m → (m' : Map) × (now ≡ Layout.New m') × (m'.geometry ≡ m.geometry)
 
--- The map's lost runs have gone back, in memory and on the disk.
+-- The map's lost runs have gone back, in memory and on the disk, and its record tells the version that it told.
 pub record HasGivenBack {D : Type 0} (d : Ghosts D) (m m' : Map) (owners : List Owner) (bytes : ℕ) (old new : D) : Type 0 where
   pub map : HasReclaimedMap d old new m m' owners bytes
   pub image : ForSome (d.bytes old) (λ was. ForSome (d.bytes new) (ReclaimsMap m m' owners bytes was))
+  pub version : (map_record (sector_of m' 0)).version ≡ (map_record (sector_of m 0)).version
 
 -- ---- the volume
 
@@ -67,19 +65,9 @@ HasReclaimed d was now bytes old new = ForSome (d.bytes old) (λ image. (other :
 
 -- ---- what stays, whatever is known of the disk's bytes
 
--- A refusal leaves disk and volume as they were. After any answer but an I/O error the volume stands for the disk, and nothing is
--- pending; after one it is unfit. Objects and owners stay, and of a new map its geometry.
+-- What each call that changes a volume keeps; and objects and owners stay, and of a new map its geometry.
 pub record ReclaimKeeps {D : Type 0} (d : Ghosts D) (old new : D) (was v : Volume) (result : Result ℕ CommandError) : Type 0 where
-  pub unchanged : IfErr result (λ error. (error ≡ errors.DiskFault → ⊥) → (v ≡ was) × (new ≡ old))
-  pub stands : UnlessFault result (StandsFor d v new)
-  pub settled : UnlessFault result (IsFalse (d.pending new))
-  pub fit : UnlessFault result (v.fit ≡ true)
-  pub unfit : result ≡ Err errors.DiskFault → v.fit ≡ false
+  pub volume : KeepsVolume d old new was v result
   pub geometry : HasGeometryOf (parts_of was).layout (parts_of v).layout
-  pub rights : v.read_only ≡ was.read_only
   pub tree : v.tree ≡ was.tree
   pub owners : v.owners ≡ was.owners
-  pub form : SameForm d old new
-  pub goes : LeavesOnly d.moment d.left_since old new (λ image. Unit {0})
-  pub faults : d.faults old ≤ d.faults new
-  pub cause : result ≡ Err errors.DiskFault → Rose (d.faults old) (d.faults new)

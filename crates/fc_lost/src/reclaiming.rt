@@ -1,5 +1,5 @@
 // `reclaim`.
-ghost use Rattle.std.specs.Prelude.{◌≡◌, ◌⊎◌, ◌↔◌, true, false, Some, Err, IfErr, IfOk, IsFalse, IsTrue, OnOk};
+ghost use Rattle.std.specs.Prelude.{◌≡◌, ◌⊎◌, ◌↔◌, ◌≤◌, ◌+◌, ◌*◌, true, false, Some, Err, IfErr, IfOk, IsFalse, IsTrue, OnOk};
 ghost use Rattle.std.specs.Option.{ForSome};
 ghost use Rattle.fc_device.specs.Calls.{FailsByFault, SameForm, StopsAndExitsLeave};
 ghost use Rattle.fc_newmap.specs.Map.{Map};
@@ -13,9 +13,11 @@ ghost use Rattle.fc_volume.specs.Volume.{StandsFor, parts_of};
 ghost use Rattle.fc_lost.specs.Reclaiming.{HasGeometryOf, HasGivenBack, HasReclaimed, LeavesOwnedOf, ReclaimKeeps, reclaim_refusal, which_in};
 
 use fc_alloc::Owners;
+use fc_bytes::are_bytes;
 use fc_copies::Which;
 use fc_device::{Disk, DiskFault};
 use fc_names::Refusal;
+use fc_newmap::NewMap;
 use fc_reclaim::reclaim_map;
 use fc_space::{Places, Space};
 use fc_volume::{CommandError, Copies, Volume};
@@ -28,6 +30,33 @@ fn which_of(copies: Copies) -> Option<Which>
         Copies::Equal => None,
         Copies::Chosen(which) => Some(which),
     }
+}
+
+// Gives the lost runs of a map back, whose record keeps the disc's version.
+fn reclaim_runs<D: Disk>(
+    disk: &mut D,
+    map: &mut NewMap,
+    which: Option<Which>,
+    owners: &Owners,
+) -> Result<u64, DiskFault>
+    requires attached { IsTrue (D.attached disk.old) }
+    requires settled { IsFalse (D.pending disk.old) }
+    requires size { D.sector_size disk.old ≡ map.old.geometry.sector }
+    requires on_disk { map.old.geometry.map_sector + 2 * map.old.geometry.zones ≤ D.sectors disk.old }
+    requires ready { ForSome (D.bytes disk.old) (CanReclaim map.old which owners.now) }
+    ensures owned { StopsAndExitsLeave D.Disk disk.old disk.new (LeavesOwned map.old owners.now) }
+    ensures frame { StopsAndExitsLeave D.Disk disk.old disk.new (ChangesCopies map.old.geometry) }
+    ensures given { IfOk result (λ bytes. HasGivenBack D.Disk map.old map.new owners.now bytes disk.old disk.new) }
+    ensures geometry { map.new.geometry ≡ map.old.geometry }
+    ensures durable { OnOk result (IsFalse (D.pending disk.new)) }
+    ensures form { SameForm D.Disk disk.old disk.new }
+    ensures cause { FailsByFault D.Disk disk.old disk.new result }
+{
+    map.is_map();
+    are_bytes(map.bytes(0));
+    let given = reclaim_map(disk, map, which, owners)?;
+    are_bytes(map.bytes(0));
+    Ok(given)
 }
 
 // Gives the lost runs of a disc with a new map back. The map has no index afterwards.
@@ -53,7 +82,7 @@ fn reclaim_places<D: Disk>(
     ensures cause { FailsByFault D.Disk disk.old disk.new result }
 {
     match places.edit() {
-        Space::NewMapped(map) => reclaim_map(disk, map, which, owners),
+        Space::NewMapped(map) => reclaim_runs(disk, map, which, owners),
         Space::OldMapped(_) => unreachable!(),
     }
 }

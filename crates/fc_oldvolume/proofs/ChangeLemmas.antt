@@ -1,9 +1,9 @@
 -- Old maps, as layouts, as volumes have them, and as writes leave them.
-use Rattle.std.proofs.Common.{◌≡◌, ◌≤◌, List, [], ℕ, refl, sym, subst, ◌∙◌}
+use Rattle.std.proofs.Common.{◌≡◌, List, [], ℕ, refl, subst, ◌∙◌}
 use Rattle.fc_device.specs.declared.disk.Disk.{Ghosts}
 use Rattle.fc_oldmap.specs.OldMap.{OldMapContent, IsOldMap}
 use Rattle.fc_image.specs.Layout.{Layout}
-use Rattle.fc_oldchanges.specs.Owed.{IsWritten}
+use Rattle.fc_changes.specs.old.Owed.{IsWritten}
 use Rattle.fc_space.specs.Space.{layout_of}
 use Rattle.fc_holdings.specs.Holdings.{HoldsMap}
 use Rattle.fc_volume.specs.Volume.{StandsFor, Volume}
@@ -13,9 +13,6 @@ use Rattle.fc_oldvolume.specs.Spaces.{LieBehind}
 pub old_layout : (l : Layout) → IsOldLayout l → (space : OldMapContent) × (l ≡ Layout.Old space)
 old_layout (Layout.New m) is = absurd is
 old_layout (Layout.Old space) is = (space, refl)
-
-pub is_old : (l : Layout) (space : OldMapContent) → l ≡ Layout.Old space → IsOldLayout l
-is_old l space is = subst IsOldLayout (sym is) tt
 
 -- ---- what is known of a volume with an old map
 

@@ -13,14 +13,14 @@ use Rattle.fc_image.specs.Layout.{Layout, disc_sectors, sector_bytes}
 use Rattle.fc_image.specs.Objects.{objects_of}
 use Rattle.fc_image.specs.Opening.{Opened, reserved_in}
 use Rattle.fc_image.specs.Sound.{AreSound}
-use Rattle.fc_image.specs.Stays.{HasEqualCopies, OpensAs}
+use Rattle.fc_image.specs.Stays.{OpensAs}
 use Rattle.fc_image.specs.Walk.{Listing, Reader, reader_of, walk}
 use Rattle.fc_image.proofs.PathsLemmas.{opened_walk}
 use Rattle.fc_record.specs.declared.Kind.{Kind}
 use Rattle.fc_laws.specs.nodes.Edits.{Nodes}
-use Rattle.fc_oldlaws.specs.agree.Laws.{AgreeOn, parts_with}
-use Rattle.fc_oldlaws.proofs.lemmas.agree.BeforeLemmas.{sound}
-use Rattle.fc_oldchanges.specs.Owed.{IsWritten, holding}
+use Rattle.fc_laws.specs.old.agree.Laws.{AgreeOn, parts_with}
+use Rattle.fc_laws.proofs.lemmas.old.agree.BeforeLemmas.{sound}
+use Rattle.fc_changes.specs.old.Owed.{IsWritten, holding}
 use Rattle.fc_oldmap.specs.OldMap.{OldMapContent, IsOldMap}
 use Rattle.fc_oldlaws.specs.moves.After.{IsSlide, Slide, space_after}
 use Rattle.fc_oldlaws.specs.moves.Nodes.{AreMoved, AreReady, AreRemade, remade}
@@ -35,11 +35,10 @@ use Rattle.fc_tree.specs.declared.node.Node.{Node}
 use Rattle.fc_tree.specs.Nodes.{HoldObjects, Numbers, bound_of, nodes_of}
 use Rattle.fc_tree.specs.Parts.{ArePartsOf, Parts}
 use Rattle.fc_tree.proofs.WalkedLemmas.{sound_law}
-use Rattle.fc_writing.specs.declared.copies.Copies.{Copies}
 use Rattle.fc_writing.specs.declared.copies.Copies.TheVariants.{Equal}
 use Rattle.fc_volume.specs.Compacting.{CompactsParts}
-use Rattle.fc_holdings.specs.Holdings.{HoldsMap}
-use Rattle.fc_volume.specs.Volume.{HasCopies, StandsFor, Volume, parts_of}
+use Rattle.fc_holdings.specs.Holdings.{CopiesAre, HoldsMap, TellsVersion}
+use Rattle.fc_volume.specs.Volume.{StandsFor, Volume, parts_of}
 use Rattle.fc_oldvolume.specs.Changing.{IsOldLayout}
 use Rattle.fc_oldvolume.specs.Compacting.{CompactsOnlyRoom, HasSlidInMemory, HasSlidOnDisk, IsNotBig, IsReadyToCompact, IsRoom, MoveLaws, WritesOnlyRoom, room_of, slide_by}
 use Rattle.fc_oldvolume.specs.Spaces.{LieBehind}
@@ -170,12 +169,8 @@ module _ {D : Type 0} (d : Ghosts D) (laws : MoveLaws) (v v' : Volume) (old new 
             let o = stands.image t.0 t.1 in
             let both = over_all o.0 o.1 t.0 image' t.1 told_now o.2 o.3 in
             (o.0, opened_after slid_by o.1, both.0.opens.opens, both.1));
-        copies = λ image' told_now.
-            (let t = told image' told_now in
-            let o = stands.image t.0 t.1 in
-            let both = over_all o.0 o.1 t.0 image' t.1 told_now o.2 o.3 in
-            subst (λ (k : Copies). HasCopies k (layout_of v'.space) image') (sym copies)
-            (subst (HasEqualCopies image') (sym both.1.layout) both.0.opens.copies));
+        version = subst TellsVersion (sym layout') tt;
+        copies = λ image' told_now. subst (λ (l : Layout). CopiesAre v'.copies l image') (sym layout') copies;
       }
 
 -- ---- the command

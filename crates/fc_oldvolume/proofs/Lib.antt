@@ -6,7 +6,7 @@ pub mod ReaddressLemmas
 pub mod NumbersLemmas
 pub mod RowsLemmas
 mod RoomLemmas
+mod KeepsLemmas
+mod TakingLemmas
 pub mod CompactReadyLemmas
 pub mod CompactVolumeLemmas
-mod CommandLemmas
-mod MapLemmas

@@ -15,7 +15,7 @@ use Rattle.fc_laws.specs.nodes.Edits.{Nodes, with_edited}
 use Rattle.fc_laws.proofs.lemmas.nodes.ShapeLemmas.{edited_here, edited_length, edited_other}
 use Rattle.fc_oldmap.specs.OldMap.{OldMapContent, IsOldMap}
 use Rattle.fc_image.specs.Layout.{Layout, dir_form}
-use Rattle.fc_volume.specs.Owners.{entry_owner}
+use Rattle.fc_change.specs.Owned.{entry_owner}
 use Rattle.std.proofs.lemmas.Option.{slice_get_read}
 use Rattle.fc_image.specs.declared.effects.Owned.{Owned}
 use Rattle.fc_oldlaws.specs.moves.After.{Slide, form_of, move_of, start_after}
@@ -26,7 +26,7 @@ use Rattle.fc_tree.proofs.WalkedLemmas.{place_of}
 use Rattle.fc_oldvolume.specs.declared.compacting.moves.Moves.{Moves}
 use Rattle.fc_oldlaws.specs.moves.Nodes.{AreMoved, body_after, node_after, node_owner, remade}
 use Rattle.fc_oldlaws.specs.moves.Writes.{MarkChanges}
-use Rattle.fc_oldvolume.specs.Compacting.{AreAddressed, AreLeft, AreReaddressed, AreSpares, IsLow, IsRemade, addressed, changes_at, entries_at, first_changed, is_changed, marks, readdressed_node, slide_of}
+use Rattle.fc_oldvolume.specs.Compacting.{AreAddressed, AreLeft, AreReaddressed, IsLow, IsRemade, addressed, changes_at, entries_at, first_changed, is_changed, marks, readdressed_node, slide_of}
 use Rattle.fc_oldvolume.specs.declared.compacting.directories.Spare.{Spare}
 
 -- ---- nodes that stay

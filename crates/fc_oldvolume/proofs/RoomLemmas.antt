@@ -27,17 +27,15 @@ use Rattle.fc_image.proofs.HolesLemmas.{Each-contains, Each-objects, Lies, walk_
 use Rattle.fc_objects.specs.Extents.{sectors_in}
 use Rattle.fc_objects.specs.Written.{IsPartWritten}
 use Rattle.fc_changes.proofs.BasicLemmas.{clash}
-use Rattle.fc_oldchanges.specs.Owed.{IsWritten, holding}
-use Rattle.fc_oldchanges.proofs.PlaceLemmas.{row_or_none}
-use Rattle.fc_tree.specs.declared.node.Body.{Body}
-use Rattle.fc_tree.specs.declared.node.Body.TheVariants as bodies
+use Rattle.fc_changes.specs.old.Owed.{IsWritten, holding}
+use Rattle.fc_changes.proofs.lemmas.old.PlaceLemmas.{row_or_none}
 use Rattle.fc_tree.specs.declared.node.Node.{Node}
 use Rattle.fc_tree.specs.Counts.{address_in}
 use Rattle.fc_tree.specs.Nodes.{HoldObjects}
 use Rattle.fc_tree.proofs.WalkedLemmas.{listed_directory, same_some}
 use Rattle.fc_laws.specs.nodes.Edits.{Nodes}
 use Rattle.fc_oldlaws.specs.moves.After.{AreOwned, IsOwnedAs, IsSlide, Slide, address_after, entry_after, form_of, move_of, object_after, space_after}
-use Rattle.fc_oldlaws.specs.moves.Nodes.{AreMoved, body_after, node_after}
+use Rattle.fc_oldlaws.specs.moves.Nodes.{AreMoved, node_after}
 use Rattle.fc_oldlaws.specs.moves.Writes.{AreDirectoriesPlaced, IsDirAt, row_of}
 use Rattle.fc_oldlaws.proofs.lemmas.moves.PlaceLemmas.{Case, Start, came_from, case_of, had, holes_as, in_now, no_sectors, root_in, root_stays}
 use Rattle.fc_oldlaws.proofs.lemmas.moves.StartLemmas.{body, of_body}

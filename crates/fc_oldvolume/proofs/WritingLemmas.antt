@@ -1,7 +1,7 @@
 -- What writing the front of a disc leaves of its image.
-use Rattle.std.proofs.Common.{◌≡◌, ◌≤◌, ◌<◌, inl, inr, ◌+◌, ◌-◌, ◌*◌, ◌/◌, ℕ, false, List, [], ◌∷◌, ◌++◌, length, take, drop, get_or, refl, sym, ap, ap₂, subst, ◌∙◌, arith}
+use Rattle.std.proofs.Common.{◌≡◌, ◌≤◌, ◌<◌, inl, inr, ⊎_elim, ◌+◌, ◌-◌, ◌*◌, ◌/◌, ℕ, false, List, [], ◌∷◌, ◌++◌, length, take, drop, get_or, refl, sym, ap, ap₂, subst, ◌∙◌, arith}
 use Rattle.std.specs.List.{range_with_len}
-use Rattle.std.proofs.lemmas.List.{append-nil, take-take, drop-take}
+use Rattle.std.proofs.lemmas.List.{take-take, drop-take}
 use Rattle.std.proofs.lemmas.List.FromFn.{get_or-range_with_len, length-range_with_len}
 use Rattle.std.proofs.lemmas.Bool.{cases_lt}
 use Rattle.fc_newmap.proofs.PlaceLemmas.{in_range}
@@ -16,13 +16,16 @@ use Rattle.fc_image.proofs.FreeLemmas.{range_bounds}
 use Rattle.fc_image.specs.Layout.{Layout, is_among, map_place}
 use Rattle.fc_objects.specs.Bytes.{first_bytes}
 use Rattle.fc_objects.specs.Extents.{sectors_in}
-use Rattle.fc_objects.specs.Written.{AreApart, IsPartWritten}
+use Rattle.fc_objects.specs.Written.{IsPartWritten, part_at}
 use Rattle.fc_objects.proofs.BlockLemmas.{row_bytes}
+use Rattle.fc_objects.proofs.WriteLemmas.{reads_back}
 use Rattle.fc_oldmap.specs.OldMap.{OldMapContent, map_units, with_holes}
-use Rattle.fc_oldchanges.specs.Owed.{IsWritten, holding}
+use Rattle.fc_changes.specs.old.Owed.{IsWritten}
 use Rattle.fc_oldvolume.specs.Writing.{ChangesFront, IsFrontWritten, IsMapWritten}
 use Rattle.fc_tree.proofs.ReadingLemmas.{all_on_disk as all_low}
-use Rattle.fc_writing.proofs.FrontLemmas.{row_apart, row_is}
+use Rattle.fc_writing.specs.Content.{HasContent, IsPart, stored}
+use Rattle.fc_writing.proofs.ContentLemmas.{numbered_here, numbered_is}
+use Rattle.fc_writing.proofs.FrontLemmas.{row_is}
 
 -- the first bytes of the first sectors
 pub row_front : (size : ℕ) (image : List ℕ) (n : ℕ) → row_at size image 0 n ≡ take (n * size) image
@@ -33,6 +36,21 @@ pub first_front : (size : ℕ) (image : List ℕ) (n : ℕ) → first_bytes size
 unfolding first_bytes
 first_front size image n =
     ap (take (n * size)) (sym (row_bytes size image 0 n) ∙ row_front size image n) ∙ take-take (n * size) (n * size) image (omega arith)
+
+-- ---- what is stored
+
+-- A part of some bytes, by their sectors,
+pub part_stored : (size : ℕ) (sectors bytes was image : List ℕ) → IsPart size [] (stored size sectors bytes) was image → IsPartWritten size sectors bytes was image
+part_stored size sectors bytes was image part = record {
+  length_stays = part.length_stays;
+  each = λ s. ⊎_elim (λ same. inl same)
+      (λ there. (let at = numbered_is (part_at size bytes) sectors (s, sector_at size image s) there in inr (at.0, at.1, at.2, sym at.3))) (part.each s refl);
+}
+
+-- and all of them, which are read back.
+pub stored_back : (size : ℕ) (sectors bytes image : List ℕ) → length bytes ≤ length sectors * size → HasContent size (stored size sectors bytes) image → first_bytes size image sectors (length bytes) ≡ bytes
+stored_back size sectors bytes image room has =
+    reads_back size image sectors bytes (λ i low. has (get_or sectors i 0, part_at size bytes i) (numbered_here (part_at size bytes) sectors i low)) room
 
 -- ---- the map
 

@@ -2,4 +2,3 @@ pub mod Changing
 pub mod Spaces
 pub mod Writing
 pub mod Compacting
-pub mod Sparing

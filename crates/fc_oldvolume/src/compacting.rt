@@ -1,11 +1,10 @@
 // `compact`: objects slide down, so that no hole is followed by one.
 ghost use Rattle.std.specs.Prelude.{◌≡◌, ◌⊎◌, ◌↔◌, ◌<◌, ◌≤◌, ◌*◌, ℕ, List, true, Some, Err, IfErr, IfOk, IsFalse, IsTrue, OnOk};
 ghost use Rattle.std.specs.FinMap.{get};
-ghost use Rattle.std.specs.Option.{ForSome};
 ghost use Rattle.fc_device.specs.Calls.{FailsByFault, SameForm};
 ghost use Rattle.fc_image.specs.effects.Moves.{Squashed};
 ghost use Rattle.fc_image.specs.declared.effects.Owned.{Owned};
-ghost use Rattle.fc_image.specs.Layout.{Layout, dir_form, disc_sectors};
+ghost use Rattle.fc_image.specs.Layout.{Layout, disc_sectors};
 ghost use Rattle.fc_names.specs.declared.refusal.Refusal.{Refusal};
 ghost use Rattle.fc_laws.specs.nodes.Edits.{Nodes};
 ghost use Rattle.fc_oldmap.specs.OldMap.{OldMapContent};
@@ -13,16 +12,16 @@ ghost use Rattle.fc_oldlaws.specs.moves.After.{start_after};
 ghost use Rattle.fc_oldlaws.specs.moves.Nodes.{AreMoved};
 ghost use Rattle.fc_oldlaws.specs.moves.Writes.{AreDirectoriesPlaced, MarkChanges};
 ghost use Rattle.fc_space.specs.Space.{layout_of};
-ghost use Rattle.fc_oldchanges.specs.Owed.{IsWritten};
+ghost use Rattle.fc_changes.specs.old.Owed.{IsWritten};
 ghost use Rattle.fc_squash.specs.Places.{ChangesRoom, Leaves};
 ghost use Rattle.fc_squash.specs.Sliding.{TellsAsBefore, TimeGoesOn};
 ghost use Rattle.fc_squash.specs.Squashing.{AreBodies, KeepsBodies, SquashedBy};
 ghost use Rattle.fc_tree.specs.Nodes.{bound_of, nodes_of};
 ghost use Rattle.fc_tree.specs.declared.node.Node.{Node};
-ghost use Rattle.fc_holdings.specs.Answers.{UnlessFault};
-ghost use Rattle.fc_volume.specs.Compacting.{CompactsParts};
+ghost use Rattle.fc_volume.specs.Changing.{KeepsVolume};
+ghost use Rattle.fc_volume.specs.Compacting.{HasCompacted};
 ghost use Rattle.fc_volume.specs.Volume.{StandsFor, parts_of};
-ghost use Rattle.fc_oldvolume.specs.Changing.{ChangeKeeps, IsOldLayout};
+ghost use Rattle.fc_oldvolume.specs.Changing.{IsOldLayout};
 ghost use Rattle.fc_oldvolume.specs.Compacting.{AreSorted, AreSpares, CompactsOnlyRoom, HasSlidInMemory, HasSlidOnDisk, HasSquashed, HaveDirectories, IsLow, IsNotBig, IsReadyToCompact, IsRoom, IsRewrittenBy, MoveLaws, marks, slide_by, slide_of};
 ghost use Rattle.fc_oldvolume.specs.Spaces.{LieBehind};
 
@@ -216,10 +215,9 @@ pub fn compact<D: Disk>(
     requires old_map { IsOldLayout (parts_of volume.old).layout }
     ensures refused { (result ≡ Err (CommandError.Refused Refusal.ReadOnly)) ↔ (volume.old.read_only ≡ true) }
     ensures errors { IfErr result (λ error. (error ≡ CommandError.Refused Refusal.ReadOnly) ⊎ ((error ≡ CommandError.NoMemory) ⊎ (error ≡ CommandError.DiskFault))) }
-    ensures compacted { OnOk result (ForSome (D.bytes disk.old) (λ image. (other : List ℕ) × (D.bytes disk.new ≡ Some other) × CompactsParts (parts_of volume.old) (parts_of volume.new) image other)) }
+    ensures compacted { OnOk result (HasCompacted D.Disk (parts_of volume.old) (parts_of volume.new) disk.old disk.new) }
     ensures places { CompactsOnlyRoom D.Disk (parts_of volume.old) disk.old disk.new }
-    ensures keeps { ChangeKeeps D.Disk disk.old disk.new volume.old volume.new result }
-    ensures form_stays { UnlessFault result (dir_form (parts_of volume.new).layout ≡ dir_form (parts_of volume.old).layout) }
+    ensures keeps { KeepsVolume D.Disk disk.old disk.new volume.old volume.new result }
 {
     move_laws();
     is_old_map(&volume.holdings.places);

@@ -1,4 +1,4 @@
-// Laws for commands that change a volume with an old map.
+// A law of old maps in memory.
 ghost use Rattle.std.specs.Prelude.{◌≡◌};
 ghost use Rattle.fc_image.specs.Layout.{Layout};
 ghost use Rattle.fc_oldmap.specs.OldMap.{OldMapContent, IsOldMap};

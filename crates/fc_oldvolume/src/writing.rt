@@ -2,13 +2,13 @@
 ghost use Rattle.std.specs.Prelude.{◌≡◌, ◌≤◌, ◌*◌, ◌++◌, [], IsTrue, IsFalse, OnOk, drop, length, take};
 ghost use Rattle.std.specs.Option.{ForSome};
 ghost use Rattle.fc_device.specs.Calls.{FailsByFault, SameForm, StopsAndExitsLeave};
-ghost use Rattle.fc_oldchanges.specs.Owed.{IsWritten};
+ghost use Rattle.fc_changes.specs.old.Owed.{IsWritten};
 ghost use Rattle.fc_oldmap.specs.OldMap.{with_holes};
 ghost use Rattle.fc_oldvolume.specs.Writing.{ChangesFront, IsFrontWritten, IsMapWritten};
 
 use fc_device::{Disk, DiskFault, Extent};
 use fc_oldmap::OldMap;
-use fc_volume::changes::storing::store_in;
+use fc_writing::store_in;
 
 // Writes the holes of a map over the first 512 of some bytes.
 fn patch(map: &OldMap, front: &mut [u8])

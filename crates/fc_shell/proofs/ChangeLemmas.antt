@@ -36,11 +36,12 @@ use Rattle.fc_holdings.specs.declared.error.CommandError.{CommandError}
 use Rattle.fc_holdings.specs.declared.error.CommandError.TheVariants.{DiskFault, NoMemory, Refused}
 use Rattle.fc_holdings.specs.Answers.{AnswersBy, UnlessFault}
 use Rattle.fc_volume.specs.Changing.{refusal_in}
+use Rattle.fc_volume.specs.Changing.{IsAsked, KeepsVolume}
 use Rattle.fc_volume.specs.Volume.{StandsFor, Volume, parts_of}
 use Rattle.fc_shell.specs.declared.answer.LineFault.{LineFault}
 use Rattle.fc_shell.specs.Answered.{Answered, IsCaused}
 use Rattle.fc_shell.specs.Reads.{is_reading_line}
-use Rattle.fc_shell.specs.Changing.{IsAsked, KeepsVolume, Tells, TellsBy, done_reply}
+use Rattle.fc_shell.specs.Changing.{Tells, TellsBy, done_reply}
 use Rattle.fc_shell.specs.Line.{IsDone, IsReady, KeepsGoing, LineEnds}
 use Rattle.fc_shell.specs.Modes.{plain_mode}
 use Rattle.fc_shell.specs.Writing.{Wrote, WrotePart}

@@ -32,10 +32,10 @@ use Rattle.fc_runs.specs.Stops.{leaves_image_or}
 use Rattle.fc_tree.specs.Parts.{ArePartsOf}
 use Rattle.fc_holdings.specs.declared.error.CommandError.{CommandError}
 use Rattle.fc_volume.specs.Volume.{Volume, parts_of}
-use Rattle.fc_lost.specs.Reclaiming.{ReclaimKeeps, reclaim_refusal}
+use Rattle.fc_lost.specs.Reclaiming.{reclaim_refusal}
 use Rattle.fc_shell.specs.declared.answer.LineFault.{LineFault}
 use Rattle.fc_shell.specs.Answered.{Answered}
-use Rattle.fc_shell.specs.Changing.{IsReclaiming, KeepsVolume, TellsBy, reclaimed_reply}
+use Rattle.fc_shell.specs.Changing.{IsReclaiming, TellsBy, reclaimed_reply}
 use Rattle.fc_runs.specs.Meanwhile.{LeavesTree}
 use Rattle.fc_shell.specs.Line.{IsDone, KeepsGoing, LineEnds}
 use Rattle.fc_shell.specs.Modes.{plain_mode}
@@ -234,21 +234,6 @@ module _ {D K : Type 0} {d : Ghosts D} (law : Laws d) (k : Sinks K) (kind : Kind
       subst (λ (x : Result Bool LineFault). LineEnds d old new kind was.read_only s v line (k.taken before) (k.taken after) x) (sym tells.0) (fails asked (ap k.taken tells.1))
 
 -- ---- what it keeps
-
--- what the volume's call keeps
-pub reclaim_volume_keeps : {D : Type 0} (d : Ghosts D) (old new : D) (was v : Volume) (answer : Result ℕ CommandError) → ReclaimKeeps d old new was v answer → KeepsVolume d old new was v answer
-reclaim_volume_keeps d old new was v answer keeps = record {
-  unchanged = keeps.unchanged;
-  stands = keeps.stands;
-  settled = keeps.settled;
-  fit = keeps.fit;
-  unfit = keeps.unfit;
-  rights = keeps.rights;
-  form = keeps.form;
-  goes = keeps.goes;
-  faults = keeps.faults;
-  cause = keeps.cause;
-}
 
 module _ {D K : Type 0} {d : Ghosts D} (law : Laws d) (k : Sinks K) (line : List ℕ) (was v : Volume) (old new : D) (before after : K) (is : command_of line ≡ Ok Command.Reclaim) where
   -- A volume that may not be changed isn't.

@@ -28,7 +28,9 @@ use Rattle.fc_script.specs.Texts.{refusal_line}
 use Rattle.fc_runs.specs.ReadLaw.{is_reading}
 use Rattle.fc_runs.specs.Run.{layout_reason, shortage}
 use Rattle.fc_image.proofs.OldMapLemmas.{old_same, not_old}
-use Rattle.fc_volume.proofs.JudgedLemmas.{none_below}
+
+none_below : (n : ℕ) → nat_lt n 0 ≡ false
+none_below n = grind (arith, nat_tests)
 
 -- ---- an old map has few holes
 

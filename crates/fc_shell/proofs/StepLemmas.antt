@@ -98,6 +98,7 @@ stands_read d v old new reads stands = record {
   size = reads.form.size_stays ∙ stands.size;
   room = rw reads.form.sectors_stay stands.room;
   map_room = rw reads.form.sectors_stay stands.map_room;
+  version = stands.version;
   agree = stands.agree;
   image = rw reads.bytes stands.image;
   copies = rw reads.bytes stands.copies;

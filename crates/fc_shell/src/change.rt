@@ -6,9 +6,10 @@ ghost use Rattle.fc_runs.specs.Run.{keeps_tree};
 ghost use Rattle.fc_script.specs.Lines.{command_of};
 ghost use Rattle.fc_script.specs.Reading.{command};
 ghost use Rattle.fc_script.specs.Texts.{ok_line};
+ghost use Rattle.fc_volume.specs.Changing.{IsAsked};
 ghost use Rattle.fc_volume.specs.Volume.{StandsFor, parts_of};
 ghost use Rattle.fc_shell.specs.Answered.{Answered, ForState, OnlyTells};
-ghost use Rattle.fc_shell.specs.Changing.{IsAsked, Tells, TellsError};
+ghost use Rattle.fc_shell.specs.Changing.{Tells, TellsError};
 ghost use Rattle.fc_shell.specs.Replies.{script_limit};
 ghost use Rattle.fc_shell.specs.Line.{KeepsGoing, LineEnds};
 
@@ -18,7 +19,7 @@ use crate::sink::write_all;
 use fc_device::{Disk, Sink};
 use fc_script::Command;
 use fc_space::Space;
-use fc_volume::{CommandError, Volume};
+use fc_volume::{CommandError, FileWords, ObjectWords, Volume};
 use std::alloc::Global;
 
 /// Writes the reply to a command that was done. No memory is needed.
@@ -67,88 +68,18 @@ pub fn has_old_map(volume: &Volume) -> bool
     matches!(volume.space(), Space::OldMapped(_))
 }
 
-// Asks a volume with a new map to do a command that changes the tree.
-fn change_new<D: Disk>(
-    alloc: Global,
-    volume: &mut Volume,
-    disk: &mut D,
-    asked: &Command,
-) -> Result<(), CommandError>
-    requires attached { IsTrue (D.attached disk.old) }
-    requires fit { IsTrue volume.old.fit }
-    requires stands { StandsFor D.Disk volume.old disk.old }
-    requires settled { IsFalse (D.pending disk.old) }
-    requires new_map { IsNewLayout (parts_of volume.old).layout }
-    requires changes { keeps_tree (command asked.now) ≡ false }
-    requires spelled { (line : List ℕ) × (command_of line ≡ Ok (command asked.now)) × (length line ≤ script_limit) }
-    ensures { IsAsked D.Disk (command asked.now) volume.old volume.new disk.old disk.new result }
+// The words of a file.
+fn file_words(load: u32, exec: u32, len: u32) -> FileWords
+    ensures { result ≡ record { load = load; exec = exec; len = len } }
 {
-    match asked {
-        Command::Cdir { path } => fc_growing::cdir(volume, alloc, disk, path),
-        Command::Delete { path } => volume.delete(alloc, disk, path),
-        Command::Set {
-            path,
-            load,
-            exec,
-            access,
-        } => volume.set(alloc, disk, path, *load, *exec, *access),
-        Command::Save {
-            path,
-            load,
-            exec,
-            bytes,
-        } => fc_growing::save(volume, alloc, disk, path, *load, *exec, bytes.list()),
-        Command::Create {
-            path,
-            load,
-            exec,
-            len,
-        } => fc_growing::create(volume, alloc, disk, path, *load, *exec, *len),
-        Command::Rename { from, to } => fc_growing::rename(volume, alloc, disk, from, to),
-        _ => unreachable!(),
-    }
+    FileWords { load, exec, len }
 }
 
-// The same of a volume with an old map.
-fn change_old<D: Disk>(
-    alloc: Global,
-    volume: &mut Volume,
-    disk: &mut D,
-    asked: &Command,
-) -> Result<(), CommandError>
-    requires attached { IsTrue (D.attached disk.old) }
-    requires fit { IsTrue volume.old.fit }
-    requires stands { StandsFor D.Disk volume.old disk.old }
-    requires settled { IsFalse (D.pending disk.old) }
-    requires old_map { IsOldLayout (parts_of volume.old).layout }
-    requires changes { keeps_tree (command asked.now) ≡ false }
-    requires spelled { (line : List ℕ) × (command_of line ≡ Ok (command asked.now)) × (length line ≤ script_limit) }
-    ensures { IsAsked D.Disk (command asked.now) volume.old volume.new disk.old disk.new result }
+// The words that an object gets.
+fn object_words(load: u32, exec: u32, access: u32) -> ObjectWords
+    ensures { result ≡ record { load = load; exec = exec; access = access } }
 {
-    match asked {
-        Command::Cdir { path } => fc_oldvolume::cdir(volume, alloc, disk, path),
-        Command::Delete { path } => fc_oldvolume::delete(volume, alloc, disk, path),
-        Command::Set {
-            path,
-            load,
-            exec,
-            access,
-        } => fc_oldvolume::set(volume, alloc, disk, path, *load, *exec, *access),
-        Command::Save {
-            path,
-            load,
-            exec,
-            bytes,
-        } => fc_oldvolume::save(volume, alloc, disk, path, *load, *exec, bytes.list()),
-        Command::Create {
-            path,
-            load,
-            exec,
-            len,
-        } => fc_oldvolume::create(volume, alloc, disk, path, *load, *exec, *len),
-        Command::Rename { from, to } => fc_oldvolume::rename(volume, alloc, disk, from, to),
-        _ => unreachable!(),
-    }
+    ObjectWords { load, exec, access }
 }
 
 // Asks a volume to do a command that changes the tree.
@@ -166,10 +97,34 @@ fn change<D: Disk>(
     requires spelled { (line : List ℕ) × (command_of line ≡ Ok (command asked.now)) × (length line ≤ script_limit) }
     ensures { IsAsked D.Disk (command asked.now) volume.old volume.new disk.old disk.new result }
 {
-    if has_old_map(volume) {
-        return change_old(alloc, volume, disk, asked);
+    match asked {
+        Command::Cdir { path } => volume.cdir(alloc, disk, path),
+        Command::Delete { path } => volume.delete(alloc, disk, path),
+        Command::Set {
+            path,
+            load,
+            exec,
+            access,
+        } => volume.set(alloc, disk, path, object_words(*load, *exec, *access)),
+        Command::Save {
+            path,
+            load,
+            exec,
+            bytes,
+        } => {
+            let bytes = bytes.list();
+            let words = file_words(*load, *exec, bytes.len() as u32);
+            volume.save(alloc, disk, path, words, bytes)
+        }
+        Command::Create {
+            path,
+            load,
+            exec,
+            len,
+        } => volume.create(alloc, disk, path, file_words(*load, *exec, *len)),
+        Command::Rename { from, to } => volume.rename(alloc, disk, from, to),
+        _ => unreachable!(),
     }
-    change_new(alloc, volume, disk, asked)
 }
 
 /// Answers a command that changes the tree: does it, and then writes the reply. Answers whether the reply is an error line.

@@ -1,8 +1,10 @@
 -- Maps as they are read: the bytes in which two records differ, the zones of the copy that counts, and old maps.
 use Rattle.std.proofs.Common.{◌≡◌, ◌<◌, ◌≤◌, ◌∷◌, ◌+◌, ◌*◌, ◌/◌, ◌⊎◌, inl, inr, ℕ, Bool, true, false, List, [], length, take, drop, drop_of_length-le, get_or, refl, sym, ap, subst, ◌∙◌, arith}
-use Rattle.std.specs.Prelude.{Option, Some, None, Result, Ok, Err, is_none, slice_index_or}
+use Rattle.std.specs.Prelude.{Option, Some, None, Result, Ok, Err, IfOk, is_none, slice_index_or}
+use Rattle.std.specs.Option.{ForSome}
 use Rattle.std.specs.List.{find, zip}
 use Rattle.std.proofs.lemmas.List.{drop_more}
+use Rattle.fc_device.specs.declared.disk.Disk.{Ghosts}
 use Rattle.fc_device.specs.Sectors.{sector_at}
 use Rattle.fc_record.specs.declared.DiscRecord.{DiscRecord}
 use Rattle.fc_record.specs.declared.Geometry.{Geometry}
@@ -12,25 +14,28 @@ use Rattle.fc_record.proofs.MeasureLemmas.{share_valid}
 use Rattle.fc_zone.specs.declared.ZoneFault.{ZoneFault}
 use Rattle.fc_newmap.specs.declared.MapError.{MapError}
 use Rattle.fc_newmap.specs.declared.MapError.TheVariants.{Zone}
-use Rattle.fc_newmap.specs.Map.{Map, first_fault, zone_numbers, zones_in}
+use Rattle.fc_newmap.specs.Map.{Map, first_fault, sector_of, zone_numbers, zones_in}
 use Rattle.fc_newmap.specs.NewMap.{IsOfRecord, map_in as held_map}
 use Rattle.fc_newmap.specs.Loaded.{loaded, unless_fault}
 use Rattle.std.proofs.Math.Nat.{le-div_iff_mul-le, div-mul-le_self}
 use Rattle.fc_newmap.proofs.GeometryLemmas.{facts_of_valid, geometry_of_valid}
 use Rattle.fc_newmap.proofs.HeldLemmas.{geometry_facts, place_fits, sector_is}
 use Rattle.fc_image.specs.declared.ImageFault.{ImageFault}
-use Rattle.fc_image.specs.Layout.{Layout}
+use Rattle.fc_image.specs.Layout.{Layout, disc_sectors, sector_bytes}
 use Rattle.fc_image.specs.Walk.{◌>>=◌}
 use Rattle.fc_image.specs.Opening.{MapAndRoot, agreement, copy_or, difference, new_layout, zones_or}
 use Rattle.fc_copies.specs.declared.Which.{Which}
 use Rattle.fc_copies.specs.Copies.{chosen, copy_of}
+use Rattle.fc_space.specs.Space.{layout_of}
 use Rattle.fc_volume.specs.declared.lines.MountError.{MountError}
+use Rattle.fc_volume.specs.declared.maps.MapFound.{MapFound}
 use Rattle.fc_writing.specs.declared.copies.Copies.{Copies}
 use Rattle.fc_writing.specs.declared.copies.Copies.TheVariants.{Chosen}
 use Rattle.fc_volume.specs.Answers.{IsFaultOf}
-use Rattle.fc_volume.specs.Maps.{zone_fault, zones_layout}
+use Rattle.fc_volume.specs.Maps.{FitsDisk, zone_fault, zones_layout}
 use Rattle.fc_writing.specs.Copies.{CountsAs}
-use Rattle.fc_volume.specs.Volume.{HasCopies}
+use Rattle.fc_holdings.specs.Holdings.{CopiesAre, HoldsMap, TellsVersion}
+use Rattle.fc_image.proofs.RecordLemmas.{agreed_valid}
 
 -- a search stands at a place
 pub found_at : (p : ℕ → Bool) (xs : List ℕ) (i x : ℕ) → i < length xs → find p xs ≡ find p (drop i xs) → x ≡ get_or xs i 0 → p x ≡ true → find p xs ≡ Some x
@@ -80,8 +85,8 @@ held_same g bytes m e = by (first_fault g (zip (zone_numbers g) (zones_in g byte
     by (Some f) h = absurd (cc)
 
 -- the copy that was chosen counts, and has the map's zones
-pub counted : (copies : Copies) (layout : Layout) (which : Which) (m : Map) (image : List ℕ) → copies ≡ Chosen which → layout ≡ Layout.New m → CountsAs m which image → HasCopies copies layout image
-counted copies layout which m image c l is = subst (λ (k : Copies). HasCopies k layout image) (sym c) (subst (λ (n : Layout). HasCopies (Chosen which) n image) (sym l) is)
+pub counted : (copies : Copies) (layout : Layout) (which : Which) (m : Map) (image : List ℕ) → copies ≡ Chosen which → layout ≡ Layout.New m → CountsAs m which image → CopiesAre copies layout image
+counted copies layout which m image c l is = subst (λ (k : Copies). CopiesAre k layout image) (sym c) (subst (λ (n : Layout). CopiesAre (Chosen which) n image) (sym l) is)
 
 module _ (r : DiscRecord) (zones : List (List ℕ)) (sector : List ℕ) (first : sector ≡ slice_index_or zones 0 []) where
   pub own_fault : (fault : ImageFault) → agreement r (map_record sector) (difference r (map_record sector)) ≡ Err fault → zones_layout r zones ≡ Err fault
@@ -121,6 +126,14 @@ module _ (r : DiscRecord) (zones : List (List ℕ)) (sector : List ℕ) (first :
         sym (ap (λ (n : Map). n.geometry) is.1),
       )
 
+  -- A map whose own record agrees with the disc's tells its version.
+  pub tells : (own : DiscRecord) (m : Map) → IsRecord r → m.geometry ≡ geometry r → sector_of m 0 ≡ slice_index_or zones 0 [] → agreement r (map_record sector) (difference r (map_record sector)) ≡ Ok own
+      → TellsVersion (Layout.New m)
+  tells own m is same at e =
+      let s = map_record (sector_of m 0) in
+      let here : agreement r s (difference r s) ≡ Ok own = subst (λ (t : List ℕ). agreement r (map_record t) (difference r (map_record t)) ≡ Ok own) (first ∙ sym at) e in
+      ap (λ (x : DiscRecord). x.version) (agreed_valid r s own is.from_raw refl is.valid here).same ∙ sym (ap (λ (g : Geometry). g.version) same)
+
   pub zone_wrong : (own : DiscRecord) (wrong : MapError) → agreement r (map_record sector) (difference r (map_record sector)) ≡ Ok own
       → unless_fault (record { geometry = geometry r; zones = zones }) (first_fault (geometry r) (zip (zone_numbers (geometry r)) zones)) ≡ Err wrong
       → zones_layout r zones ≡ Err (zone_fault wrong)
@@ -128,6 +141,12 @@ module _ (r : DiscRecord) (zones : List (List ℕ)) (sector : List ℕ) (first :
       own_right own e ∙ loaded_not own wrong (first_fault (geometry r) (zip (zone_numbers (geometry r)) zones)) (record { geometry = geometry r; zones = zones }) l
 
 -- ---- on the disk
+
+pub fits_disk : {D : Type 0} (d : Ghosts D) (disk : D) (result : Result MapFound MountError) → IfOk result (λ found. sector_bytes (layout_of found.space) ≡ d.sector_size disk)
+    → IfOk result (λ found. disc_sectors (layout_of found.space) ≤ d.sectors disk) → IfOk result (λ found. HoldsMap (layout_of found.space) (d.sectors disk))
+    → IfOk result (λ found. TellsVersion (layout_of found.space)) → IfOk result (λ found. ForSome (d.bytes disk) (CopiesAre found.copies (layout_of found.space))) → IfOk result (λ found. FitsDisk d found disk)
+fits_disk d disk (Ok found) size room map_room version copies = record { size = size; room = room; map_room = map_room; version = version; copies = copies }
+fits_disk d disk (Err error) size room map_room version copies = tt
 
 pub new_room : (r : DiscRecord) (long size sectors : ℕ) → IsRecord r → size ≡ (geometry r).sector → sectors ≡ long / size → r.size ≤ long
     → ((geometry r).map_sector + 2 * (geometry r).zones ≤ sectors) × ((geometry r).disc_bits * (geometry r).bit_bytes / (geometry r).sector ≤ sectors)

@@ -9,18 +9,18 @@ ghost use Rattle.fc_laws.specs.nodes.Edits.{with_edited};
 ghost use Rattle.fc_oldlaws.specs.moves.After.{address_after, dir_after, entry_after, parent_after, readdressed, start_after};
 ghost use Rattle.fc_oldlaws.specs.moves.Nodes.{body_after};
 ghost use Rattle.fc_space.specs.Space.{layout_of};
+ghost use Rattle.fc_tree.specs.Counts.{address_in};
 ghost use Rattle.fc_tree.specs.Nodes.{bound_of, nodes_of};
 ghost use Rattle.fc_tree.specs.declared.node.Node.{Node};
 ghost use Rattle.fc_oldvolume.specs.Compacting.{AreReaddressed, AreSorted, AreSpares, HasSpare, IsLow, IsNotBig, changes_at, entries_at, is_changed, readdressed_node, said_again};
 
 use super::moves::Moves;
+use fc_change::object_bytes;
 use fc_device::NoMemory;
 use fc_dirs::Entry;
 use fc_smalldir::{SmallDir, copied_entries};
 use fc_space::Space;
 use fc_tree::{Body, Node, Tree};
-use fc_volume::changes::rewrite::holder_address;
-use fc_volume::owners::object_bytes;
 use std::alloc::Global;
 
 /// What a directory needs so that its entries can get other addresses with no more memory: copies of them. They are used
@@ -142,6 +142,16 @@ fn readdress_body(body: &mut Body, spare: &mut Spare, space: &Space, moves: &Mov
 {
     if let Body::Small(dir) = body {
         readdress(dir, spare, space, moves, holder);
+    }
+}
+
+// The address of the directory that holds a node.
+fn holder_address(tree: &Tree, node: &Node) -> u32
+    ensures { result ≡ address_in (nodes_of tree.now) node.now.holder }
+{
+    match tree.node(node.holder) {
+        Some(above) => above.entry.address,
+        None => 0,
     }
 }
 

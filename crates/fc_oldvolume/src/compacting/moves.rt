@@ -11,12 +11,12 @@ ghost use Rattle.fc_oldvolume.specs.Changing.{IsOldLayout};
 ghost use Rattle.fc_oldvolume.specs.Compacting.{AreSorted};
 
 use crate::spaces::units_for;
+use fc_change::object_bytes;
 use fc_device::NoMemory;
 use fc_dirs::Entry;
 use fc_space::Space;
 use fc_squash::Owned;
 use fc_tree::{Node, Tree};
-use fc_volume::owners::object_bytes;
 use std::alloc::Global;
 
 /// The objects that slide down, as they are before, and as they are afterwards, in the same order.

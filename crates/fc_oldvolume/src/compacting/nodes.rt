@@ -13,9 +13,9 @@ ghost use Rattle.fc_oldvolume.specs.Compacting.{AreAddressed, AreSorted, IsRemad
 use super::directories::address_after;
 use super::moves::Moves;
 use fc_alloc::{Owner, Owners};
+use fc_change::entry_owner;
 use fc_space::Space;
 use fc_tree::Tree;
-use fc_volume::owners::entry_owner;
 
 // The node of a number, if it has one, has its new address. A node whose address stays isn't taken out of the tree's index.
 fn move_number(tree: &mut Tree, n: u64, space: &Space, moves: &Moves)

@@ -5,7 +5,7 @@ ghost use Rattle.fc_device.specs.Calls.{FailsByFault, SameForm};
 ghost use Rattle.fc_dirs.specs.Small.{tail_of};
 ghost use Rattle.fc_image.specs.Layout.{Layout, disc_sectors};
 ghost use Rattle.fc_oldlaws.specs.moves.Writes.{AreDirectoriesPlaced};
-ghost use Rattle.fc_oldchanges.specs.Owed.{IsWritten};
+ghost use Rattle.fc_changes.specs.old.Owed.{IsWritten};
 ghost use Rattle.fc_squash.specs.Places.{ChangesRow, Leaves};
 ghost use Rattle.fc_squash.specs.Sliding.{TellsAsBefore, TimeGoesOn};
 ghost use Rattle.fc_tree.specs.Nodes.{nodes_of};
@@ -16,7 +16,7 @@ use fc_device::{Disk, DiskFault, Extent};
 use fc_oldmap::OldMap;
 use fc_smalldir::SmallDir;
 use fc_tree::{Body, Tree};
-use fc_volume::changes::storing::store_in;
+use fc_writing::store_in;
 
 // Writes a directory to a row of sectors, through a buffer as long as it is, and syncs.
 fn write_directory<D: Disk>(

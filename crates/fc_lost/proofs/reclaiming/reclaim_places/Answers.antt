@@ -5,5 +5,5 @@ use Rattle.fc_lost.proofs.reclaiming.reclaim_places.Goals as goal
 
 pub returns-clause-given : goal.returns-clause-given
 returns-clause-given g c =
-    layout_given g.D.Disk c.args.disk.now c.reclaim_map.new.disk c.in-NewMapped.map c.reclaim_map.new.map c.args.owners.now (layout_of c.args.places.now) c.reclaim_map.result
-    (ap layout_of (sym c.edit.ensures.value ∙ c.in-NewMapped.is)) c.reclaim_map.ensures.done c.reclaim_map.ensures.reclaimed
+    layout_given g.D.Disk c.args.disk.now c.reclaim_runs.new.disk c.in-NewMapped.map c.reclaim_runs.new.map c.args.owners.now (layout_of c.args.places.now) c.reclaim_runs.result
+    (ap layout_of (sym c.edit.ensures.value ∙ c.in-NewMapped.is)) c.reclaim_runs.ensures.given

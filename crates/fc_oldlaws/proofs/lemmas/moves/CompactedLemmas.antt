@@ -27,14 +27,15 @@ use Rattle.fc_image.specs.effects.Settled.{CompactedBytes, CompactedDir, Compact
 use Rattle.fc_image.specs.effects.Steady.{AreWritten}
 use Rattle.fc_squash.proofs.LawLemmas.{settled_space}
 use Rattle.fc_changes.proofs.BasicLemmas.{clash}
-use Rattle.fc_oldchanges.proofs.BeforeLemmas.{held_by, opened_as, sound}
+use Rattle.fc_changes.proofs.lemmas.old.BeforeLemmas.{held_by, opened_as, sound}
 use Rattle.fc_oldlaws.specs.moves.After.{content_after, dir_after, entry_after, form_of, is_steady, listing_after, listings_after, move_of, readdressed, space_after}
 use Rattle.fc_oldlaws.specs.moves.Laws.{CompactedLaw}
 use Rattle.fc_oldlaws.specs.moves.Steps.{IsCompactedInSteps, opened_after}
 use Rattle.fc_oldlaws.proofs.lemmas.moves.StartLemmas.{by_number}
 use Rattle.fc_oldlaws.proofs.lemmas.moves.PlaceLemmas.{Case, case_of, empty_size, had}
 use Rattle.fc_oldlaws.proofs.lemmas.moves.WalkLemmas.{objects_after}
-use Rattle.fc_oldlaws.proofs.lemmas.moves.ListedLemmas.{find_changed, is_listed_directory}
+use Rattle.fc_oldlaws.proofs.lemmas.moves.ListedLemmas.{is_listed_directory}
+use Rattle.fc_laws.proofs.lemmas.agree.TwinLemmas.{find_changed}
 use Rattle.fc_oldlaws.proofs.lemmas.moves.BytesLemmas.{Steps, all, start, to, v, z, z'}
 use Rattle.fc_oldlaws.proofs.lemmas.moves.SaysLemmas.{changed_bytes, is_small, steady_bytes}
 use Rattle.fc_oldlaws.proofs.lemmas.moves.ImageLemmas.{map_after, opens, tree_stays}

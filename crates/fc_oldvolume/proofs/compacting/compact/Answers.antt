@@ -1,10 +1,10 @@
-use Rattle.std.proofs.Common.{◌∙◌, ap, subst}
+use Rattle.std.proofs.Common.{◌∙◌, ap, subst, sym}
 use Rattle.fc_space.specs.declared.space.Space.{Space}
 use Rattle.fc_space.specs.Space.{layout_of}
 use Rattle.fc_tree.specs.Nodes.{bound_of, nodes_of}
 use Rattle.fc_volume.specs.Volume.{Volume, parts_of}
 use Rattle.fc_oldvolume.specs.Compacting.{IsReadyToCompact, marks}
-use Rattle.fc_oldvolume.proofs.ChangeLemmas.{is_old}
+use Rattle.fc_oldvolume.proofs.KeepsLemmas.{old_kinds, same_form}
 use Rattle.fc_oldvolume.proofs.CompactVolumeLemmas.{are_ready, has_compacted, map_is, no_big, only_places, placed, stands_after}
 use Rattle.fc_oldvolume.proofs.compacting.compact.Goals as goal
 
@@ -50,8 +50,10 @@ returns-in-Ok-write_compacted-clause-keeps g c =
       settled = c.in-Ok-write_compacted.ensures.durable;
       fit = c.take_over.ensures.fit ∙ ap (λ (x : Volume). x.fit) c.volume.view_is ∙ c.requires.fit;
       unfit = λ failed. absurd (cc);
-      old_map = is_old (parts_of c.take_over.new.volume).layout c.write_compacted.new.map c.take_over.ensures.layout;
       rights = c.take_over.ensures.rights ∙ ap (λ (x : Volume). x.read_only) c.volume.view_is;
+      map = old_kinds (parts_of c.args.volume.now).layout (parts_of c.take_over.new.volume).layout c.map_of-map.result c.write_compacted.new.map (sym (ap (λ (x : Volume). layout_of x.space) c.volume.view_is) ∙ layout) c.take_over.ensures.layout;
+      dirs = same_form (parts_of c.args.volume.now).layout (parts_of c.take_over.new.volume).layout c.map_of-map.result c.write_compacted.new.map (sym (ap (λ (x : Volume). layout_of x.space) c.volume.view_is) ∙ layout) c.take_over.ensures.layout
+          c.in-Ok-write_compacted.ensures.done.kept.disc.1;
       form = c.write_compacted.ensures.form;
       goes = c.write_compacted.ensures.stops;
       faults = c.write_compacted.ensures.cause.later;

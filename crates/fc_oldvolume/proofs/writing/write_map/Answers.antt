@@ -2,7 +2,7 @@ use Rattle.std.proofs.Common.{◌≡◌, ◌/◌, ℕ, refl, sym, subst, ◌∙�
 use Rattle.fc_device.proofs.DiskLaws.{laws}
 use Rattle.fc_device.proofs.StopLemmas.{keeps_weaker}
 use Rattle.fc_oldmap.specs.OldMap.{map_units}
-use Rattle.fc_volume.proofs.ChangeLemmas.{ok_then}
+use Rattle.std.proofs.lemmas.Result.{on_ok_weaker}
 use Rattle.fc_oldvolume.proofs.WritingLemmas.{front_of_map, kept_to, map_written}
 use Rattle.fc_oldvolume.proofs.writing.write_map.Goals as goal
 
@@ -15,8 +15,8 @@ returns-then-sector_units-eq4-clause-keeps g c =
 pub returns-then-sector_units-eq4-clause-written : goal.returns-then-sector_units-eq4-clause-written
 returns-then-sector_units-eq4-clause-written g c =
     let four : c.args.map.now.sector_units ≡ 4 = sym c.sector_units.ensures.value ∙ c.if-sector_units-eq4.true in
-    ok_then c.write_front.result _ _
-    (λ front. λ was told image now.
+    on_ok_weaker c.write_front.result
+    (λ front was told image now.
     map_written c.args.map.now 1024 was image (omega arith) (omega (arith, four)) (front was told image now)
     (front_of_map c.args.map.now 1024 1 (omega (arith, four)) (subst (λ (u : ℕ). 1 ≡ map_units u / u) (sym four) refl) was image
     (kept_to g.D.Disk c.write_front.ensures.keeps was image told now)))
@@ -31,8 +31,8 @@ returns-else-sector_units-eq4-clause-keeps g c =
 pub returns-else-sector_units-eq4-clause-written : goal.returns-else-sector_units-eq4-clause-written
 returns-else-sector_units-eq4-clause-written g c =
     let one : c.args.map.now.sector_units ≡ 1 = omega (arith, c.if-sector_units-eq4.false, c.sector_units.ensures.value, c.sector_units.ensures.units) in
-    ok_then c.write_front-else-sector_units-eq4.result _ _
-    (λ front. λ was told image now.
+    on_ok_weaker c.write_front-else-sector_units-eq4.result
+    (λ front was told image now.
     map_written c.args.map.now 512 was image (omega arith) (omega (arith, one)) (front was told image now)
     (front_of_map c.args.map.now 256 2 (omega (arith, one)) (subst (λ (u : ℕ). 2 ≡ map_units u / u) (sym one) refl) was image
     (kept_to g.D.Disk c.write_front-else-sector_units-eq4.ensures.keeps was image told now)))

@@ -1,24 +1,13 @@
-use Rattle.std.proofs.Common.{Bool, subst}
-use Rattle.fc_placing.specs.Copying.{SaysCopied}
-use Rattle.fc_volume.specs.Volume.{Volume}
+use Rattle.fc_device.proofs.DiskLaws.{laws}
 use Rattle.fc_model.specs.Command.{Command}
-use Rattle.fc_volume.proofs.ChangeLemmas.{writes_nothing}
-use Rattle.fc_volume.proofs.JudgedLemmas.{refused_by}
+use Rattle.fc_volume.proofs.CommandLemmas.{asked, stands}
 use Rattle.fc_volume.proofs.volume.Volume.rename.Goals as goal
 
-pub returns-in-Err-clause-refused : goal.returns-in-Err-clause-refused
-returns-in-Err-clause-refused g c = λ v image sound parts. refused_by (Unit {0}) _ c.in-Err.refusal (c.in-Err.ensures.refused v image sound parts)
+pub rename-answer-requires-clause-stands : goal.rename-answer-requires-clause-stands
+rename-answer-requires-clause-stands g c = stands c.args.self.now c.self.inside.holdings c.self.inside.read_only c.self.inside.fit c.self.view_is g.D.Disk c.args.disk.now c.requires.stands
 
-pub returns-in-Err-clause-places : goal.returns-in-Err-clause-places
-returns-in-Err-clause-places g c = λ was told.
-    (was, told, λ kind view m opens parts at. writes_nothing c.places.ensures kind view m (Command.Rename c.args.from.now c.args.to.now) was)
-
-pub rename_copied-requires-clause-copied : goal.rename_copied-requires-clause-copied
-rename_copied-requires-clause-copied g c =
-    subst (λ (b : Bool). SaysCopied c.args.self.now.owners c.in-Ok.renaming.target.node c.in-Ok.renaming.holder b) c.if-is_copied.true
-    (subst (λ (v : Volume). SaysCopied v.owners c.in-Ok.renaming.target.node c.in-Ok.renaming.holder c.is_copied.result) c.self.view_is c.is_copied.ensures)
-
-pub rename_across-requires-clause-uncopied : goal.rename_across-requires-clause-uncopied
-rename_across-requires-clause-uncopied g c =
-    subst (λ (b : Bool). SaysCopied c.args.self.now.owners c.in-Ok.renaming.target.node c.in-Ok.renaming.holder b) c.if-is_copied.false
-    (subst (λ (v : Volume). SaysCopied v.owners c.in-Ok.renaming.target.node c.in-Ok.renaming.holder c.is_copied.result) c.self.view_is c.is_copied.ensures)
+pub returns : goal.returns
+returns g c =
+    let e = c.rename-answer.ensures in
+    asked c.args.self.now c.self.inside.holdings c.self.inside.read_only c.self.inside.fit c.self.view_is g.D.Disk (laws g.met.D.Disk) (Command.Rename c.args.from.now c.args.to.now) c.rename-answer.new.holdings c.args.disk.now c.rename-answer.new.disk
+    c.rename-answer.result c.is_fit_after-self-inside.result c.is_fit_after-self-inside.ensures c.requires.fit e.refused e.changed e.places e.leaves e.keeps

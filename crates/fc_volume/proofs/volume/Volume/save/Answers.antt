@@ -1,20 +1,13 @@
-use Rattle.std.proofs.Common.{length, refl}
-use Rattle.std.proofs.lemmas.Result.{on_ok_weaker}
+use Rattle.fc_device.proofs.DiskLaws.{laws}
 use Rattle.fc_model.specs.Command.{Command}
-use Rattle.fc_volume.proofs.FilledLemmas.{makes_save}
-use Rattle.fc_volume.specs.Roomy.{IsRoomy}
-use Rattle.fc_volume.specs.Volume.{parts_of}
-use Rattle.fc_volume.proofs.SavingLemmas.{of_both}
+use Rattle.fc_volume.proofs.CommandLemmas.{asked, stands}
 use Rattle.fc_volume.proofs.volume.Volume.save.Goals as goal
 
-pub returns-clause-refused : goal.returns-clause-refused
-returns-clause-refused g c = c.write_whole.ensures.refused (Command.Save c.args.p.now c.args.load c.args.exec c.args.bytes.now) (makes_save c.args.p.now (record { load = c.args.load; exec = c.args.exec; len = length c.args.bytes.now }) c.args.bytes.now refl)
+pub save-answer-requires-clause-stands : goal.save-answer-requires-clause-stands
+save-answer-requires-clause-stands g c = stands c.args.self.now c.self.inside.holdings c.self.inside.read_only c.self.inside.fit c.self.view_is g.D.Disk c.args.disk.now c.requires.stands
 
-pub returns-clause-changed : goal.returns-clause-changed
-returns-clause-changed g c = on_ok_weaker c.write_whole.result (λ all. all (Command.Save c.args.p.now c.args.load c.args.exec c.args.bytes.now) (makes_save c.args.p.now (record { load = c.args.load; exec = c.args.exec; len = length c.args.bytes.now }) c.args.bytes.now refl)) c.write_whole.ensures.changed
-
-pub returns-clause-places : goal.returns-clause-places
-returns-clause-places g c = c.write_whole.ensures.places (Command.Save c.args.p.now c.args.load c.args.exec c.args.bytes.now) (makes_save c.args.p.now (record { load = c.args.load; exec = c.args.exec; len = length c.args.bytes.now }) c.args.bytes.now refl)
-
-pub write_whole-requires-clause-roomy : goal.write_whole-requires-clause-roomy
-write_whole-requires-clause-roomy g c = λ k load exec bytes makes. of_both (IsRoomy (parts_of c.args.self.now)) k c.args.p.now load exec bytes c.requires.roomy c.requires.roomy makes
+pub returns : goal.returns
+returns g c =
+    let e = c.save-answer.ensures in
+    asked c.args.self.now c.self.inside.holdings c.self.inside.read_only c.self.inside.fit c.self.view_is g.D.Disk (laws g.met.D.Disk) (Command.Save c.args.path.now c.args.words.load c.args.words.exec c.args.bytes.now) c.save-answer.new.holdings c.args.disk.now c.save-answer.new.disk
+    c.save-answer.result c.is_fit_after-self-inside.result c.is_fit_after-self-inside.ensures c.requires.fit e.refused e.changed e.places e.leaves e.keeps

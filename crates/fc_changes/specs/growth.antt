@@ -1,0 +1,3 @@
+pub mod Grown
+pub mod Maps
+pub mod Rows

@@ -1,5 +1,0 @@
-pub mod TakenLemmas
-pub mod WriteLemmas
-pub mod ApartLemmas
-pub mod AgainLemmas
-pub mod StepLemmas

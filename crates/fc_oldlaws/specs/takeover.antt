@@ -1,4 +1,0 @@
-pub mod Laws
-pub mod Writes
-pub mod Places
-pub mod Steps
