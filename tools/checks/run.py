@@ -49,6 +49,7 @@ LONG: Dict[str, Long] = {
     "outside": Long(["checks/outside", "{}"], False),
     "crash": Long(["checks/crash", "{}"], True),
     "reclaim": Long(["checks/reclaim", "{}", "12"], True),
+    "crashes": Long(["bench/crashes", "{}", "1"], True),
     "changes": Long(["checks/changes", "--program", "{}", "--images", "16", "--commands", "20"], True),
     "changes-old": Long(["checks/changes", "--program", "{}", "--images", "14", "--commands", "20", "--old"], True),
     "runs": Long(["checks/runs", "--program", "{}"], True),
