@@ -1,5 +1,5 @@
 -- A directory that grows, from how it is judged to where it lies.
-use Rattle.std.proofs.Common.{◌≡◌, ◌<◌, ◌⊎◌, inl, inr, ℕ, Bool, true, false, cond, Option, Some, None, refl, sym, ap, ap₂, subst, ◌∙◌}
+use Rattle.std.proofs.Common.{◌≡◌, ◌<◌, ◌⊎◌, inl, inr, ℕ, Bool, true, false, cond, Option, Some, None, refl, sym, ap, ap₂, subst, ◌∙◌, arith}
 use Rattle.std.specs.Prelude.{AllPairs, IfSome}
 use Rattle.fc_newmap.specs.Map.{Map}
 use Rattle.fc_newmap.specs.NewMap.{IsNewMap}
@@ -61,6 +61,12 @@ growth_planned m is old left all bytes object from (growings.Moves growth addres
   plan_is = directory_planned m left object alone address growth.len plan (geometry_then m is old left all bytes object from) (holes_then m is old left all bytes object from) t;
   id = id_then m is old left all bytes object from alone address plan.id t.id;
 }
+
+-- If a directory needs no new space, it has no plan.
+pub none_planned : (m : Map) (x : Growing) → IsLonger x → len_moved x ≡ 0 → IsGrowthPlan m None x None
+none_planned m growings.Nothing longer none = refl
+none_planned m (growings.There p) longer none = refl
+none_planned m (growings.Moves growth address alone) longer none = absurd (omega (arith, longer, none))
 
 -- It has no plan, or is alone as it was judged.
 pub alone_same : (m : Map) (h : Parts) (object : Option Plan) (grows : Option Growth) (x : Growing) (dir : Option Plan) → IsJudged m h grows x → IsGrowthPlan m object x dir

@@ -183,7 +183,7 @@ fn plan_directory(
 }
 
 /// Plans the space of an object of so many bytes, and that of the directory from what the object's left. There is enough of it, so that
-/// only memory may be short.
+/// only memory may be short. If neither needs any, the map's holes aren't gone over.
 pub fn plan_both(
     alloc: Global,
     map: &NewMap,
@@ -194,6 +194,12 @@ pub fn plan_both(
     requires enough { short_of map.now bytes (alone_in growing.now) (len_moved growing.now) ≡ None }
     ensures { IfOk result (ArePlanned map.now bytes growing.now) }
 {
+    if bytes == 0 && len_moved(growing) == 0 {
+        return Ok(Plans {
+            object: None,
+            dir: None,
+        });
+    }
     map.is_map();
     let mut supply = Supply::new(alloc, map)?;
     let object = plan_object(alloc, &mut supply, bytes)?;

@@ -78,7 +78,11 @@ pub fn check_space(map: &NewMap, bytes: u32, alone: bool, len: u32) -> Result<()
     if !has_ids(map, ids_for(object, alone, dir)) {
         return Err(Refusal::IdsFull);
     }
-    if map.free_bits() < bits_for(g, object, dir) {
+    let needed = bits_for(g, object, dir);
+    if needed == 0 {
+        return Ok(());
+    }
+    if map.free_bits() < needed {
         return Err(Refusal::DiscFull);
     }
     Ok(())

@@ -1,7 +1,7 @@
-use Rattle.std.proofs.Common.{sym, subst}
+use Rattle.std.proofs.Common.{sym, subst, ◌∙◌}
 use Rattle.fc_plan.specs.Supply.{Stock}
 use Rattle.fc_change.specs.Planning.{HasSpace}
-use Rattle.fc_change.proofs.GrownLemmas.{growth_planned}
+use Rattle.fc_change.proofs.GrownLemmas.{growth_planned, none_planned}
 use Rattle.fc_change.proofs.PlanLemmas.{object_own}
 use Rattle.fc_change.proofs.ShortageLemmas.{object_space, space_after}
 use Rattle.fc_change.specs.Planning.{alone_in, len_moved}
@@ -16,6 +16,9 @@ pub plan_directory-requires : goal.plan_directory-requires
 plan_directory-requires c =
     space_after c.args.map.now c.is_map.ensures c.args.bytes c.args.growing.now c.requires.enough c.requires.longer c.in_ok-supply.supply c.plan_object.new.supply c.in_ok-supply.ensures c.in_ok-object.object
     c.in_ok-object.ensures
+
+pub returns-then-len_moved-eq0 : goal.returns-then-len_moved-eq0
+returns-then-len_moved-eq0 c = record { object = c.if-bytes-eq0.true; dir = none_planned c.args.map.now c.args.growing.now c.requires.longer (sym c.len_moved.ensures ∙ c.if-len_moved-eq0.true) }
 
 pub returns : goal.returns
 returns c =
