@@ -6,6 +6,7 @@ use Rattle.std.proofs.lemmas.List.{append-nil, take_at}
 use Rattle.std.proofs.Math.Seq.{take-append-add}
 use Rattle.fc_device.specs.declared.disk.Disk.{Ghosts}
 use Rattle.fc_device.proofs.DiskLaws.{Laws}
+use Rattle.fc_device.proofs.StopLemmas.{one_told}
 use Rattle.fc_host.specs.Answers.{AnswersCalls, all_asked}
 use Rattle.fc_host.specs.Asked.{Asked}
 use Rattle.fc_host.specs.Files.{Files}
@@ -17,14 +18,15 @@ use Rattle.fc_image.specs.safe.SafeEffect.{HasTree}
 use Rattle.fc_script.specs.HostLines.{HostLine}
 use Rattle.fc_runs.specs.AskedRun.{AskedSteps}
 use Rattle.fc_runs.specs.Early.{FilesLeftBy, host_reply_begun, text_begun}
-use Rattle.fc_runs.specs.HostPromises.{AskedBegun, AskedBegunBy, AskedHasRun, AskedHasStopped}
+use Rattle.fc_runs.specs.HostPromises.{AskedBegun, AskedBegunBy, AskedHasRun, AskedHasStopped, AskedStepsTo}
 use Rattle.fc_runs.specs.HostRun.{Reading, all_host_keep_tree, host_keeps_tree}
 use Rattle.fc_runs.specs.HostServing.{AreMoved, IsBrokenOff, IsMoved}
 use Rattle.fc_runs.specs.Meanwhile.{GoesOn}
 use Rattle.fc_runs.specs.Promises.{Cause, cuts_replies, spares_disk}
 use Rattle.fc_runs.specs.Run.{Mode, commands_in, is_error, text_of}
-use Rattle.fc_runs.specs.Stops.{MayHaveLeft, all_host_leave_image, host_leaves_image, is_kept_by_next}
-use Rattle.fc_runs.proofs.HostStepLemmas.{asked_more, asks_keep, asks_leave, asks_long, asks_more, asks_new, asks_weaker, each_done, each_last, each_next}
+use Rattle.fc_runs.specs.Stops.{HostLeftByLine, IsLeftInLine, LeftIn, MayHaveLeft, all_host_leave_image, host_leaves_image, is_kept_by_next}
+use Rattle.fc_runs.proofs.HostStepLemmas.{asked_more, asks_keep, asks_leave, asks_long, asks_many, asks_more, asks_new, asks_weaker, each_done, each_last, each_next}
+use Rattle.fc_runs.proofs.LeftLemmas.{asked_longer, asked_to_all, asked_to_more, host_ends_same, host_left_same, left_front, left_last, left_more, left_next}
 use Rattle.fc_runs.proofs.MeanwhileLemmas.{goes_then}
 use Rattle.fc_runs.proofs.StepLemmas.{has_tree}
 use Rattle.fc_runs.proofs.TextLemmas.{begun_front, front_part, get_next, one_more, whole_all}
@@ -55,6 +57,25 @@ module _ {D : Type 0} {d : Ghosts D} (law : Laws d) (read : Reading) (mode : Mod
   abbrev leaves : Bool → List ℕ → Bool
   leaves refused line = host_leaves_image refused (read line)
 
+  -- what a line may leave
+  abbrev by : State → Bool → List ℕ → List ℕ → Type 0
+  by = HostLeftByLine read mode.kind
+
+  same_by : (x : State) → OpensAs x.image mode.kind x.view → (image : List ℕ) (refused : Bool) (line : List ℕ) → image ≡ x.image → by x refused line image
+  same_by x there image refused line same = host_left_same mode.kind x there image same refused (read line)
+
+  -- Some lines were done, and `rest` are left.
+  along_done : (new : D) (held : Option Files) (asked : List Asked) (rest : List (List ℕ)) → (are : AreMoved d read old new mode s files held asked (commands_in script) rest) → (image : List ℕ)
+      → d.left_since new (d.moment old) image → IsLeftInLine (AskedStepsTo read mode s (commands_in script) are.replies are.asks) by (commands_in script) are.replies image
+  along_done new held asked rest are image left =
+      let May = MayHaveLeft d old new in
+      let long = asks_long read May mode s are.state are.done are.replies are.asks are.steps in
+      let many = asks_many read May mode s are.state are.done are.replies are.asks are.steps in
+      subst (λ (lines : List (List ℕ)). IsLeftInLine (AskedStepsTo read mode s lines are.replies are.asks) by lines are.replies image) (sym are.cut)
+      (left_front (AskedStepsTo read mode s are.done are.replies are.asks) (AskedStepsTo read mode s (are.done ++ rest) are.replies are.asks) by are.state are.done are.replies long
+      (asked_to_all read May mode s are.state are.done are.replies are.asks long many are.steps) image (same_by are.state are.opens image)
+      (λ n x low to. asked_longer mode s are.done are.replies long n low x read are.asks many rest to) rest (are.along image left))
+
   -- before the first line
   pub moved_start : (left : List (List ℕ)) → left ≡ commands_in script → AreMoved d read old old mode s files files [] (commands_in script) left
   moved_start left all = record {
@@ -70,6 +91,7 @@ module _ {D : Type 0} {d : Ghosts D} (law : Laws d) (read : Reading) (mode : Mod
     opens = opens;
     kept = λ keep new_map image left. has_tree mode.kind s image opens (law.settled old quiet s.image told image left);
     still = λ leave image left. law.settled old quiet s.image told image left;
+    along = λ image left. inl (law.settled old quiet s.image told image left);
   }
 
   -- one line more
@@ -80,6 +102,7 @@ module _ {D : Type 0} {d : Ghosts D} (law : Laws d) (read : Reading) (mode : Mod
       let May = MayHaveLeft d old mid in
       let Might = MayHaveLeft d old new in
       let long = asks_long read May mode s are.state are.done are.replies are.asks are.steps in
+      let many = asks_many read May mode s are.state are.done are.replies are.asks are.steps in
       record {
         done = are.done ++ line ∷ [];
         replies = are.replies ++ reply ∷ [];
@@ -105,6 +128,15 @@ module _ {D : Type 0} {d : Ghosts D} (law : Laws d) (read : Reading) (mode : Mod
             let both = each_last leaves are.done are.replies line reply long leave in
             ⊎_elim (λ was. are.still both.0 image was)
             (λ since. is.still both.1 image since ∙ ap (λ (x : State). x.image) (asks_leave read May mode s are.state are.done are.replies are.asks are.steps both.0))
+            (second.stops.before (d.moment old) image first.stops.later left);
+        along = λ image left.
+            let Before = AskedStepsTo read mode s are.done are.replies are.asks in
+            let After = AskedStepsTo read mode s (are.done ++ line ∷ []) (are.replies ++ reply ∷ []) (are.asks ++ more ∷ []) in
+            let all = asked_to_all read May mode s are.state are.done are.replies are.asks long many are.steps in
+            ⊎_elim (λ was. left_more Before After by are.state are.done are.replies long all image (same_by are.state are.opens image)
+            (λ n x low to. asked_to_more mode s are.done are.replies long n low x read are.asks many (line ∷ []) (reply ∷ []) (more ∷ []) to) line reply next (are.along image was))
+            (λ since. left_last Before After by are.state are.done are.replies long all image (same_by are.state are.opens image)
+            (λ n x low to. asked_to_more mode s are.done are.replies long n low x read are.asks many (line ∷ []) (reply ∷ []) (more ∷ []) to) line reply next (is.spared image since))
             (second.stops.before (d.moment old) image first.stops.later left);
       }
 
@@ -149,6 +181,8 @@ module _ {D : Type 0} {d : Ghosts D} (law : Laws d) (read : Reading) (mode : Mod
           still = λ fresh leave image left.
               are.still (subst (λ (lines : List (List ℕ)). all_host_leave_image read lines are.replies ≡ true) (sym all) leave) image left;
           rest = λ next image left. law.settled new settled are.state.image are.holds image left;
+          along = λ fresh. along_done new held asked [] are;
+          ending = λ image left. host_ends_same read mode.kind are.state are.opens (slice_get (commands_in script) (length are.replies)) image (law.settled new settled are.state.image are.holds image left);
         };
       }
 
@@ -190,6 +224,7 @@ module _ {D : Type 0} {d : Ghosts D} (law : Laws d) (read : Reading) (mode : Mod
         whole = λ whole. absurd (let clash : false ≡ true = sym whole ∙ cut in cc);
         holds = λ spares. are.holds;
         settled = λ spares. inl settled;
+        spared = λ image here. host_ends_same read mode.kind are.state are.opens after image (one_told (sym here ∙ are.holds));
         stops = λ was_quiet. record {
           idle = λ new_map fresh keep image left'.
               let done = each_done keeps are.done are.replies left long (subst (λ (lines : List (List ℕ)). all_host_keep_tree read lines are.replies ≡ true) are.cut keep) in
@@ -199,6 +234,8 @@ module _ {D : Type 0} {d : Ghosts D} (law : Laws d) (read : Reading) (mode : Mod
           still = λ fresh leave image left'.
               are.still (each_done leaves are.done are.replies left long (subst (λ (lines : List (List ℕ)). all_host_leave_image read lines are.replies ≡ true) are.cut leave)) image left';
           rest = λ leave image left'. law.settled new settled are.state.image are.holds image left';
+          along = λ fresh. along_done new now (asked ++ more) left are;
+          ending = λ image left'. host_ends_same read mode.kind are.state are.opens after image (law.settled new settled are.state.image are.holds image left');
         };
       }
 
@@ -238,6 +275,7 @@ module _ {D : Type 0} {d : Ghosts D} (law : Laws d) (read : Reading) (mode : Mod
         whole = λ disk. whole_all are.replies (take n (begun line));
         holds = λ spares. broke.holds spares;
         settled = λ spares. inl (settled spares);
+        spared = λ image here. subst (λ (o : Option (List ℕ)). LeftIn (by are.state) are.state o None image) (sym next) (broke.exit image here);
         stops = λ was_quiet. record {
           idle = λ new_map fresh keep image left'.
               let all = subst (λ (lines : List (List ℕ)). all_host_keep_tree read lines are.replies ≡ true) are.cut keep in
@@ -263,5 +301,18 @@ module _ {D : Type 0} {d : Ghosts D} (law : Laws d) (read : Reading) (mode : Mod
           rest = λ leave image left'.
               broke.still (subst (λ (o : Option (List ℕ)). is_kept_by_next (λ l. host_leaves_image false (read l)) o ≡ true) next leave) image
               (law.earlier new (d.moment mid) (d.moment new) image second.stops.later left');
+          along = λ fresh image left'.
+              let many = asks_many read May mode s are.state are.done are.replies are.asks are.steps in
+              let Before = AskedStepsTo read mode s are.done are.replies are.asks in
+              let After = AskedStepsTo read mode s (are.done ++ line ∷ left) are.replies are.asks in
+              let all = asked_to_all read May mode s are.state are.done are.replies are.asks long many are.steps in
+              subst (λ (lines : List (List ℕ)). IsLeftInLine (AskedStepsTo read mode s lines are.replies are.asks) by lines are.replies image) (sym are.cut)
+              (⊎_elim (λ was. left_front Before After by are.state are.done are.replies long all image (same_by are.state are.opens image)
+              (λ n x low to. asked_longer mode s are.done are.replies long n low x read are.asks many (line ∷ left) to) (line ∷ left) (are.along image was))
+              (λ since. left_next Before After by are.state are.done are.replies long all image (same_by are.state are.opens image)
+              (λ n x low to. asked_longer mode s are.done are.replies long n low x read are.asks many (line ∷ left) to) line left (broke.spared image since))
+              (second.stops.before (d.moment old) image first.stops.later left'));
+          ending = λ image left'.
+              subst (λ (o : Option (List ℕ)). LeftIn (by are.state) are.state o None image) (sym next) (broke.spared image (law.earlier new (d.moment mid) (d.moment new) image second.stops.later left'));
         };
       }

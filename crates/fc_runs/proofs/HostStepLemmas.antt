@@ -130,6 +130,17 @@ module _ (read : Reading) (May : List ℕ → Type 0) (mode : Mode) where
   asks_long s s' (line ∷ lines) (reply ∷ replies) [] x = absurd x
   asks_long s s' (line ∷ lines) (reply ∷ replies) (asked ∷ asks) x = ap suc (asks_long x.0 s' lines replies asks x.3)
 
+  -- and for each something was asked, or nothing
+  pub asks_many : (s s' : State) (lines replies : List (List ℕ)) (asks : List (List Asked)) → AskedSteps read May mode s lines replies asks s' → length asks ≡ length replies
+  asks_many s s' [] [] [] x = refl
+  asks_many s s' [] [] (asked ∷ asks) x = absurd x
+  asks_many s s' [] (reply ∷ replies) [] x = absurd x
+  asks_many s s' [] (reply ∷ replies) (asked ∷ asks) x = absurd x
+  asks_many s s' (line ∷ lines) [] [] x = absurd x
+  asks_many s s' (line ∷ lines) [] (asked ∷ asks) x = absurd x
+  asks_many s s' (line ∷ lines) (reply ∷ replies) [] x = absurd x
+  asks_many s s' (line ∷ lines) (reply ∷ replies) (asked ∷ asks) x = ap suc (asks_many x.0 s' lines replies asks x.3)
+
   -- a new map stays one
   pub asks_new : (s s' : State) (lines replies : List (List ℕ)) (asks : List (List Asked)) → AskedSteps read May mode s lines replies asks s' → IsNewLayout s.view.layout → IsNewLayout s'.view.layout
   asks_new s s' [] [] [] x new = subst (λ (y : State). IsNewLayout y.view.layout) (sym x) new

@@ -18,12 +18,16 @@ use Rattle.fc_runs.specs.Early.{FilesLeftBy, host_reply_begun, text_begun}
 use Rattle.fc_runs.specs.HostRun.{Reading, all_host_keep_tree, answer_in, file_in}
 use Rattle.fc_runs.specs.Promises.{Cause, HostHasRun, HostHasStopped, cuts_replies, spares_disk}
 use Rattle.fc_runs.specs.Run.{Mode, commands_in, is_error, text_of, whole_replies}
-use Rattle.fc_runs.specs.Stops.{MayHaveLeft, all_host_leave_image, next_host_keeps_tree, next_host_leaves_image}
+use Rattle.fc_runs.specs.Stops.{HostLeftByLine, IsLeftInLine, LeftIn, MayHaveLeft, all_host_leave_image, next_host_keeps_tree, next_host_leaves_image}
 
 -- ---- crashes
 
+-- The first lines, so many, lead to this state; with each of them this was asked of the host.
+abbrev pub AskedStepsTo : Reading → Mode → State → List (List ℕ) → List (List ℕ) → List (List Asked) → ℕ → State → Type 0
+AskedStepsTo read mode s lines replies asks n mid = AskedSteps read (λ between. Unit {0}) mode s (take n lines) (take n replies) (take n asks) mid
+
 -- `HostStops` of Stops, but for what it says of the safe mode alone
-pub record AskedStops {D : Type 0} (d : Ghosts D) (read : Reading) (old new : D) (mode : Mode) (fresh : Bool) (s end : State) (lines replies : List (List ℕ)) : Type 0 where
+pub record AskedStops {D : Type 0} (d : Ghosts D) (read : Reading) (old new : D) (mode : Mode) (fresh : Bool) (s end : State) (lines replies : List (List ℕ)) (asks : List (List Asked)) : Type 0 where
   pub idle : IsNewLayout s.view.layout → fresh ≡ false → all_host_keep_tree read lines replies ≡ true
       → (image : List ℕ) → d.left_since new (d.moment old) image → KeepsTree mode.kind s.image s.view image
   pub last : IsNewLayout s.view.layout → next_host_keeps_tree read lines replies ≡ true
@@ -31,6 +35,8 @@ pub record AskedStops {D : Type 0} (d : Ghosts D) (read : Reading) (old new : D)
   pub still : fresh ≡ false → all_host_leave_image read lines replies ≡ true
       → (image : List ℕ) → d.left_since new (d.moment old) image → image ≡ s.image
   pub rest : next_host_leaves_image read lines replies ≡ true → (image : List ℕ) → d.left_since new (d.moment new) image → image ≡ end.image
+  pub along : fresh ≡ false → (image : List ℕ) → d.left_since new (d.moment old) image → IsLeftInLine (AskedStepsTo read mode s lines replies asks) (HostLeftByLine read mode.kind) lines replies image
+  pub ending : (image : List ℕ) → d.left_since new (d.moment new) image → LeftIn (HostLeftByLine read mode.kind end) end (slice_get lines (length replies)) None image
 
 -- ---- the script's end
 
@@ -48,7 +54,7 @@ pub record AskedHasRun {D : Type 0} (d : Ghosts D) (read : Reading) (old new : D
   pub refused_is : refused ≡ list_any is_error replies
   pub holds : d.bytes new ≡ Some end.image
   pub settled : d.pending new ≡ false
-  pub stops : d.pending old ≡ false → AskedStops d read old new mode fresh s end (commands_in script) replies
+  pub stops : d.pending old ≡ false → AskedStops d read old new mode fresh s end (commands_in script) replies asks
 
 -- ---- ends before it
 
@@ -97,7 +103,8 @@ pub record AskedHasStopped {D : Type 0} (d : Ghosts D) (read : Reading) (old new
   pub whole : cuts_replies cause ≡ false → whole_replies (length text) replies ≡ length replies
   pub holds : spares_disk cause ≡ true → d.bytes new ≡ Some end.image
   pub settled : spares_disk cause ≡ true → (d.pending new ≡ false) ⊎ (new ≡ old)
-  pub stops : d.pending old ≡ false → AskedStops d read old new mode fresh s end (commands_in script) replies
+  pub spared : ForSome (d.bytes new) (LeftIn (HostLeftByLine read mode.kind end) end (slice_get (commands_in script) (length replies)) None)
+  pub stops : d.pending old ≡ false → AskedStops d read old new mode fresh s end (commands_in script) replies asks
 
 -- ---- a host that tells its files
 

@@ -10,17 +10,17 @@ use Rattle.fc_image.specs.Stays.{OpensAs}
 use Rattle.fc_image.specs.effects.Effect.{State}
 use Rattle.fc_script.specs.HostLines.{HostLine}
 use Rattle.fc_runs.specs.AskedRun.{AskedSteps, AskedTakes}
-use Rattle.fc_runs.specs.HostPromises.{AskedBegun, IsBack}
+use Rattle.fc_runs.specs.HostPromises.{AskedBegun, AskedStepsTo, IsBack}
 use Rattle.fc_runs.specs.HostRun.{HasPartOf, Reading, all_host_keep_tree, host_keeps_tree}
 use Rattle.fc_runs.specs.Meanwhile.{LeavesImage, LeavesTree}
 use Rattle.fc_runs.specs.Promises.{Cause, spares_disk}
 use Rattle.fc_runs.specs.Run.{Mode, is_error}
-use Rattle.fc_runs.specs.Stops.{MayHaveLeft, all_host_leave_image, host_leaves_image}
+use Rattle.fc_runs.specs.Stops.{HostLeftBy, HostLeftByLine, IsLeftBefore, MayHaveLeft, all_host_leave_image, host_leaves_image}
 
 -- ---- one line
 
 -- The line was done: a step with this reply leads from s to the state that the disk has now. This was asked of the host, which
--- answered by its files. A crash meanwhile leaves the tree, if the line keeps it, and the image, if the line is refused or reads.
+-- answered by its files. A crash meanwhile leaves what the line may leave: the tree, if it keeps it, and the image, if it is refused or reads.
 pub record IsMoved {D : Type 0} (d : Ghosts D) (old new : D) (mode : Mode) (s : State) (line : Result HostLine Refusal) (reply : List ℕ) (asked : List Asked) (files left : Option Files) (next : State) : Type 0 where
   pub step : AskedTakes mode s asked line reply next
   pub answered : AnswersCalls files asked left
@@ -28,8 +28,9 @@ pub record IsMoved {D : Type 0} (d : Ghosts D) (old new : D) (mode : Mode) (s : 
   pub opens : OpensAs next.image mode.kind next.view
   pub kept : host_keeps_tree (is_error reply) line ≡ true → LeavesTree d old new mode.kind s
   pub still : host_leaves_image (is_error reply) line ≡ true → LeavesImage d old new s
+  pub spared : (image : List ℕ) → d.left_since new (d.moment old) image → HostLeftBy mode.kind s (is_error reply) line image
 
--- It broke off. The disk has the image from before, unless one of its calls failed.
+-- It broke off. The disk has the image from before, unless one of its calls failed; then it has what the line may leave.
 pub record IsBrokenOff {D : Type 0} (d : Ghosts D) (old new : D) (mode : Mode) (s : State) (line : Result HostLine Refusal) (asked : List Asked) (files left : Option Files) (cause : Cause) : Type 0 where
   pub begun : AskedBegun mode s line asked
   pub files_left : ForSome files (λ held. (now : Files) × (left ≡ Some now) × ((now ≡ held) ⊎ HasPartOf mode s held line now))
@@ -37,6 +38,8 @@ pub record IsBrokenOff {D : Type 0} (d : Ghosts D) (old new : D) (mode : Mode) (
   pub holds : spares_disk cause ≡ true → d.bytes new ≡ Some s.image
   pub kept : host_keeps_tree false line ≡ true → LeavesTree d old new mode.kind s
   pub still : host_leaves_image false line ≡ true → LeavesImage d old new s
+  pub spared : (image : List ℕ) → d.left_since new (d.moment old) image → HostLeftBy mode.kind s false line image
+  pub exit : ForSome (d.bytes new) (HostLeftBy mode.kind s false line)
 
 -- ---- lines in turn
 
@@ -54,3 +57,4 @@ pub record AreMoved {D : Type 0} (d : Ghosts D) (read : Reading) (old now : D) (
   pub opens : OpensAs state.image mode.kind state.view
   pub kept : all_host_keep_tree read done replies ≡ true → LeavesTree d old now mode.kind s
   pub still : all_host_leave_image read done replies ≡ true → LeavesImage d old now s
+  pub along : (image : List ℕ) → d.left_since now (d.moment old) image → IsLeftBefore (AskedStepsTo read mode s done replies asks) (HostLeftByLine read mode.kind) done replies state image

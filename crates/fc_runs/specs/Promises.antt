@@ -1,5 +1,6 @@
 -- What a whole run promises over any disk, for each way to end. s is the image as it opened, or the fresh one.
-use Rattle.std.specs.Prelude.{◌≡◌, ◌⊎◌, ℕ, Bool, true, false, List, [], length, Option, Some, None}
+use Rattle.std.specs.Prelude.{◌≡◌, ◌⊎◌, ℕ, Bool, true, false, List, [], length, slice_get, Option, Some, None}
+use Rattle.std.specs.Option.{ForSome}
 use Rattle.std.specs.List.{list_any}
 use Rattle.fc_device.specs.declared.disk.Disk.{Ghosts}
 use Rattle.fc_device.specs.Calls.{StopsAsBefore}
@@ -8,7 +9,7 @@ use Rattle.fc_image.specs.effects.Effect.{State}
 use Rattle.fc_runs.specs.Run.{Mode, Run, commands_in, script_for, is_error, whole_replies}
 use Rattle.fc_runs.specs.Early.{EndsEarly, HostEndsEarly}
 use Rattle.fc_runs.specs.HostRun.{HostRun, Reading}
-use Rattle.fc_runs.specs.Stops.{MayHaveLeft, Stops, HostStops}
+use Rattle.fc_runs.specs.Stops.{HostLeftByLine, LeftByLine, LeftIn, MayHaveLeft, Stops, HostStops}
 
 -- ---- ends without a run
 
@@ -74,14 +75,15 @@ IsUnmade fresh Cause.Memory old new text = (fresh ≡ true) × (text ≡ []) × 
 IsUnmade fresh cause old new text = ⊥
 
 -- Some lines were done, and a part of their text was written. The disk has the image after these lines, and nothing is pending if
--- anything was asked of it, except after an I/O error of the disk itself. Then the text has the replies to all lines that were done,
--- so it tells which line broke off; a demo's text tells nothing before its end.
+-- anything was asked of it, except after an I/O error of the disk itself. Then it has what the line that broke off may leave, and the
+-- text has the replies to all lines that were done, so it tells which line that is; a demo's text tells nothing before its end.
 pub record HasStopped {D : Type 0} (d : Ghosts D) (old new : D) (mode : Mode) (fresh : Bool) (demo : Option ℕ) (s : State) (script text : List ℕ) (cause : Cause) : Type 0 where
   pub end : State
   pub ended : EndsEarly (MayHaveLeft d old new) mode demo s script text end
   pub whole : demo ≡ None → spares_disk cause ≡ false → whole_replies (length text) ended.replies ≡ length ended.replies
   pub holds : spares_disk cause ≡ true → d.bytes new ≡ Some end.image
   pub settled : spares_disk cause ≡ true → (d.pending new ≡ false) ⊎ (new ≡ old)
+  pub spared : mode.safe ≡ false → ForSome (d.bytes new) (LeftIn (LeftByLine mode.kind end) end (slice_get (commands_in (script_for demo script)) (length ended.replies)) None)
   pub stops : d.pending old ≡ false → Stops d old new mode fresh demo s end (commands_in (script_for demo script)) ended.replies text
 
 -- what holds after a run that ended early
@@ -96,6 +98,7 @@ pub record HostHasStopped {D : Type 0} (d : Ghosts D) (read : Reading) (old new 
   pub whole : demo ≡ None → cuts_replies cause ≡ false → whole_replies (length text) ended.replies ≡ length ended.replies
   pub holds : spares_disk cause ≡ true → d.bytes new ≡ Some end.image
   pub settled : spares_disk cause ≡ true → (d.pending new ≡ false) ⊎ (new ≡ old)
+  pub spared : mode.safe ≡ false → ForSome (d.bytes new) (LeftIn (HostLeftByLine read mode.kind end) end (slice_get (commands_in (script_for demo script)) (length ended.replies)) None)
   pub stops : d.pending old ≡ false → HostStops d read old new mode fresh demo s end files (commands_in (script_for demo script)) ended.replies text
 
 -- The files of the host stay, if the fresh image isn't there.

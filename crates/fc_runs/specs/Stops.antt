@@ -1,10 +1,11 @@
 -- What a crash during a whole run, or at its end, leaves of the image. Two members of fc_device's `Disk` tell of crashes: `moment`
 -- numbers the moments of a disk's life, and `left_since new n image` says that a crash from moment n of it to now could have left
 -- this image.
-use Rattle.std.specs.Prelude.{◌≡◌, ℕ, Bool, true, false, ◌||◌, List, length, slice_get, Option, Some, None, Result, Ok, Err}
+use Rattle.std.specs.Prelude.{◌≡◌, ◌<◌, ◌≤◌, ◌⊎◌, ℕ, Bool, true, false, ◌||◌, List, length, slice_get, take, Option, Some, None, Result, Ok, Err}
 use Rattle.fc_device.specs.declared.disk.Disk.{Ghosts}
 use Rattle.fc_host.specs.Files.{Files}
 use Rattle.fc_names.specs.declared.refusal.Refusal.{Refusal}
+use Rattle.fc_record.specs.declared.Kind.{Kind}
 use Rattle.fc_model.specs.Command.{Command}
 use Rattle.fc_image.specs.Stays.{KeepsTree, IsNewLayout}
 use Rattle.fc_image.specs.effects.Effect.{State, tree_in}
@@ -12,8 +13,9 @@ use Rattle.fc_image.specs.safe.SafeEffect.{HasTree}
 use Rattle.fc_script.specs.Lines.{command_of}
 use Rattle.fc_script.specs.HostLines.{HostLine}
 use Rattle.fc_runs.specs.ReadLaw.{is_reading}
-use Rattle.fc_runs.specs.Run.{Mode, whole_replies, each_line, all_keep_tree, keeps_tree_or, HasTreeAfter}
-use Rattle.fc_runs.specs.HostRun.{Reading, all_host_keep_tree, host_keeps_tree, HostHasTreeAfter}
+use Rattle.fc_runs.specs.Run.{Mode, Steps, whole_replies, each_line, all_keep_tree, is_error, keeps_tree_or, HasTreeAfter}
+use Rattle.fc_runs.specs.HostRun.{HostSteps, Reading, all_host_keep_tree, host_keeps_tree, HostHasTreeAfter}
+use Rattle.fc_runs.specs.Spares.{Spares}
 
 -- A crash during the call could have left the image. If the disk tells nothing of crashes, any image passes.
 abbrev pub MayHaveLeft : {D : Type 0} → Ghosts D → D → D → List ℕ → Type 0
@@ -64,6 +66,64 @@ next_leaves_image lines replies = is_kept_by_next (λ line. leaves_image_or fals
 abbrev pub next_host_leaves_image : Reading → List (List ℕ) → List (List ℕ) → Bool
 next_host_leaves_image read lines replies = is_kept_by_next (λ line. host_leaves_image false (read line)) (slice_get lines (length replies))
 
+-- ---- what a line may leave that was begun
+
+-- A line that is no command leaves the image.
+abbrev pub SparesBy : Kind → State → Result Command Refusal → List ℕ → Type 0
+SparesBy kind s (Err refusal) image = image ≡ s.image
+SparesBy kind s (Ok c) image = Spares kind s.view c s.image image
+
+-- the same of a line that may move a file of the host; `put` saves a file of some bytes
+abbrev pub HostSparesBy : Kind → State → Result HostLine Refusal → List ℕ → Type 0
+HostSparesBy kind s (Err refusal) image = image ≡ s.image
+HostSparesBy kind s (Ok (HostLine.Get path host)) image = image ≡ s.image
+HostSparesBy kind s (Ok (HostLine.Put host path load exec)) image = (bytes : List ℕ) × Spares kind s.view (Command.Save path load exec bytes) s.image image
+HostSparesBy kind s (Ok (HostLine.Other c)) image = Spares kind s.view c s.image image
+
+-- A line that leaves the image does so at every crash, and one that keeps the tree keeps it, on a new map; any other spares what it needn't write.
+abbrev pub LeftIf : Bool → Bool → Kind → State → (List ℕ → Type 0) → List ℕ → Type 0
+LeftIf true keeps kind s spares image = image ≡ s.image
+LeftIf false true kind s spares image = IsNewLayout s.view.layout → HasTree kind (tree_in s) image
+LeftIf false false kind s spares image = spares image
+
+-- the image at a crash or an I/O error in a line, or at its end; a refused one leaves the image
+abbrev pub LeftBy : Kind → State → Bool → Result Command Refusal → List ℕ → Type 0
+LeftBy kind s refused command image = LeftIf (leaves_image_or refused command) (keeps_tree_or refused command) kind s (SparesBy kind s command) image
+
+abbrev pub HostLeftBy : Kind → State → Bool → Result HostLine Refusal → List ℕ → Type 0
+HostLeftBy kind s refused line image = LeftIf (host_leaves_image refused line) (host_keeps_tree refused line) kind s (HostSparesBy kind s line) image
+
+abbrev pub LeftByLine : Kind → State → Bool → List ℕ → List ℕ → Type 0
+LeftByLine kind s refused line image = LeftBy kind s refused (command_of line) image
+
+abbrev pub HostLeftByLine : Reading → Kind → State → Bool → List ℕ → List ℕ → Type 0
+HostLeftByLine read kind s refused line image = HostLeftBy kind s refused (read line) image
+
+-- by the line that was begun, if one was, and by its reply, if it was done
+abbrev pub LeftIn : (Bool → List ℕ → List ℕ → Type 0) → State → Option (List ℕ) → Option (List ℕ) → List ℕ → Type 0
+LeftIn by s None reply image = image ≡ s.image
+LeftIn by s (Some line) None image = by false line image
+LeftIn by s (Some line) (Some reply) image = by (is_error reply) line image
+
+-- Some of the lines were done with these replies, and the image is what the one after them may leave. `To n mid` says that the first n
+-- lead to the state mid.
+pub record IsLeftInLine (To : ℕ → State → Type 0) (by : State → Bool → List ℕ → List ℕ → Type 0) (lines replies : List (List ℕ)) (image : List ℕ) : Type 0 where
+  pub count : ℕ
+  pub within : count ≤ length replies
+  pub mid : State
+  pub steps : To count mid
+  pub left : LeftIn (by mid) mid (slice_get lines count) (slice_get replies count) image
+
+abbrev pub StepsTo : Mode → State → List (List ℕ) → List (List ℕ) → ℕ → State → Type 0
+StepsTo mode s lines replies n mid = Steps (λ between. Unit {0}) mode s (take n lines) (take n replies) mid
+
+abbrev pub HostStepsTo : Reading → Mode → State → Files → List (List ℕ) → List (List ℕ) → ℕ → State → Type 0
+HostStepsTo read mode s files lines replies n mid = (between : Files) × HostSteps read (λ between. Unit {0}) mode s files (take n lines) (take n replies) mid between
+
+-- These lines led to the image, or it is one that one of them may leave.
+abbrev pub IsLeftBefore : (ℕ → State → Type 0) → (State → Bool → List ℕ → List ℕ → Type 0) → List (List ℕ) → List (List ℕ) → State → List ℕ → Type 0
+IsLeftBefore To by lines replies state image = (image ≡ state.image) ⊎ ((left : IsLeftInLine To by lines replies image) × (left.count < length replies))
+
 -- ---- what crashes leave
 
 -- the number of replies that were written whole; a demo writes none
@@ -87,6 +147,10 @@ pub record Stops {D : Type 0} (d : Ghosts D) (old new : D) (mode : Mode) (fresh 
       → (image : List ℕ) → d.left_since new (d.moment old) image → image ≡ s.image
   -- If the line in which the run broke off reads, a crash now leaves the image after the lines that were done.
   pub rest : next_leaves_image lines replies ≡ true → (image : List ℕ) → d.left_since new (d.moment new) image → image ≡ end.image
+  -- Outside the safe mode a crash at any moment leaves what a line may leave in which it falls, after the lines before it were done, and
+  -- a crash now what the line may leave in which the run broke off.
+  pub along : mode.safe ≡ false → fresh ≡ false → (image : List ℕ) → d.left_since new (d.moment old) image → IsLeftInLine (StepsTo mode s lines replies) (LeftByLine mode.kind) lines replies image
+  pub ending : mode.safe ≡ false → (image : List ℕ) → d.left_since new (d.moment new) image → LeftIn (LeftByLine mode.kind end) end (slice_get lines (length replies)) None image
   -- In the safe mode a crash at any moment leaves the tree after some of the lines, and a crash now the tree after at least those
   -- whose replies were written whole.
   pub during : mode.safe ≡ true → fresh ≡ false → (image : List ℕ) → d.left_since new (d.moment old) image
@@ -103,6 +167,8 @@ pub record HostStops {D : Type 0} (d : Ghosts D) (read : Reading) (old new : D) 
   pub still : fresh ≡ false → demo ≡ None → all_host_leave_image read lines replies ≡ true
       → (image : List ℕ) → d.left_since new (d.moment old) image → image ≡ s.image
   pub rest : next_host_leaves_image read lines replies ≡ true → (image : List ℕ) → d.left_since new (d.moment new) image → image ≡ end.image
+  pub along : mode.safe ≡ false → fresh ≡ false → (image : List ℕ) → d.left_since new (d.moment old) image → IsLeftInLine (HostStepsTo read mode s files lines replies) (HostLeftByLine read mode.kind) lines replies image
+  pub ending : mode.safe ≡ false → (image : List ℕ) → d.left_since new (d.moment new) image → LeftIn (HostLeftByLine read mode.kind end) end (slice_get lines (length replies)) None image
   pub during : mode.safe ≡ true → fresh ≡ false → (image : List ℕ) → d.left_since new (d.moment old) image
       → HostHasTreeAfter read (λ between. Unit {0}) mode s files lines replies 0 image
   pub exit : mode.safe ≡ true → (image : List ℕ) → d.left_since new (d.moment new) image

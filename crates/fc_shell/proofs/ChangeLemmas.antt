@@ -1,20 +1,19 @@
 -- Commands that change the tree, as lines of a script.
-use Rattle.std.proofs.Common.{◌≡◌, ◌⊎◌, ◌≤◌, ℕ, zero, suc, Bool, true, false, ◌||◌, List, [], ◌∷◌, ◌++◌, Option, Some, None, Result, Ok, Err, IfOk, IfErr, inl, inr, ⊎_elim, refl, sym, ap, ap₂, subst, ◌∙◌, arith}
-use Rattle.std.specs.Prelude.{if◌then◌else◌, slice_get}
-use Rattle.std.specs.Option.{option_map}
+use Rattle.std.proofs.Common.{◌≡◌, ◌⊎◌, ◌≤◌, ℕ, Bool, true, false, ◌||◌, List, [], ◌∷◌, Option, Some, None, Result, Ok, Err, IfOk, IfErr, inl, inr, ⊎_elim, refl, sym, ap, ap₂, subst, ◌∙◌, arith}
+use Rattle.std.specs.Prelude.{if◌then◌else◌}
+use Rattle.std.specs.Option.{ForSome, option_map}
 use Rattle.fc_device.specs.declared.disk.Disk.{Ghosts}
 use Rattle.fc_device.specs.declared.streams.Sink.{Ghosts as Sinks}
 use Rattle.fc_device.specs.Calls.{OnlyReads}
 use Rattle.fc_device.proofs.DiskLaws.{Laws}
-use Rattle.fc_device.proofs.StopLemmas.{reads_start}
+use Rattle.fc_device.proofs.StopLemmas.{one_told, reads_start}
 use Rattle.fc_names.specs.declared.name.NameForm.{NameForm}
 use Rattle.fc_names.specs.declared.refusal.Refusal.{Refusal}
-use Rattle.fc_names.specs.declared.refusal.Refusal.TheVariants as refusals
 use Rattle.fc_record.specs.declared.Kind.{Kind}
 use Rattle.fc_model.specs.Tree.{Tree}
 use Rattle.fc_model.specs.Command.{Command}
 use Rattle.fc_model.specs.Answer.{answer, answer_or, changed, first_of, reasons}
-use Rattle.fc_image.specs.Layout.{Layout, dir_form}
+use Rattle.fc_image.specs.Layout.{dir_form}
 use Rattle.fc_image.specs.Objects.{tree_of}
 use Rattle.fc_image.specs.Opening.{Opened, reserved_in}
 use Rattle.fc_image.specs.Sound.{AreSound}
@@ -25,8 +24,10 @@ use Rattle.fc_script.specs.Lines.{command_of}
 use Rattle.fc_script.specs.Texts.{ok_line, refusal_line}
 use Rattle.fc_runs.specs.Early.{reply_begun}
 use Rattle.fc_runs.specs.ReadLaw.{is_reading, reading_reply}
-use Rattle.fc_runs.specs.Run.{Answers, Effect, Serves, Step, Takes, is_error, keeps_tree, keeps_tree_or, layout_reason, shortage}
-use Rattle.fc_runs.specs.Stops.{leaves_image_or}
+use Rattle.fc_runs.specs.Run.{Answers, Serves, Step, Takes, is_error, keeps_tree, keeps_tree_or, shortage}
+use Rattle.fc_runs.specs.Spares.{Spares}
+use Rattle.fc_runs.specs.Stops.{LeftBy, SparesBy, leaves_image_or}
+use Rattle.fc_runs.proofs.LeftLemmas.{left_if_spared}
 use Rattle.fc_runs.proofs.RepliesLemmas.{changing_reply}
 use Rattle.fc_tree.specs.Agree.{Agree, reader_of_nodes}
 use Rattle.fc_tree.specs.Nodes.{nodes_of}
@@ -35,6 +36,7 @@ use Rattle.fc_tree.proofs.WalkedLemmas.{sound_law}
 use Rattle.fc_holdings.specs.declared.error.CommandError.{CommandError}
 use Rattle.fc_holdings.specs.declared.error.CommandError.TheVariants.{DiskFault, NoMemory, Refused}
 use Rattle.fc_holdings.specs.Answers.{AnswersBy, UnlessFault}
+use Rattle.fc_course.specs.Promises.{WritesPlacesOf}
 use Rattle.fc_volume.specs.Changing.{refusal_in}
 use Rattle.fc_volume.specs.Changing.{IsAsked, KeepsVolume}
 use Rattle.fc_volume.specs.Volume.{StandsFor, Volume, parts_of}
@@ -46,103 +48,12 @@ use Rattle.fc_shell.specs.Line.{IsDone, IsReady, KeepsGoing, LineEnds}
 use Rattle.fc_shell.specs.Modes.{plain_mode}
 use Rattle.fc_shell.specs.Writing.{Wrote, WrotePart}
 use Rattle.fc_shell.proofs.AnsweredLemmas.{caused_alone}
+use Rattle.fc_shell.proofs.CommandLemmas.{accepted_by, effect_of, locked, no_reason, not_reading, refused_by}
+use Rattle.fc_shell.proofs.SparesLemmas.{spares_of}
 use Rattle.fc_shell.proofs.StepLemmas.{left_ends, one_fault, unbegun_ends}
 use Rattle.fc_shell.proofs.WritingLemmas.{wrote_nothing}
 use Rattle.fc_runs.proofs.ErrorLemmas.{ok_no_error}
 use Rattle.fc_tree.proofs.EndLemmas.{no_twin as apart_names}
-
--- ---- which commands these are
-
--- They don't read,
-not_reading : (c : Command) → keeps_tree c ≡ false → is_reading c ≡ false
-not_reading (Command.Cat path) changes = absurd (cc)
-not_reading (Command.Load path) changes = absurd (cc)
-not_reading (Command.Digest path) changes = absurd (cc)
-not_reading Command.Free changes = absurd (cc)
-not_reading Command.Check changes = absurd (cc)
-not_reading Command.Compact changes = absurd (cc)
-not_reading Command.Reclaim changes = absurd (cc)
-not_reading (Command.Save path load exec bytes) changes = refl
-not_reading (Command.Create path load exec len) changes = refl
-not_reading (Command.Cdir path) changes = refl
-not_reading (Command.Delete path) changes = refl
-not_reading (Command.Rename from to) changes = refl
-not_reading (Command.Set path load exec access) changes = refl
-not_reading (Command.Mark path attrs) changes = refl
-
--- no layout refuses them,
-no_reason : (layout : Layout) (c : Command) → keeps_tree c ≡ false → layout_reason layout c ≡ None
-no_reason (Layout.New m) c changes = refl
-no_reason (Layout.Old space) (Command.Cat path) changes = refl
-no_reason (Layout.Old space) (Command.Load path) changes = refl
-no_reason (Layout.Old space) (Command.Digest path) changes = refl
-no_reason (Layout.Old space) Command.Free changes = refl
-no_reason (Layout.Old space) Command.Check changes = refl
-no_reason (Layout.Old space) Command.Compact changes = refl
-no_reason (Layout.Old space) Command.Reclaim changes = absurd (cc)
-no_reason (Layout.Old space) (Command.Save path load exec bytes) changes = refl
-no_reason (Layout.Old space) (Command.Create path load exec len) changes = refl
-no_reason (Layout.Old space) (Command.Cdir path) changes = refl
-no_reason (Layout.Old space) (Command.Delete path) changes = refl
-no_reason (Layout.Old space) (Command.Rename from to) changes = refl
-no_reason (Layout.Old space) (Command.Set path load exec access) changes = refl
-no_reason (Layout.Old space) (Command.Mark path attrs) changes = refl
-
--- and outside the safe mode they do what is said of changes.
-effect_of : (kind : Kind) (read_only : Bool) (s next : State) (c : Command) (t : Tree) → keeps_tree c ≡ false → Changes kind s next c t → Effect (plain_mode kind read_only) s c t next
-effect_of kind read_only s next (Command.Cat path) t changes does = absurd (cc)
-effect_of kind read_only s next (Command.Load path) t changes does = absurd (cc)
-effect_of kind read_only s next (Command.Digest path) t changes does = absurd (cc)
-effect_of kind read_only s next Command.Free t changes does = absurd (cc)
-effect_of kind read_only s next Command.Check t changes does = absurd (cc)
-effect_of kind read_only s next Command.Compact t changes does = absurd (cc)
-effect_of kind read_only s next Command.Reclaim t changes does = absurd (cc)
-effect_of kind read_only s next (Command.Save path load exec bytes) t changes does = does
-effect_of kind read_only s next (Command.Create path load exec len) t changes does = does
-effect_of kind read_only s next (Command.Cdir path) t changes does = does
-effect_of kind read_only s next (Command.Delete path) t changes does = does
-effect_of kind read_only s next (Command.Rename from to) t changes does = does
-effect_of kind read_only s next (Command.Set path load exec access) t changes does = does
-effect_of kind read_only s next (Command.Mark path attrs) t changes does = does
-
--- ---- the first refusal
-
-refused_by : (rs : List (Option Refusal)) (last : Option Refusal) (r : Refusal) → first_of (rs ++ last ∷ []) ≡ Some r
-    → (first_of rs ≡ Some r) ⊎ ((first_of rs ≡ None) × (last ≡ Some r))
-refused_by [] None r e = absurd (cc)
-refused_by [] (Some x) r e = inr (refl, e)
-refused_by (None ∷ rs) last r e = refused_by rs last r e
-refused_by (Some x ∷ rs) last r e = inl e
-
-accepted_by : (rs : List (Option Refusal)) (last : Option Refusal) → first_of (rs ++ last ∷ []) ≡ None → (first_of rs ≡ None) × (last ≡ None)
-accepted_by [] None e = (refl, refl)
-accepted_by [] (Some x) e = absurd (cc)
-accepted_by (None ∷ rs) last e = accepted_by rs last e
-accepted_by (Some x ∷ rs) last e = absurd (cc)
-
--- A reason that is there refuses.
-is_there : (rs : List (Option Refusal)) (i : ℕ) (r : Refusal) → slice_get rs i ≡ Some (Some r) → first_of rs ≡ None → ⊥
-is_there [] i r at none = absurd (cc)
-is_there (Some x ∷ rs) i r at none = absurd (cc)
-is_there (None ∷ rs) zero r at none = absurd (cc)
-is_there (None ∷ rs) (suc i) r at none = is_there rs i r at none
-
--- A volume that may not be changed refuses each of them.
-locked : (t : Tree) (form : NameForm) (c : Command) → keeps_tree c ≡ false → first_of (reasons t form true c) ≡ None → ⊥
-locked t form (Command.Cat path) changes none = absurd (cc)
-locked t form (Command.Load path) changes none = absurd (cc)
-locked t form (Command.Digest path) changes none = absurd (cc)
-locked t form Command.Free changes none = absurd (cc)
-locked t form Command.Check changes none = absurd (cc)
-locked t form Command.Compact changes none = absurd (cc)
-locked t form Command.Reclaim changes none = absurd (cc)
-locked t form (Command.Save path load exec bytes) changes none = is_there (reasons t form true (Command.Save path load exec bytes)) 4 refusals.ReadOnly refl none
-locked t form (Command.Create path load exec len) changes none = is_there (reasons t form true (Command.Create path load exec len)) 4 refusals.ReadOnly refl none
-locked t form (Command.Cdir path) changes none = is_there (reasons t form true (Command.Cdir path)) 3 refusals.ReadOnly refl none
-locked t form (Command.Delete path) changes none = is_there (reasons t form true (Command.Delete path)) 4 refusals.ReadOnly refl none
-locked t form (Command.Rename from to) changes none = is_there (reasons t form true (Command.Rename from to)) 7 refusals.ReadOnly refl none
-locked t form (Command.Set path load exec access) changes none = is_there (reasons t form true (Command.Set path load exec access)) 2 refusals.ReadOnly refl none
-locked t form (Command.Mark path attrs) changes none = is_there (reasons t form true (Command.Mark path attrs)) 2 refusals.ReadOnly refl none
 
 -- ---- what the volume answers
 
@@ -206,10 +117,18 @@ module _ (kind : Kind) (read_only : Bool) (s : State) (line : List ℕ) (c : Com
 
 -- ---- what becomes of the line
 
+-- It spares what its command does.
+spared_line : (kind : Kind) (s : State) (line : List ℕ) (c : Command) → command_of line ≡ Ok c → (refused : Bool) → leaves_image_or refused (command_of line) ≡ false → keeps_tree_or refused (command_of line) ≡ false
+    → (image : List ℕ) → Spares kind s.view c s.image image → LeftBy kind s refused (command_of line) image
+spared_line kind s line c is refused leaves keeps image spares =
+    left_if_spared (leaves_image_or refused (command_of line)) (keeps_tree_or refused (command_of line)) kind s (SparesBy kind s (command_of line)) image leaves keeps
+    (subst (λ (r : Result Command Refusal). SparesBy kind s r image) (sym is) spares)
+
 -- the line breaks off, after a call of the disk failed
 fault_ends : {D : Type 0} (d : Ghosts D) (kind : Kind) (read_only : Bool) (s : State) (v : Volume) (line : List ℕ) (c : Command) (old new : D) (before after : Option (List ℕ)) → keeps_tree c ≡ false
-    → command_of line ≡ Ok c → after ≡ before → LineEnds d old new kind read_only s v line before after (Err LineFault.Disk)
-fault_ends d kind read_only s v line c old new before after changes is same =
+    → command_of line ≡ Ok c → after ≡ before → ((image : List ℕ) → d.left_since new (d.moment old) image → Spares kind s.view c s.image image) → ForSome (d.bytes new) (Spares kind s.view c s.image)
+    → LineEnds d old new kind read_only s v line before after (Err LineFault.Disk)
+fault_ends d kind read_only s v line c old new before after changes is same spared exit =
     let begun : reply_begun (plain_mode kind read_only) s (command_of line) ≡ [] =
     ap (reply_begun (plain_mode kind read_only) s) is ∙ ap (λ (b : Bool). if b then reading_reply (plain_mode kind read_only) s c else []) (not_reading c changes) in
     let tree : keeps_tree_or false (command_of line) ≡ false = ap (keeps_tree_or false) is ∙ changes in
@@ -219,6 +138,8 @@ fault_ends d kind read_only s v line c old new before after changes is same =
       holds = λ never. absurd (never refl);
       kept = λ keep. absurd (let clash : false ≡ true = sym tree ∙ keep in cc);
       still = λ leaves. absurd (let clash : false ≡ true = sym image ∙ leaves in cc);
+      spared = λ at left. spared_line kind s line c is false image tree at (spared at left);
+      exit = λ at here. spared_line kind s line c is false image tree at (exit at here);
     })
 
 module _ {D K : Type 0} {d : Ghosts D} (law : Laws d) (k : Sinks K) (kind : Kind) (s : State) (line : List ℕ) (c : Command) (was v : Volume) (old new : D) (before after : K)
@@ -250,6 +171,9 @@ module _ {D K : Type 0} {d : Ghosts D} (law : Laws d) (k : Sinks K) (kind : Kind
       image : leaves_image_or (is_error ok_line) (command_of line) ≡ false
       image = ap (leaves_image_or (is_error ok_line)) is ∙ ap (λ (b : Bool). b || is_reading c) (ok_no_error []) ∙ not_reading c changes
 
+      spared : (image : List ℕ) → d.left_since new (d.moment old) image → LeftBy kind s (is_error ok_line) (command_of line) image
+      spared at left = spared_line kind s line c is (is_error ok_line) image tree at (spares_of (parts_of was) kind s.view c s.image at opens parts (asked.places.stops.since at left s.image told))
+
       step : IsDone d old new kind was.read_only s line ok_line next
       step = record {
         step = done_step kind was.read_only s line c changes is next accepted does;
@@ -257,6 +181,7 @@ module _ {D K : Type 0} {d : Ghosts D} (law : Laws d) (k : Sinks K) (kind : Kind
         opens = does.opens.opens;
         kept = λ keep. absurd (let clash : false ≡ true = sym tree ∙ keep in cc);
         still = λ leaves. absurd (let clash : false ≡ true = sym image ∙ leaves in cc);
+        spared = spared;
       }
 
       by : (result : Result Bool LineFault) → Answered ok_line (k.taken before) (k.taken after) result → (result ≡ Err LineFault.Disk → ⊥)
@@ -294,7 +219,9 @@ module _ {D K : Type 0} {d : Ghosts D} (law : Laws d) (k : Sinks K) (kind : Kind
       (unbegun_ends law kind was s line old new (k.taken before) (k.taken after) quiet told opens LineFault.NoMemory reads (ap k.taken (sym tells.1))))
   change_ends (Err DiskFault) result asked tells =
       subst (λ (x : Result Bool LineFault). LineEnds d old new kind was.read_only s v line (k.taken before) (k.taken after) x) (sym tells.0)
-      (fault_ends d kind was.read_only s v line c old new (k.taken before) (k.taken after) changes is (ap k.taken tells.1))
+      (fault_ends d kind was.read_only s v line c old new (k.taken before) (k.taken after) changes is (ap k.taken tells.1)
+      (λ at left. spares_of (parts_of was) kind s.view c s.image at opens parts (asked.places.stops.since at left s.image told))
+      (λ at here. (let exit = asked.places.exit s.image told in spares_of (parts_of was) kind s.view c s.image at opens parts (subst (WritesPlacesOf c (parts_of was) s.image) (one_told (sym exit.1 ∙ here)) exit.2))))
 
 -- ---- what it keeps
 

@@ -1,12 +1,12 @@
 -- `compact` as a line of a script.
 use Rattle.std.proofs.Common.{◌≡◌, ◌⊎◌, ◌≤◌, ℕ, Bool, true, false, ◌||◌, List, [], ◌∷◌, length, Option, Some, None, Result, Ok, Err, inl, inr, refl, sym, ap, ap₂, subst, ◌∙◌}
 use Rattle.std.specs.Prelude.{IfErr}
-use Rattle.std.specs.Option.{option_map}
+use Rattle.std.specs.Option.{ForSome, option_map}
 use Rattle.fc_device.specs.declared.disk.Disk.{Ghosts}
 use Rattle.fc_device.specs.declared.streams.Sink.{Ghosts as Sinks}
 use Rattle.fc_device.specs.Calls.{OnlyReads}
 use Rattle.fc_device.proofs.DiskLaws.{Laws}
-use Rattle.fc_device.proofs.StopLemmas.{reads_start}
+use Rattle.fc_device.proofs.StopLemmas.{one_told, reads_start}
 use Rattle.fc_names.specs.declared.name.NameForm.{NameForm}
 use Rattle.fc_names.specs.declared.refusal.Refusal.{Refusal}
 use Rattle.fc_names.specs.declared.refusal.Refusal.TheVariants as refusals
@@ -22,15 +22,16 @@ use Rattle.fc_model.specs.Answer.{answer, first_of}
 use Rattle.fc_image.specs.Layout.{Layout, dir_form}
 use Rattle.fc_image.specs.Moves.{with_map}
 use Rattle.fc_image.specs.Opening.{Opened}
-use Rattle.fc_image.specs.Stays.{IsNewKind, OpensAs}
+use Rattle.fc_image.specs.Stays.{IsNewKind, IsNewLayout, OpensAs}
 use Rattle.fc_image.proofs.FreeLemmas.{parts_of as opened_parts}
 use Rattle.fc_image.specs.effects.Effect.{Compacts, State, tree_in}
 use Rattle.fc_image.specs.effects.Sharing.{new_ids}
+use Rattle.fc_image.specs.safe.SafeEffect.{HasTree}
 use Rattle.fc_image.specs.effects.Short.{needed_bits, needed_ids, old_need, short, space_reasons}
 use Rattle.fc_script.specs.Lines.{command_of}
 use Rattle.fc_script.specs.Texts.{ok_line, refusal_line}
 use Rattle.fc_runs.specs.Early.{reply_begun}
-use Rattle.fc_runs.specs.Run.{Answers, Mode, Serves, Step, Takes, is_error, layout_reason, shortage}
+use Rattle.fc_runs.specs.Run.{Answers, Mode, Serves, Step, Takes, is_error, keeps_tree_or, layout_reason, shortage}
 use Rattle.fc_runs.specs.Stops.{leaves_image_or}
 use Rattle.fc_tree.specs.Parts.{ArePartsOf}
 use Rattle.fc_holdings.specs.declared.error.CommandError.{CommandError}
@@ -50,7 +51,12 @@ use Rattle.fc_shell.proofs.StepLemmas.{left_ends, unbegun_ends}
 use Rattle.fc_shell.proofs.WritingLemmas.{wrote_nothing}
 use Rattle.fc_laws.proofs.lemmas.takeover.KindLemmas.{old_never}
 use Rattle.fc_runs.proofs.ErrorLemmas.{ok_no_error}
+use Rattle.fc_runs.proofs.LeftLemmas.{left_if_kept}
 use Rattle.fc_volume.proofs.StandsLemmas.{new_layout as new_of}
+
+pub or_true : (b : Bool) → (b || true) ≡ true
+or_true true = refl
+or_true false = refl
 
 -- ---- kinds
 
@@ -138,6 +144,15 @@ module _ {D K : Type 0} {d : Ghosts D} (law : Laws d) (k : Sinks K) (kind : Kind
       let stays = (asked.objects m.0 (parts.layout ∙ m.1)).stops.since image left s.image told kind r.0 s.view m.0 r.1 opens m.1 refl in
       record { view = with_map stays.0 s.view; opens = stays.1.opens; tree = stays.1.tree }
 
+  -- So does every exit.
+  exits : (done : Result (Unit {0}) CommandError) → IsCompacting d was v old new done → IsNewLayout s.view.layout → ForSome (d.bytes new) (HasTree kind (tree_in s))
+  exits done asked new_map image here =
+      let m = new_of s.view.layout new_map in
+      let r = new_kind s.image kind s.view m.0 opens m.1 in
+      let exit = (asked.objects m.0 (parts.layout ∙ m.1)).exit s.image told in
+      let stays = exit.2 kind r.0 s.view m.0 r.1 opens m.1 refl in
+      subst (HasTree kind (tree_in s)) (one_told (sym exit.1 ∙ here)) (record { view = with_map stays.0 s.view; opens = stays.1.opens; tree = stays.1.tree })
+
   -- It was done.
   done_ends : (done : Unit {0}) (result : Result Bool LineFault) → IsCompacting d was v old new (Ok done) → Tells k before after (Ok done) result
       → LineEnds d old new kind was.read_only s v line (k.taken before) (k.taken after) result
@@ -152,6 +167,9 @@ module _ {D K : Type 0} {d : Ghosts D} (law : Laws d) (k : Sinks K) (kind : Kind
       image : leaves_image_or (is_error ok_line) (command_of line) ≡ false
       image = ap (leaves_image_or (is_error ok_line)) is ∙ ap (λ (b : Bool). b || false) (ok_no_error [])
 
+      tree : keeps_tree_or (is_error ok_line) (command_of line) ≡ true
+      tree = ap (keeps_tree_or (is_error ok_line)) is ∙ or_true (is_error ok_line)
+
       step : IsDone d old new kind was.read_only s line ok_line next
       step = record {
         step = compact_step (plain_mode kind was.read_only) s next line (writable_ok was.read_only done asked.refused.1) refl is opens compacts;
@@ -159,6 +177,7 @@ module _ {D K : Type 0} {d : Ghosts D} (law : Laws d) (k : Sinks K) (kind : Kind
         opens = compacts.opens.opens;
         kept = λ keep. kept (Ok done) asked;
         still = λ leaves. absurd (let clash : false ≡ true = sym image ∙ leaves in cc);
+        spared = λ at left. left_if_kept _ _ kind s _ at image tree (λ new_map. kept (Ok done) asked new_map at left);
       }
 
       by : (result : Result Bool LineFault) → Answered ok_line (k.taken before) (k.taken after) result → (result ≡ Err LineFault.Disk → ⊥)
@@ -182,6 +201,8 @@ module _ {D K : Type 0} {d : Ghosts D} (law : Laws d) (k : Sinks K) (kind : Kind
         holds = λ never. absurd (never refl);
         kept = λ keep. kept (Err CommandError.DiskFault) asked;
         still = λ leaves. absurd (let clash : false ≡ true = sym (ap (leaves_image_or false) is) ∙ leaves in cc);
+        spared = λ at left. left_if_kept _ _ kind s _ at (ap (leaves_image_or false) is) (ap (keeps_tree_or false) is) (λ new_map. kept (Err CommandError.DiskFault) asked new_map at left);
+        exit = λ at here. left_if_kept _ _ kind s _ at (ap (leaves_image_or false) is) (ap (keeps_tree_or false) is) (λ new_map. exits (Err CommandError.DiskFault) asked new_map at here);
       })
 
   -- It left everything.

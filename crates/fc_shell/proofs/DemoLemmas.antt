@@ -33,8 +33,10 @@ use Rattle.fc_shell.specs.Replies.{demo_limit, script_limit}
 use Rattle.fc_shell.specs.Serving.{ServesAs, cause_of}
 use Rattle.fc_shell.specs.Writing.{Wrote, WrotePart}
 use Rattle.fc_shell.proofs.PromiseLemmas.{no_fresh}
-use Rattle.fc_shell.proofs.ServingLemmas.{steps_long}
+use Rattle.fc_shell.proofs.TurnLemmas.{steps_long}
 use Rattle.fc_shell.proofs.WritingLemmas.{wrote_nothing}
+use Rattle.fc_device.proofs.StopLemmas.{one_told}
+use Rattle.fc_runs.specs.Stops.{IsLeftInLine, LeftByLine, LeftIn, StepsTo}
 
 -- ---- its script
 
@@ -112,6 +114,10 @@ module _ {D : Type 0} (d : Ghosts D) (old new : D) (kind : Kind) (read_only : Bo
     last = λ new_map keep image left. stops.last new_map (subst (λ (t : List ℕ). next_keeps_tree (commands_in t) replies ≡ true) own keep) image left;
     still = λ fresh none leave image left. absurd (cc);
     rest = λ leave image left. stops.rest (subst (λ (t : List ℕ). next_leaves_image (commands_in t) replies ≡ true) own leave) image left;
+    along = λ plain fresh image left.
+        subst (λ (t : List ℕ). IsLeftInLine (StepsTo mode s (commands_in t) replies) (LeftByLine kind) (commands_in t) replies image) (sym own) (stops.along plain fresh image left);
+    ending = λ plain image left.
+        subst (λ (t : List ℕ). LeftIn (LeftByLine kind end) end (slice_get (commands_in t) (length replies)) None image) (sym own) (stops.ending plain image left);
     during = λ safe fresh image left. absurd (no_fresh safe);
     exit = λ safe image left. absurd (no_fresh safe);
   }
@@ -157,6 +163,7 @@ module _ {D : Type 0} (d : Ghosts D) (old new : D) (kind : Kind) (read_only : Bo
         whole = λ demo disk. absurd (cc);
         holds = λ spares. has.holds;
         settled = λ spares. inl has.settled;
+        spared = λ plain image here. subst (λ (o : Option (List ℕ)). LeftIn (LeftByLine kind has.end) has.end o None image) (sym none) (one_told (sym here ∙ has.holds));
         stops = λ quiet. stops_demo has.end replies text line (has.stops quiet);
       }
 
@@ -174,6 +181,8 @@ module _ {D : Type 0} (d : Ghosts D) (old new : D) (kind : Kind) (read_only : Bo
     whole = λ demo disk. absurd (cc);
     holds = λ spares. has.holds (less spares);
     settled = λ spares. has.settled (less spares);
+    spared = λ plain image here.
+        subst (λ (t : List ℕ). LeftIn (LeftByLine kind has.end) has.end (slice_get (commands_in t) (length has.ended.replies)) None image) (sym own) (has.spared plain image here);
     stops = λ quiet. stops_demo has.end has.ended.replies text [] (has.stops quiet);
   }
 

@@ -53,6 +53,8 @@ use Rattle.fc_shell.proofs.MovingLemmas.{moved_same, cuts_move}
 use Rattle.fc_tree.proofs.PathLemmas.{some_same as same_node}
 use Rattle.fc_shell.proofs.StepLemmas.{same_image, same_tree}
 use Rattle.fc_shell.proofs.WritingLemmas.{wrote_nothing}
+use Rattle.fc_device.proofs.StopLemmas.{one_told}
+use Rattle.fc_runs.proofs.LeftLemmas.{host_left_same}
 
 -- ---- the file's bytes
 
@@ -185,6 +187,8 @@ module _ {D : Type 0} {d : Ghosts D} (law : Laws d) (kind : Kind) (v : Volume) (
       holds = λ spares. reads.bytes ∙ told;
       kept = λ keeps. same_tree law kind v s [] old new before after quiet told opens reads.stops;
       still = λ leaves. same_image law kind v s [] old new before after quiet told opens reads.stops;
+      spared = λ image since. host_left_same kind s opens image (same_image law kind v s [] old new before after quiet told opens reads.stops image since) false line;
+      exit = λ image here. host_left_same kind s opens image (one_told (sym here ∙ (reads.bytes ∙ told))) false line;
     };
   })
 

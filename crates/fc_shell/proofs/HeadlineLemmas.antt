@@ -16,7 +16,7 @@ use Rattle.fc_shell.specs.Headline.{IsAnsweredByMap, start_of}
 use Rattle.fc_shell.specs.Modes.{plain_mode}
 use Rattle.fc_shell.specs.Promise.{EndsBefore, EndsByGiving, EndsByLength, EndsByOpening, EndsByWords, EndsOnFault, EndsOver, EndsWithout, Promise}
 use Rattle.fc_shell.specs.Replies.{blank_size, image_for, is_unbuilt, script_limit}
-use Rattle.fc_shell.proofs.ServingLemmas.{steps_weaker}
+use Rattle.fc_shell.proofs.TurnLemmas.{steps_weaker}
 
 -- All lines were done.
 abbrev IsWhole : End → Type 0

@@ -40,6 +40,8 @@ use Rattle.fc_shell.specs.Replies.{image_for}
 use Rattle.fc_shell.specs.Writing.{Wrote}
 use Rattle.fc_shell.proofs.KeptLemmas.{fresh_opens}
 use Rattle.fc_shell.proofs.PromiseLemmas.{fault_from, may_from, no_fresh, no_run, none, same_unwritten}
+use Rattle.fc_device.proofs.StopLemmas.{one_told}
+use Rattle.fc_runs.proofs.LeftLemmas.{asked_first, host_ends_same}
 
 -- ---- from an earlier moment on
 
@@ -59,9 +61,9 @@ module _ {D : Type 0} {d : Ghosts D} (law : Laws d) (old mid new : D) (first : L
         let unwritten = same there in
         law.settled old was_quiet s.image (sym unwritten.bytes_stay ∙ told) image (unwritten.stops.since image was)
 
-    stops_from : (end : State) (lines replies : List (List ℕ)) → d.pending old ≡ false → AskedStops d served_line_of mid new mode false s end lines replies
-        → AskedStops d served_line_of old new mode fresh s end lines replies
-    stops_from end lines replies was_quiet stops = record {
+    stops_from : (end : State) (lines replies : List (List ℕ)) (asks : List (List Asked)) → d.pending old ≡ false → AskedStops d served_line_of mid new mode false s end lines replies asks
+        → AskedStops d served_line_of old new mode fresh s end lines replies asks
+    stops_from end lines replies asks was_quiet stops = record {
       idle = λ new_map there keep image left.
           ⊎_elim
           (λ was. let tree = has_tree kind s image opens (image_before there was_quiet image was) in record { view = tree.view; opens = tree.opens; tree = tree.tree })
@@ -71,6 +73,10 @@ module _ {D : Type 0} {d : Ghosts D} (law : Laws d) (old mid new : D) (first : L
       still = λ there leave image left.
           ⊎_elim (λ was. image_before there was_quiet image was) (λ since. stops.still refl leave image since) (second.before (d.moment old) image first.later left);
       rest = stops.rest;
+      along = λ there image left.
+          ⊎_elim (λ was. asked_first served_line_of mode s opens lines replies asks image (image_before there was_quiet image was)) (λ since. stops.along refl image since)
+          (second.before (d.moment old) image first.later left);
+      ending = stops.ending;
     }
 
     run_from : (refused : Bool) → AskedHasRun d served_line_of mid new mode false s files left asked script text refused
@@ -87,7 +93,7 @@ module _ {D : Type 0} {d : Ghosts D} (law : Laws d) (old mid new : D) (first : L
       refused_is = has.refused_is;
       holds = has.holds;
       settled = has.settled;
-      stops = λ was_quiet. stops_from has.end (commands_in script) has.replies was_quiet (has.stops quiet);
+      stops = λ was_quiet. stops_from has.end (commands_in script) has.replies has.asks was_quiet (has.stops quiet);
     }
 
     stopped_from : (cause : Cause) → AskedHasStopped d served_line_of mid new mode false s files left asked script text cause
@@ -108,8 +114,9 @@ module _ {D : Type 0} {d : Ghosts D} (law : Laws d) (old mid new : D) (first : L
       told = has.told;
       whole = has.whole;
       holds = has.holds;
+      spared = has.spared;
       settled = λ spares. ⊎_elim (λ done. inl done) (λ is. inl (subst (λ (x : D). d.pending x ≡ false) (sym is) quiet)) (has.settled spares);
-      stops = λ was_quiet. stops_from has.end (commands_in script) has.replies was_quiet (has.stops quiet);
+      stops = λ was_quiet. stops_from has.end (commands_in script) has.replies has.asks was_quiet (has.stops quiet);
     }
 
     over_from : (end : End) → is_late end ≡ true → MovesOver d mid new mode false s files left asked script text end → MovesOver d old new mode fresh s files left asked script text end
@@ -165,6 +172,7 @@ module _ {D : Type 0} {d : Ghosts D} (law : Laws d) (old new : D) (files : Optio
     whole = λ disk. refl;
     holds = λ spares. same.bytes_stay ∙ told;
     settled = settled;
+    spared = λ image here. host_ends_same served_line_of kind s opens _ image (one_told (sym here ∙ (same.bytes_stay ∙ told)));
     stops = λ quiet. record {
       idle = λ new_map there keep image left.
           let tree = has_tree kind s image opens (law.settled old quiet s.image told image (same.stops.since image left)) in
@@ -173,6 +181,9 @@ module _ {D : Type 0} {d : Ghosts D} (law : Laws d) (old new : D) (files : Optio
           (law.settled old quiet s.image told image (same.stops.since image (law.earlier new (d.moment old) (d.moment new) image same.stops.later left)));
       still = λ there leave image left. law.settled old quiet s.image told image (same.stops.since image left);
       rest = λ leave image left. law.settled old quiet s.image told image (same.stops.since image (law.earlier new (d.moment old) (d.moment new) image same.stops.later left));
+      along = λ there image left. asked_first served_line_of (plain_mode kind read_only) s opens _ [] [] image (law.settled old quiet s.image told image (same.stops.since image left));
+      ending = λ image left.
+          host_ends_same served_line_of kind s opens _ image (law.settled old quiet s.image told image (same.stops.since image (law.earlier new (d.moment old) (d.moment new) image same.stops.later left)));
     };
   }
 

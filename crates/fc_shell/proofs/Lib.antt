@@ -1,6 +1,7 @@
 mod AccessLemmas
 mod AskedLemmas
 mod ChangeLemmas
+mod CommandLemmas
 mod CompactLemmas
 mod DemoLemmas
 mod LineLemmas
@@ -16,6 +17,8 @@ mod ReclaimLemmas
 mod ScriptLemmas
 mod ServingLemmas
 mod StepLemmas
+mod SparesLemmas
+mod TurnLemmas
 pub mod AnsweredLemmas
 pub mod HashLemmas
 pub mod BlockLemmas

@@ -39,6 +39,9 @@ use Rattle.fc_shell.specs.Reads.{is_reading_line}
 use Rattle.fc_shell.specs.Writing.{WrotePart}
 use Rattle.fc_shell.proofs.StepLemmas.{same_image, same_tree, stands_read}
 use Rattle.fc_shell.proofs.WritingLemmas.{wrote_nothing}
+use Rattle.fc_device.proofs.StopLemmas.{one_told}
+use Rattle.fc_runs.specs.Stops.{LeftBy}
+use Rattle.fc_runs.proofs.LeftLemmas.{host_left_same}
 
 -- ---- faults
 
@@ -98,7 +101,7 @@ module _ {D : Type 0} {d : Ghosts D} (law : Laws d) (kind : Kind) (v : Volume) (
   pub moved_same : (reply : List ℕ) (asked : List Asked) (files left : Option Files) → AskedTakes mode s asked line reply s → AnswersCalls files asked left
       → IsMoved d old new mode s line reply asked files left s
   moved_same reply asked files left step answered =
-      record { step = step; answered = answered; holds = reads.bytes ∙ told; opens = opens; kept = λ keeps. tree_stays; still = λ leaves. image_stays }
+      record { step = step; answered = answered; holds = reads.bytes ∙ told; opens = opens; kept = λ keeps. tree_stays; still = λ leaves. image_stays; spared = λ image since. host_left_same kind s opens image (image_stays image since) (is_error reply) line }
 
   pub told_moves : (reply : List ℕ) (asked : List Asked) (files left : Option Files) → AskedTakes mode s asked line reply s → AnswersCalls files asked left → ArePartsOf (parts_of v) s.view
       → (r : Result Bool LineFault) → (r ≡ Err LineFault.Disk → ⊥) → Answered reply before after r → LineMoves d old new kind v.read_only s v line before after asked files left (moved_result r)
@@ -125,6 +128,8 @@ module _ {D : Type 0} {d : Ghosts D} (law : Laws d) (kind : Kind) (v : Volume) (
           holds = λ spares. reads.bytes ∙ told;
           kept = λ keeps. tree_stays;
           still = λ leaves. image_stays;
+          spared = λ image since. host_left_same kind s opens image (image_stays image since) false line;
+          exit = λ image here. host_left_same kind s opens image (one_told (sym here ∙ (reads.bytes ∙ told))) false line;
         };
       })
 
@@ -160,6 +165,7 @@ module _ {D : Type 0} (d : Ghosts D) (old new : D) (kind : Kind) (read_only : Bo
     opens = done.opens;
     kept = λ keeps. done.kept (ap (keeps_tree_or (is_error reply)) is ∙ keeps);
     still = λ leaves. done.still (ap (leaves_image_or (is_error reply)) is ∙ leaves);
+    spared = λ image since. subst (λ (r : Result Command Refusal). LeftBy kind s (is_error reply) r image) is (done.spared image since);
   }
 
   pub command_moves : (v : Volume) (r : Result Bool LineFault) → LineEnds d old new kind read_only s v line before after r
@@ -175,6 +181,8 @@ module _ {D : Type 0} (d : Ghosts D) (old new : D) (kind : Kind) (read_only : Bo
       holds = λ spares. x.holds (spares_line fault spares);
       kept = λ keeps. x.kept (ap (keeps_tree_or false) is ∙ keeps);
       still = λ leaves. x.still (ap (leaves_image_or false) is ∙ leaves);
+      spared = λ image since. subst (λ (r : Result Command Refusal). LeftBy kind s false r image) is (x.spared image since);
+      exit = λ image here. subst (λ (r : Result Command Refusal). LeftBy kind s false r image) is (x.exit image here);
     };
   })
 

@@ -27,7 +27,7 @@ use Rattle.fc_shell.specs.Promise.{EndsBefore, EndsByGiving, EndsByLength, EndsB
 use Rattle.fc_shell.specs.Replies.{AsksNoDemo, EndsAs, attached_reply, blank_size, command_reply, image_for, is_unbuilt, line_reply, opened_reply, replies_of, request_reply, script_limit, script_reply, served, silent}
 use Rattle.fc_shell.specs.Writing.{Wrote, WrotePart}
 use Rattle.fc_shell.proofs.ReadsLemmas.{one_row, one_step}
-use Rattle.fc_shell.proofs.ServingLemmas.{steps_weaker}
+use Rattle.fc_shell.proofs.TurnLemmas.{steps_weaker}
 use Rattle.fc_shell.proofs.WritingLemmas.{part_of_first}
 use Rattle.std.proofs.lemmas.Bool.{and_parts as both_true}
 

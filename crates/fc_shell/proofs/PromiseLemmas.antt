@@ -35,9 +35,11 @@ use Rattle.fc_shell.specs.Writing.{Wrote, WrotePart}
 use Rattle.fc_runs.specs.Replies.{bad_image_line}
 use Rattle.fc_volume.specs.Volume.{OnlyShapes}
 use Rattle.fc_shell.proofs.WritingLemmas.{wrote_nothing}
-use Rattle.fc_shell.proofs.ServingLemmas.{steps_weaker}
+use Rattle.fc_shell.proofs.TurnLemmas.{steps_weaker}
 use Rattle.fc_image.specs.Laws.{AcceptedLaw as Accepts}
 use Rattle.fc_runs.proofs.StepLemmas.{has_tree}
+use Rattle.fc_device.proofs.StopLemmas.{one_told}
+use Rattle.fc_runs.proofs.LeftLemmas.{ends_same, left_first}
 
 pub no_fresh : false ≡ true → ⊥
 no_fresh e = cc
@@ -83,6 +85,13 @@ module _ {D : Type 0} {d : Ghosts D} (law : Laws d) (old mid new : D) (first : L
           (λ since. stops.still refl none leave image since)
           (second.before (d.moment old) image first.later left);
       rest = stops.rest;
+      along = λ plain there image left.
+          let unwritten = same there in
+          ⊎_elim
+          (λ was. left_first mode s opens lines replies image (law.settled old was_quiet s.image (sym unwritten.bytes_stay ∙ told) image (unwritten.stops.since image was)))
+          (λ since. stops.along plain refl image since)
+          (second.before (d.moment old) image first.later left);
+      ending = stops.ending;
       during = λ safe there image left. absurd (no_fresh safe);
       exit = λ safe image left. absurd (no_fresh safe);
     }
@@ -113,6 +122,7 @@ module _ {D : Type 0} {d : Ghosts D} (law : Laws d) (old mid new : D) (first : L
       };
       whole = has.whole;
       holds = has.holds;
+      spared = has.spared;
       settled = λ spares. ⊎_elim (λ done. inl done) (λ is. inl (subst (λ (x : D). d.pending x ≡ false) (sym is) quiet)) (has.settled spares);
       stops = λ was_quiet. stops_from has.end _ has.ended.replies was_quiet (has.stops quiet);
     }
@@ -180,6 +190,7 @@ module _ {D : Type 0} {d : Ghosts D} (law : Laws d) (old new : D) where
     whole = λ none disk. refl;
     holds = λ spares. same.bytes_stay ∙ told;
     settled = settled;
+    spared = λ plain image here. ends_same kind s opens _ image (one_told (sym here ∙ (same.bytes_stay ∙ told)));
     stops = λ quiet. record {
       idle = λ new_map there none keep image left.
           let tree = has_tree kind s image opens (law.settled old quiet s.image told image (same.stops.since image left)) in
@@ -188,6 +199,9 @@ module _ {D : Type 0} {d : Ghosts D} (law : Laws d) (old new : D) where
           (law.settled old quiet s.image told image (same.stops.since image (law.earlier new (d.moment old) (d.moment new) image same.stops.later left)));
       still = λ there none leave image left. law.settled old quiet s.image told image (same.stops.since image left);
       rest = λ leave image left. law.settled old quiet s.image told image (same.stops.since image (law.earlier new (d.moment old) (d.moment new) image same.stops.later left));
+      along = λ plain there image left. left_first (plain_mode kind read_only) s opens _ [] image (law.settled old quiet s.image told image (same.stops.since image left));
+      ending = λ plain image left.
+          ends_same kind s opens _ image (law.settled old quiet s.image told image (same.stops.since image (law.earlier new (d.moment old) (d.moment new) image same.stops.later left)));
       during = λ safe there image left. absurd (no_fresh safe);
       exit = λ safe image left. absurd (no_fresh safe);
     };

@@ -2,12 +2,12 @@
 use Rattle.std.proofs.Common.{◌≡◌, ◌⊎◌, ℕ, Bool, true, false, ◌||◌, List, [], ◌∷◌, ◌++◌, length, Option, Some, None, Result, Ok, Err, inl, inr, refl, sym, ap, ap₂, subst, ◌∙◌, append_assoc}
 use Rattle.std.specs.Prelude.{IfErr, codes}
 use Rattle.std.specs.Fmt.{decimal}
-use Rattle.std.specs.Option.{option_map}
+use Rattle.std.specs.Option.{ForSome, option_map}
 use Rattle.fc_device.specs.declared.disk.Disk.{Ghosts}
 use Rattle.fc_device.specs.declared.streams.Sink.{Ghosts as Sinks}
 use Rattle.fc_device.specs.Calls.{OnlyReads}
 use Rattle.fc_device.proofs.DiskLaws.{Laws}
-use Rattle.fc_device.proofs.StopLemmas.{reads_start}
+use Rattle.fc_device.proofs.StopLemmas.{one_told, reads_start}
 use Rattle.fc_names.specs.declared.name.NameForm.{NameForm}
 use Rattle.fc_names.specs.declared.refusal.Refusal.{Refusal}
 use Rattle.fc_names.specs.declared.refusal.Refusal.TheVariants as refusals
@@ -24,10 +24,11 @@ use Rattle.fc_image.specs.effects.Effect.{State, tree_in}
 use Rattle.fc_image.specs.effects.Sharing.{new_ids}
 use Rattle.fc_image.specs.effects.Short.{needed_bits, needed_ids, short, space_reasons}
 use Rattle.fc_image.specs.safe.Reclaim.{Reclaims, reclaimed_bytes}
+use Rattle.fc_image.specs.safe.SafeEffect.{HasTree}
 use Rattle.fc_script.specs.Lines.{command_of}
 use Rattle.fc_script.specs.Texts.{ok_line, reclaimed_line, refusal_line}
 use Rattle.fc_runs.specs.Early.{reply_begun}
-use Rattle.fc_runs.specs.Run.{Answers, Serves, Step, Takes, is_error, layout_reason, shortage}
+use Rattle.fc_runs.specs.Run.{Answers, Serves, Step, Takes, is_error, keeps_tree_or, layout_reason, shortage}
 use Rattle.fc_runs.specs.Stops.{leaves_image_or}
 use Rattle.fc_tree.specs.Parts.{ArePartsOf}
 use Rattle.fc_holdings.specs.declared.error.CommandError.{CommandError}
@@ -42,10 +43,12 @@ use Rattle.fc_shell.specs.Modes.{plain_mode}
 use Rattle.fc_shell.specs.Reads.{is_reading_line}
 use Rattle.fc_shell.specs.Writing.{Wrote, WrotePart}
 use Rattle.fc_shell.proofs.ChangeLemmas.{going}
+use Rattle.fc_shell.proofs.CompactLemmas.{or_true}
 use Rattle.fc_shell.proofs.ShortageLemmas.{new_enough}
 use Rattle.fc_shell.proofs.StepLemmas.{left_ends}
 use Rattle.fc_shell.proofs.WritingLemmas.{part_of_first, part_of_second, wrote_nothing}
 use Rattle.fc_runs.proofs.ErrorLemmas.{ok_no_error}
+use Rattle.fc_runs.proofs.LeftLemmas.{left_if_kept}
 use Rattle.fc_lost.proofs.KeepsLemmas.{one_some as some_same}
 
 -- ---- the reply in pieces
@@ -153,6 +156,13 @@ module _ {D K : Type 0} {d : Ghosts D} (law : Laws d) (k : Sinks K) (kind : Kind
       let stays = (asked.owned (subst IsNewLayout (sym parts.layout) new_map)).stops.since image left s.image told kind s.view opens parts in
       record { view = stays.view; opens = stays.opens; tree = stays.tree }
 
+  -- So does every exit.
+  exits : (done : Result ℕ CommandError) → IsReclaiming d was v old new done → IsNewLayout s.view.layout → ForSome (d.bytes new) (HasTree kind (tree_in s))
+  exits done asked new_map image here =
+      let exit = (asked.owned (subst IsNewLayout (sym parts.layout) new_map)).exit s.image told in
+      let stays = exit.2 kind s.view opens parts in
+      subst (HasTree kind (tree_in s)) (one_told (sym exit.1 ∙ here)) (record { view = stays.view; opens = stays.opens; tree = stays.tree })
+
   -- It was done.
   done_ends : (bytes : ℕ) (result : Result Bool LineFault) → IsReclaiming d was v old new (Ok bytes) → TellsBy reclaimed_reply k before after (Ok bytes) result
       → LineEnds d old new kind was.read_only s v line (k.taken before) (k.taken after) result
@@ -179,6 +189,9 @@ module _ {D K : Type 0} {d : Ghosts D} (law : Laws d) (k : Sinks K) (kind : Kind
       image : leaves_image_or (is_error (reclaimed_reply bytes)) (command_of line) ≡ false
       image = ap (leaves_image_or (is_error (reclaimed_reply bytes))) is ∙ ap (λ (b : Bool). b || false) (reclaimed_no_error bytes)
 
+      tree : keeps_tree_or (is_error (reclaimed_reply bytes)) (command_of line) ≡ true
+      tree = ap (keeps_tree_or (is_error (reclaimed_reply bytes))) is ∙ or_true (is_error (reclaimed_reply bytes))
+
       step : IsDone d old new kind was.read_only s line (reclaimed_reply bytes) next
       step = record {
         step = subst (λ (n : ℕ). Step (plain_mode kind was.read_only) s line (reclaimed_reply n) next) (sym given) (done_step kind was.read_only s line is next may.1.0 may.0 may.1.1 reclaims);
@@ -186,6 +199,7 @@ module _ {D K : Type 0} {d : Ghosts D} (law : Laws d) (k : Sinks K) (kind : Kind
         opens = reclaims.opens.opens;
         kept = λ keep. kept (Ok bytes) asked;
         still = λ leaves. absurd (let clash : false ≡ true = sym image ∙ leaves in cc);
+        spared = λ at left. left_if_kept _ _ kind s _ at image tree (λ new_map. kept (Ok bytes) asked new_map at left);
       }
 
       by : (result : Result Bool LineFault) → Answered (reclaimed_reply bytes) (k.taken before) (k.taken after) result → (result ≡ Err LineFault.Disk → ⊥)
@@ -209,6 +223,8 @@ module _ {D K : Type 0} {d : Ghosts D} (law : Laws d) (k : Sinks K) (kind : Kind
         holds = λ never. absurd (never refl);
         kept = λ keep. kept (Err CommandError.DiskFault) asked;
         still = λ leaves. absurd (let clash : false ≡ true = sym (ap (leaves_image_or false) is) ∙ leaves in cc);
+        spared = λ at left. left_if_kept _ _ kind s _ at (ap (leaves_image_or false) is) (ap (keeps_tree_or false) is) (λ new_map. kept (Err CommandError.DiskFault) asked new_map at left);
+        exit = λ at here. left_if_kept _ _ kind s _ at (ap (leaves_image_or false) is) (ap (keeps_tree_or false) is) (λ new_map. exits (Err CommandError.DiskFault) asked new_map at here);
       })
 
   -- A refusal left everything.

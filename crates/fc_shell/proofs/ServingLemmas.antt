@@ -1,5 +1,5 @@
 -- Serving line after line.
-use Rattle.std.proofs.Common.{◌≡◌, ◌⊎◌, inl, inr, ⊎_elim, ℕ, ◌+◌, suc, Bool, true, false, ◌||◌, List, [], ◌∷◌, ◌++◌, length, take, Option, Some, None, Ok, Err, cond, nat_lt, refl, sym, ap, ap₂, subst, ◌∙◌, arith, append_assoc}
+use Rattle.std.proofs.Common.{◌≡◌, ◌⊎◌, inl, inr, ⊎_elim, ℕ, ◌+◌, Bool, true, false, ◌||◌, List, [], ◌∷◌, ◌++◌, length, take, Option, Some, None, Ok, Err, cond, nat_lt, refl, sym, ap, ap₂, subst, ◌∙◌, arith, append_assoc}
 use Rattle.std.specs.Prelude.{slice_get}
 use Rattle.std.specs.List.{count_by, list_any}
 use Rattle.std.proofs.lemmas.Bool.Decides.{nat_tests}
@@ -9,18 +9,17 @@ use Rattle.std.proofs.Math.Seq.{take-append-add}
 use Rattle.fc_device.specs.declared.disk.Disk.{Ghosts}
 use Rattle.fc_device.proofs.DiskLaws.{Laws}
 use Rattle.fc_record.specs.declared.Kind.{Kind}
-use Rattle.fc_image.specs.Stays.{IsNewLayout, OpensAs}
+use Rattle.fc_image.specs.Stays.{OpensAs}
 use Rattle.fc_image.specs.effects.Effect.{State, tree_in}
 use Rattle.fc_image.specs.safe.SafeEffect.{HasTree}
 use Rattle.fc_script.specs.Lines.{command_of}
 use Rattle.fc_runs.specs.Early.{reply_begun, text_begun}
 use Rattle.fc_runs.specs.Meanwhile.{GoesOn}
 use Rattle.fc_runs.specs.Promises.{spares_disk}
-use Rattle.fc_runs.specs.Run.{Mode, Step, Steps, all_keep_tree, commands_in, each_line, is_error, keeps_tree_or, text_of}
+use Rattle.fc_runs.specs.Run.{Mode, Steps, all_keep_tree, commands_in, is_error, keeps_tree_or, text_of}
 use Rattle.fc_runs.specs.Stops.{MayHaveLeft, all_leave_image, is_kept_by_next, leaves_image_or}
 use Rattle.fc_runs.proofs.MeanwhileLemmas.{goes_then}
-use Rattle.fc_runs.proofs.RepliesLemmas.{taken_kept}
-use Rattle.fc_runs.proofs.StepLemmas.{has_tree, step_keeps, step_leaves}
+use Rattle.fc_runs.proofs.StepLemmas.{has_tree}
 use Rattle.fc_runs.proofs.TextLemmas.{begun_front, front_part, get_next, one_more, whole_all}
 use Rattle.fc_tree.specs.Parts.{ArePartsOf}
 use Rattle.fc_volume.specs.Volume.{Volume, parts_of}
@@ -33,8 +32,12 @@ use Rattle.fc_shell.specs.Line.{BreaksOff, IsAnswered, IsCutOff, IsDone, LineEnd
 use Rattle.fc_shell.specs.Modes.{plain_mode}
 use Rattle.fc_shell.specs.Serving.{AreDone, HasServed, ServesAs, cause_of}
 use Rattle.fc_shell.specs.Writing.{Wrote}
+use Rattle.fc_shell.proofs.TurnLemmas.{each_done, each_front, each_last, each_next, keeps, leaves, steps_keep, steps_leave, steps_long, steps_more, steps_new, steps_weaker}
 use Rattle.fc_shell.proofs.WritingLemmas.{wrote_nothing, wrote_both}
-use Rattle.std.proofs.lemmas.Bool.{and_parts as both_true, and_from as true_both}
+use Rattle.std.proofs.lemmas.Bool.{and_parts as both_true}
+use Rattle.fc_device.proofs.StopLemmas.{one_told}
+use Rattle.fc_runs.specs.Stops.{IsLeftInLine, LeftByLine, LeftIn, StepsTo}
+use Rattle.fc_runs.proofs.LeftLemmas.{ends_same, left_by_same, left_front, left_last, left_more, left_next, steps_longer, steps_to_all, steps_to_more}
 
 -- ---- tests
 
@@ -46,103 +49,6 @@ spares_first ro now line left same (inr reads) = inr (both_true (is_reading_line
 pub spares_rest : (ro : Bool) (line : List ℕ) (left : List (List ℕ)) → Spares ro (line ∷ left) → Spares ro left
 spares_rest ro line left (inl locked) = inl locked
 spares_rest ro line left (inr reads) = inr (both_true (is_reading_line (command_of line)) (all_read left) reads).1
-
--- what lines are tested for
-abbrev keeps : Bool → List ℕ → Bool
-keeps refused line = keeps_tree_or refused (command_of line)
-
-abbrev leaves : Bool → List ℕ → Bool
-leaves refused line = leaves_image_or refused (command_of line)
-
--- ---- steps
-
-pub steps_weaker : (May Might : List ℕ → Type 0) → ((image : List ℕ) → May image → Might image) → (mode : Mode) (s s' : State) (lines replies : List (List ℕ))
-    → Steps May mode s lines replies s' → Steps Might mode s lines replies s'
-steps_weaker May Might less mode s s' [] [] x = x
-steps_weaker May Might less mode s s' [] (reply ∷ replies) x = absurd x
-steps_weaker May Might less mode s s' (line ∷ lines) [] x = absurd x
-steps_weaker May Might less mode s s' (line ∷ lines) (reply ∷ replies) x =
-    (x.0, less x.0.image x.1, x.2, steps_weaker May Might less mode x.0 s' lines replies x.3)
-
-module _ (May : List ℕ → Type 0) (mode : Mode) where
-  -- one line more
-  steps_more : (s mid s' : State) (lines replies : List (List ℕ)) (line reply : List ℕ) → Steps May mode s lines replies mid → May s'.image → Step mode mid line reply s'
-      → Steps May mode s (lines ++ line ∷ []) (replies ++ reply ∷ []) s'
-  steps_more s mid s' [] [] line reply x may step = (s', may, subst (λ (x : State). Step mode x line reply s') x step, refl)
-  steps_more s mid s' [] (r ∷ replies) line reply x may step = absurd x
-  steps_more s mid s' (l ∷ lines) [] line reply x may step = absurd x
-  steps_more s mid s' (l ∷ lines) (r ∷ replies) line reply x may step =
-      (x.0, x.1, x.2, steps_more x.0 mid s' lines replies line reply x.3 may step)
-
-  -- each line has one reply
-  pub steps_long : (s s' : State) (lines replies : List (List ℕ)) → Steps May mode s lines replies s' → length replies ≡ length lines
-  steps_long s s' [] [] x = refl
-  steps_long s s' [] (reply ∷ replies) x = absurd x
-  steps_long s s' (line ∷ lines) [] x = absurd x
-  steps_long s s' (line ∷ lines) (reply ∷ replies) x = ap suc (steps_long x.0 s' lines replies x.3)
-
-  -- a new map stays one
-  steps_new : (s s' : State) (lines replies : List (List ℕ)) → Steps May mode s lines replies s' → IsNewLayout s.view.layout → IsNewLayout s'.view.layout
-  steps_new s s' [] [] x new = subst (λ (x : State). IsNewLayout x.view.layout) (sym x) new
-  steps_new s s' [] (reply ∷ replies) x new = absurd x
-  steps_new s s' (line ∷ lines) [] x new = absurd x
-  steps_new s s' (line ∷ lines) (reply ∷ replies) x new =
-      steps_new x.0 s' lines replies x.3 (taken_kept mode s x.0 reply (command_of line) new x.2).0
-
-  -- Lines that keep the tree leave it.
-  steps_keep : (s s' : State) (lines replies : List (List ℕ)) → Steps May mode s lines replies s' → all_keep_tree lines replies ≡ true → tree_in s' ≡ tree_in s
-  steps_keep s s' [] [] x keep = ap tree_in x
-  steps_keep s s' [] (reply ∷ replies) x keep = absurd x
-  steps_keep s s' (line ∷ lines) [] x keep = absurd x
-  steps_keep s s' (line ∷ lines) (reply ∷ replies) x keep =
-      let both = both_true (keeps_tree_or (is_error reply) (command_of line)) (all_keep_tree lines replies) keep in
-      steps_keep x.0 s' lines replies x.3 both.1 ∙ step_keeps mode s x.0 (command_of line) reply x.2 both.0
-
-  -- Lines that are refused or read leave everything.
-  steps_leave : (s s' : State) (lines replies : List (List ℕ)) → Steps May mode s lines replies s' → all_leave_image lines replies ≡ true → s' ≡ s
-  steps_leave s s' [] [] x leave = x
-  steps_leave s s' [] (reply ∷ replies) x leave = absurd x
-  steps_leave s s' (line ∷ lines) [] x leave = absurd x
-  steps_leave s s' (line ∷ lines) (reply ∷ replies) x leave =
-      let both = both_true (leaves_image_or (is_error reply) (command_of line)) (all_leave_image lines replies) leave in
-      steps_leave x.0 s' lines replies x.3 both.1 ∙ step_leaves mode s x.0 (command_of line) reply x.2 both.0
-
-  module _ (test : Bool → List ℕ → Bool) where
-    -- What each line passes, those that were done pass,
-    each_done : (s s' : State) (lines replies left : List (List ℕ)) → Steps May mode s lines replies s' → each_line test (lines ++ left) replies ≡ true → each_line test lines replies ≡ true
-    each_done s s' [] [] left x keep = refl
-    each_done s s' [] (reply ∷ replies) left x keep = absurd x
-    each_done s s' (line ∷ lines) [] left x keep = absurd x
-    each_done s s' (line ∷ lines) (reply ∷ replies) left x keep =
-        let both = both_true (test (is_error reply) line) (each_line test (lines ++ left) replies) keep in
-        true_both (test (is_error reply) line) (each_line test lines replies) both.0 (each_done x.0 s' lines replies left x.3 both.1)
-
-    -- and so does the next line,
-    each_next : (s s' : State) (lines replies : List (List ℕ)) (line : List ℕ) (left : List (List ℕ)) → Steps May mode s lines replies s'
-        → each_line test (lines ++ line ∷ left) replies ≡ true → test false line ≡ true
-    each_next s s' [] [] line left x keep = keep
-    each_next s s' [] (r ∷ replies) line left x keep = absurd x
-    each_next s s' (l ∷ lines) [] line left x keep = absurd x
-    each_next s s' (l ∷ lines) (r ∷ replies) line left x keep =
-        each_next x.0 s' lines replies line left x.3 (both_true (test (is_error r) l) (each_line test (lines ++ line ∷ left) replies) keep).1
-
-    -- or the last one that was done.
-    each_last : (s s' : State) (lines replies : List (List ℕ)) (line reply : List ℕ) → Steps May mode s lines replies s'
-        → each_line test (lines ++ line ∷ []) (replies ++ reply ∷ []) ≡ true → test (is_error reply) line ≡ true
-    each_last s s' [] [] line reply x keep = (both_true (test (is_error reply) line) true keep).0
-    each_last s s' [] (r ∷ replies) line reply x keep = absurd x
-    each_last s s' (l ∷ lines) [] line reply x keep = absurd x
-    each_last s s' (l ∷ lines) (r ∷ replies) line reply x keep =
-        each_last x.0 s' lines replies line reply x.3 (both_true (test (is_error r) l) (each_line test (lines ++ line ∷ []) (replies ++ reply ∷ [])) keep).1
-
-    each_front : (s s' : State) (lines replies : List (List ℕ)) (line reply : List ℕ) → Steps May mode s lines replies s'
-        → each_line test (lines ++ line ∷ []) (replies ++ reply ∷ []) ≡ true → each_line test lines replies ≡ true
-    each_front s s' [] [] line reply x keep = refl
-    each_front s s' [] (r ∷ replies) line reply x keep = absurd x
-    each_front s s' (l ∷ lines) [] line reply x keep = absurd x
-    each_front s s' (l ∷ lines) (r ∷ replies) line reply x keep =
-        let both = both_true (test (is_error r) l) (each_line test (lines ++ line ∷ []) (replies ++ reply ∷ [])) keep in
-        true_both (test (is_error r) l) (each_line test lines replies) both.0 (each_front x.0 s' lines replies line reply x.3 both.1)
 
 -- ---- counts
 
@@ -190,6 +96,23 @@ module _ {D : Type 0} {d : Ghosts D} (law : Laws d) where
     abbrev mode : Mode
     mode = plain_mode kind read_only
 
+    -- what a line may leave
+    abbrev by : State → Bool → List ℕ → List ℕ → Type 0
+    by = LeftByLine kind
+
+    same_by : (x : State) → OpensAs x.image kind x.view → (image : List ℕ) (refused : Bool) (line : List ℕ) → image ≡ x.image → by x refused line image
+    same_by x there image refused line same = left_by_same kind x there image same refused (command_of line)
+
+    -- Some lines were done, and `rest` are left.
+    along_done : (new : D) (rest : List (List ℕ)) → (are : AreDone d old new kind read_only s script rest) → (image : List ℕ) → d.left_since new (d.moment old) image
+        → IsLeftInLine (StepsTo mode s (commands_in script) are.replies) by (commands_in script) are.replies image
+    along_done new rest are image left =
+        let long = steps_long (MayHaveLeft d old new) mode s are.state are.done are.replies are.steps in
+        subst (λ (lines : List (List ℕ)). IsLeftInLine (StepsTo mode s lines are.replies) by lines are.replies image) (sym are.cut)
+        (left_front (StepsTo mode s are.done are.replies) (StepsTo mode s (are.done ++ rest) are.replies) by are.state are.done are.replies long
+        (steps_to_all (MayHaveLeft d old new) mode s are.state are.done are.replies long are.steps) image (same_by are.state are.opens image)
+        (λ n x low to. steps_longer mode s are.done are.replies long n low x rest to) rest (are.along image left))
+
     -- before the first line
     pub done_start : (left : List (List ℕ)) → left ≡ commands_in script → AreDone d old old kind read_only s script left
     done_start left all = record {
@@ -202,6 +125,7 @@ module _ {D : Type 0} {d : Ghosts D} (law : Laws d) where
       opens = opens;
       kept = λ keep new_map image left. has_tree kind s image opens (law.settled old quiet s.image told image left);
       still = λ leave image left. law.settled old quiet s.image told image left;
+      along = λ image left. inl (law.settled old quiet s.image told image left);
     }
 
     pub served_start : (left : List (List ℕ)) (v : Volume) (tally : Tally) (before : Option (List ℕ)) → left ≡ commands_in script → ArePartsOf (parts_of v) s.view
@@ -238,6 +162,16 @@ module _ {D : Type 0} {d : Ghosts D} (law : Laws d) where
           ⊎_elim (λ was. are.still front image was)
           (λ since. is.still last image since ∙ ap (λ (x : State). x.image) (steps_leave (MayHaveLeft d old mid) mode s are.state are.done are.replies are.steps front))
           (second.stops.before (d.moment old) image first.stops.later left);
+      along = λ image left.
+          let long = steps_long (MayHaveLeft d old mid) mode s are.state are.done are.replies are.steps in
+          let Before = StepsTo mode s are.done are.replies in
+          let After = StepsTo mode s (are.done ++ line ∷ []) (are.replies ++ reply ∷ []) in
+          let all = steps_to_all (MayHaveLeft d old mid) mode s are.state are.done are.replies long are.steps in
+          ⊎_elim (λ was. left_more Before After by are.state are.done are.replies long all image (same_by are.state are.opens image)
+          (λ n x low to. steps_to_more mode s are.done are.replies long n low x (line ∷ []) (reply ∷ []) to) line reply next (are.along image was))
+          (λ since. left_last Before After by are.state are.done are.replies long all image (same_by are.state are.opens image)
+          (λ n x low to. steps_to_more mode s are.done are.replies long n low x (line ∷ []) (reply ∷ []) to) line reply next (is.spared image since))
+          (second.stops.before (d.moment old) image first.stops.later left);
     }
 
     -- the image as it opened might have been left
@@ -271,6 +205,8 @@ module _ {D : Type 0} {d : Ghosts D} (law : Laws d) where
               still = λ fresh demo leave image left.
                   are.still (subst (λ (lines : List (List ℕ)). all_leave_image lines are.replies ≡ true) (sym all) leave) image left;
               rest = λ next image left. law.settled new settled are.state.image are.holds image left;
+              along = λ plain fresh. along_done new [] are;
+              ending = λ plain image left. ends_same kind are.state are.opens (slice_get (commands_in script) (length are.replies)) image (law.settled new settled are.state.image are.holds image left);
               during = λ safe fresh image left. absurd (cc);
               exit = λ safe image left. absurd (cc);
             };
@@ -314,6 +250,7 @@ module _ {D : Type 0} {d : Ghosts D} (law : Laws d) where
             whole = λ demo disk. absurd (cut.no_disk (is_disk fault disk));
             holds = λ spares. are.holds;
             settled = λ spares. inl now_quiet;
+            spared = λ plain image here. ends_same kind are.state are.opens next image (one_told (sym here ∙ are.holds));
             stops = λ was_quiet. record {
               idle = λ new_map fresh demo keep image left'.
                   let done = each_done (MayHaveLeft d old new) mode keeps s are.state are.done are.replies left are.steps
@@ -325,6 +262,8 @@ module _ {D : Type 0} {d : Ghosts D} (law : Laws d) where
                   are.still (each_done (MayHaveLeft d old new) mode leaves s are.state are.done are.replies left are.steps
                   (subst (λ (lines : List (List ℕ)). all_leave_image lines are.replies ≡ true) are.cut leave)) image left';
               rest = λ next image left'. law.settled new now_quiet are.state.image are.holds image left';
+              along = λ plain fresh. along_done new left are;
+              ending = λ plain image left'. ends_same kind are.state are.opens next image (law.settled new now_quiet are.state.image are.holds image left');
               during = λ safe fresh image left'. absurd (cc);
               exit = λ safe image left'. absurd (cc);
             };
@@ -363,6 +302,7 @@ module _ {D : Type 0} {d : Ghosts D} (law : Laws d) where
             whole = λ demo disk. whole_all are.replies (take broke.part.0 (begun line));
             holds = λ spares. broke.holds (not_disk fault spares);
             settled = λ spares. inl (settled (not_disk fault spares));
+            spared = λ plain image here. subst (λ (o : Option (List ℕ)). LeftIn (by are.state) are.state o None image) (sym next) (broke.exit image here);
             stops = λ was_quiet. record {
               idle = λ new_map fresh demo keep image left'.
                   let all = subst (λ (lines : List (List ℕ)). all_keep_tree lines are.replies ≡ true) are.cut keep in
@@ -388,6 +328,18 @@ module _ {D : Type 0} {d : Ghosts D} (law : Laws d) where
               rest = λ leave image left'.
                   broke.still (subst (λ (o : Option (List ℕ)). is_kept_by_next (λ l. leaves_image_or false (command_of l)) o ≡ true) next leave) image
                   (law.earlier new (d.moment mid) (d.moment new) image second.stops.later left');
+              along = λ plain fresh image left'.
+                  let Before = StepsTo mode s are.done are.replies in
+                  let After = StepsTo mode s (are.done ++ line ∷ left) are.replies in
+                  let all = steps_to_all May mode s are.state are.done are.replies long are.steps in
+                  subst (λ (lines : List (List ℕ)). IsLeftInLine (StepsTo mode s lines are.replies) by lines are.replies image) (sym are.cut)
+                  (⊎_elim (λ was. left_front Before After by are.state are.done are.replies long all image (same_by are.state are.opens image)
+                  (λ n x low to. steps_longer mode s are.done are.replies long n low x (line ∷ left) to) (line ∷ left) (are.along image was))
+                  (λ since. left_next Before After by are.state are.done are.replies long all image (same_by are.state are.opens image)
+                  (λ n x low to. steps_longer mode s are.done are.replies long n low x (line ∷ left) to) line left (broke.spared image since))
+                  (second.stops.before (d.moment old) image first.stops.later left'));
+              ending = λ plain image left'.
+                  subst (λ (o : Option (List ℕ)). LeftIn (by are.state) are.state o None image) (sym next) (broke.spared image (law.earlier new (d.moment mid) (d.moment new) image second.stops.later left'));
               during = λ safe fresh image left'. absurd (cc);
               exit = λ safe image left'. absurd (cc);
             };

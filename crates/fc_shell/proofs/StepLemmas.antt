@@ -1,11 +1,12 @@
 -- Lines as steps.
 use Rattle.std.proofs.Common.{◌≡◌, ◌≤◌, arith, ℕ, Bool, true, false, List, [], Option, Some, Result, Ok, Err, IfOk, inl, inr, refl, sym, ap, subst, ◌∙◌}
 use Rattle.std.specs.Prelude.{if◌then◌else◌}
+use Rattle.std.specs.Option.{ForSome}
 use Rattle.fc_device.specs.declared.disk.Disk.{Ghosts}
 use Rattle.fc_device.specs.declared.streams.Sink.{Ghosts as Sinks}
 use Rattle.fc_device.specs.Calls.{OnlyReads, StopsAsBefore}
 use Rattle.fc_device.proofs.DiskLaws.{Laws}
-use Rattle.fc_device.proofs.StopLemmas.{weaker}
+use Rattle.fc_device.proofs.StopLemmas.{one_told, weaker}
 use Rattle.fc_names.specs.declared.refusal.Refusal.{Refusal}
 use Rattle.fc_record.specs.declared.Kind.{Kind}
 use Rattle.fc_model.specs.Command.{Command}
@@ -15,8 +16,10 @@ use Rattle.fc_script.specs.Lines.{command_of}
 use Rattle.fc_script.specs.Texts.{refusal_line}
 use Rattle.fc_runs.specs.Early.{reply_begun}
 use Rattle.fc_runs.specs.ReadLaw.{is_reading, reading_reply}
-use Rattle.fc_runs.specs.Run.{Mode, Step, Takes}
+use Rattle.fc_runs.specs.Run.{Mode, Step, Takes, is_error}
 use Rattle.fc_runs.proofs.ReadLemmas.{read_law}
+use Rattle.fc_runs.specs.Stops.{LeftBy}
+use Rattle.fc_runs.proofs.LeftLemmas.{left_by_same}
 use Rattle.fc_runs.proofs.StepLemmas.{has_tree}
 use Rattle.fc_tree.specs.Parts.{ArePartsOf}
 use Rattle.fc_volume.specs.Volume.{StandsFor, Volume, parts_of}
@@ -44,7 +47,14 @@ module _ {D : Type 0} {d : Ghosts D} (law : Laws d) (kind : Kind) (v : Volume) (
 
   -- The line is done, and leaves everything.
   pub read_done : (reply : List ℕ) → Step mode s line reply s → OnlyReads d old new → IsDone d old new kind v.read_only s line reply s
-  read_done reply step reads = record { step = step; holds = reads.bytes ∙ told; opens = opens; kept = λ keeps. same_tree reads.stops; still = λ leaves. same_image reads.stops }
+  read_done reply step reads = record { step = step; holds = reads.bytes ∙ told; opens = opens; kept = λ keeps. same_tree reads.stops; still = λ leaves. same_image reads.stops; spared = λ image left. left_by_same kind s opens image (same_image reads.stops image left) (is_error reply) (command_of line) }
+
+  -- A line that breaks off leaves it, too.
+  unread_spared : OnlyReads d old new → (image : List ℕ) → d.left_since new (d.moment old) image → LeftBy kind s false (command_of line) image
+  unread_spared reads image left = left_by_same kind s opens image (same_image reads.stops image left) false (command_of line)
+
+  unread_exit : OnlyReads d old new → ForSome (d.bytes new) (LeftBy kind s false (command_of line))
+  unread_exit reads image here = left_by_same kind s opens image (one_told (sym here ∙ (reads.bytes ∙ told))) false (command_of line)
 
   -- a line that leaves everything, whose reply tells no bytes
   pub left_ends : (reply : List ℕ) (result : Result Bool LineFault) → Step mode s line reply s → OnlyReads d old new → ArePartsOf (parts_of v) s.view
@@ -78,7 +88,7 @@ module _ {D : Type 0} {d : Ghosts D} (law : Laws d) (kind : Kind) (v : Volume) (
       by : (result : Result Bool LineFault) → Answered (reading_reply mode s c) before after result → LineEnds d old new kind v.read_only s v line before after result
       by (Ok refused) answered = record { reply = reading_reply mode s c; next = s; done = read_done (reading_reply mode s c) step reads; parts = parts; wrote = answered.0; refused_is = answered.1 }
       by (Err fault) answered =
-          inr (record { part = subst (WrotePart before after) (sym begun) answered; holds = λ never. reads.bytes ∙ told; kept = λ keeps. same_tree reads.stops; still = λ leaves. same_image reads.stops })
+          inr (record { part = subst (WrotePart before after) (sym begun) answered; holds = λ never. reads.bytes ∙ told; kept = λ keeps. same_tree reads.stops; still = λ leaves. same_image reads.stops; spared = unread_spared reads; exit = unread_exit reads })
 
   -- a line that isn't begun
   pub unbegun_ends : (fault : LineFault) → OnlyReads d old new → before ≡ after → LineEnds d old new kind v.read_only s v line before after (Err fault)
@@ -88,6 +98,8 @@ module _ {D : Type 0} {d : Ghosts D} (law : Laws d) (kind : Kind) (v : Volume) (
         holds = λ never. reads.bytes ∙ told;
         kept = λ keeps. same_tree reads.stops;
         still = λ leaves. same_image reads.stops;
+        spared = unread_spared reads;
+        exit = unread_exit reads;
       })
 
 -- ---- what they keep

@@ -6,7 +6,7 @@ use Rattle.fc_image.specs.Stays.{OpensAs}
 use Rattle.fc_image.specs.effects.Effect.{State}
 use Rattle.fc_runs.specs.Promises.{Cause, HasRun, HasStopped}
 use Rattle.fc_runs.specs.Run.{Steps, all_keep_tree, commands_in, text_of}
-use Rattle.fc_runs.specs.Stops.{MayHaveLeft, all_leave_image}
+use Rattle.fc_runs.specs.Stops.{IsLeftBefore, LeftByLine, MayHaveLeft, StepsTo, all_leave_image}
 use Rattle.fc_tree.specs.Parts.{ArePartsOf}
 use Rattle.fc_volume.specs.Volume.{Volume, parts_of}
 use Rattle.fc_shell.specs.declared.answer.LineFault.{LineFault}
@@ -28,6 +28,7 @@ pub record AreDone {D : Type 0} (d : Ghosts D) (old now : D) (kind : Kind) (read
   pub opens : OpensAs state.image kind state.view
   pub kept : all_keep_tree done replies ≡ true → LeavesTree d old now kind s
   pub still : all_leave_image done replies ≡ true → LeavesImage d old now s
+  pub along : (image : List ℕ) → d.left_since now (d.moment old) image → IsLeftBefore (StepsTo (plain_mode kind read_only) s done replies) (LeftByLine kind) done replies state image
 
 -- Their replies were written, and the volume's parts are those of this state.
 pub record HasServed {D : Type 0} (d : Ghosts D) (old now : D) (kind : Kind) (read_only : Bool) (s : State) (script : List ℕ) (left : List (List ℕ)) (v : Volume) (tally : Tally) (before after : Option (List ℕ)) : Type 0 where
