@@ -12,7 +12,7 @@ use Rattle.fc_record.proofs.MeasureLemmas.{share_valid}
 use Rattle.fc_zone.specs.declared.ZoneFault.{ZoneFault}
 use Rattle.fc_newmap.specs.declared.MapError.{MapError}
 use Rattle.fc_newmap.specs.declared.MapError.TheVariants.{Zone}
-use Rattle.fc_newmap.specs.Map.{Map, first_fault, zone_numbers, zones_in}
+use Rattle.fc_newmap.specs.Map.{Map, first_fault, sector_of, zone_numbers, zones_in}
 use Rattle.fc_newmap.specs.NewMap.{IsOfRecord, map_in as held_map}
 use Rattle.fc_newmap.specs.Loaded.{loaded, unless_fault}
 use Rattle.std.proofs.Math.Nat.{le-div_iff_mul-le, div-mul-le_self}
@@ -30,7 +30,8 @@ use Rattle.fc_writing.specs.declared.copies.Copies.TheVariants.{Chosen}
 use Rattle.fc_volume.specs.Answers.{IsFaultOf}
 use Rattle.fc_volume.specs.Maps.{zone_fault, zones_layout}
 use Rattle.fc_writing.specs.Copies.{CountsAs}
-use Rattle.fc_volume.specs.Volume.{HasCopies}
+use Rattle.fc_holdings.specs.Holdings.{CopiesAre, TellsVersion}
+use Rattle.fc_image.proofs.RecordLemmas.{agreed_valid}
 
 -- a search stands at a place
 pub found_at : (p : ℕ → Bool) (xs : List ℕ) (i x : ℕ) → i < length xs → find p xs ≡ find p (drop i xs) → x ≡ get_or xs i 0 → p x ≡ true → find p xs ≡ Some x
@@ -80,8 +81,8 @@ held_same g bytes m e = by (first_fault g (zip (zone_numbers g) (zones_in g byte
     by (Some f) h = absurd (cc)
 
 -- the copy that was chosen counts, and has the map's zones
-pub counted : (copies : Copies) (layout : Layout) (which : Which) (m : Map) (image : List ℕ) → copies ≡ Chosen which → layout ≡ Layout.New m → CountsAs m which image → HasCopies copies layout image
-counted copies layout which m image c l is = subst (λ (k : Copies). HasCopies k layout image) (sym c) (subst (λ (n : Layout). HasCopies (Chosen which) n image) (sym l) is)
+pub counted : (copies : Copies) (layout : Layout) (which : Which) (m : Map) (image : List ℕ) → copies ≡ Chosen which → layout ≡ Layout.New m → CountsAs m which image → CopiesAre copies layout image
+counted copies layout which m image c l is = subst (λ (k : Copies). CopiesAre k layout image) (sym c) (subst (λ (n : Layout). CopiesAre (Chosen which) n image) (sym l) is)
 
 module _ (r : DiscRecord) (zones : List (List ℕ)) (sector : List ℕ) (first : sector ≡ slice_index_or zones 0 []) where
   pub own_fault : (fault : ImageFault) → agreement r (map_record sector) (difference r (map_record sector)) ≡ Err fault → zones_layout r zones ≡ Err fault
@@ -120,6 +121,14 @@ module _ (r : DiscRecord) (zones : List (List ℕ)) (sector : List ℕ) (first :
             ∙ ap (λ (n : Map). let x : Result MapAndRoot ImageFault = Ok (Layout.New n, own.root, own.root_size) in x) is.1,
         sym (ap (λ (n : Map). n.geometry) is.1),
       )
+
+  -- A map whose own record agrees with the disc's tells its version.
+  pub tells : (own : DiscRecord) (m : Map) → IsRecord r → m.geometry ≡ geometry r → sector_of m 0 ≡ slice_index_or zones 0 [] → agreement r (map_record sector) (difference r (map_record sector)) ≡ Ok own
+      → TellsVersion (Layout.New m)
+  tells own m is same at e =
+      let s = map_record (sector_of m 0) in
+      let here : agreement r s (difference r s) ≡ Ok own = subst (λ (t : List ℕ). agreement r (map_record t) (difference r (map_record t)) ≡ Ok own) (first ∙ sym at) e in
+      ap (λ (x : DiscRecord). x.version) (agreed_valid r s own is.from_raw refl is.valid here).same ∙ sym (ap (λ (g : Geometry). g.version) same)
 
   pub zone_wrong : (own : DiscRecord) (wrong : MapError) → agreement r (map_record sector) (difference r (map_record sector)) ≡ Ok own
       → unless_fault (record { geometry = geometry r; zones = zones }) (first_fault (geometry r) (zip (zone_numbers (geometry r)) zones)) ≡ Err wrong

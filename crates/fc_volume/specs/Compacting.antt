@@ -1,5 +1,5 @@
 -- What compaction of a volume answers and leaves.
-use Rattle.std.specs.Prelude.{◌≡◌, ◌<◌, false, List, ℕ}
+use Rattle.std.specs.Prelude.{◌≡◌, ◌<◌, false, List, ℕ, Some}
 use Rattle.std.specs.Option.{ForSome}
 use Rattle.fc_device.specs.declared.disk.Disk.{Ghosts}
 use Rattle.fc_device.specs.Calls.{StopsAndExitsLeave}
@@ -7,7 +7,6 @@ use Rattle.fc_record.specs.declared.DiscRecord.{DiscRecord}
 use Rattle.fc_record.specs.declared.Kind.{Kind}
 use Rattle.fc_newmap.specs.Map.{Map, id_runs}
 use Rattle.fc_newmap.specs.NewMap.{IsNewMap}
-use Rattle.fc_copies.specs.Copies.{ChangesCopies, Chooses}
 use Rattle.fc_alloc.specs.declared.owner.Owner.{Owner}
 use Rattle.fc_image.specs.Layout.{Layout}
 use Rattle.fc_image.specs.Objects.{objects_of}
@@ -19,14 +18,9 @@ use Rattle.fc_compact.specs.Ready.{AreOwnersOf, IsReady, is_movable_by}
 use Rattle.fc_compact.specs.Compaction.{ChangesLoose, CompactedBy, IsSettledBy, ZoneStays}
 use Rattle.fc_tree.specs.Parts.{Parts, ArePartsOf}
 use Rattle.fc_writing.specs.declared.copies.Copies.{Copies}
-use Rattle.fc_volume.specs.Volume.{HasCopies}
+use Rattle.fc_writing.specs.Copies.{HasCopies}
 
 -- ---- the map
-
--- Of an image before, only the copies of the map have changed, and the one that counts still has the map's zones.
-pub record KeepsMap (m : Map) (was image : List ℕ) : Type 0 where
-  pub frame : ChangesCopies m.geometry was image
-  pub content : Chooses m.geometry m.zones image
 
 -- The image opens as a kind with this map, its copies are as they are known to be, and these are its owners.
 pub record CanCompact (m : Map) (copies : Copies) (owners : List Owner) (image : List ℕ) : Type 0 where
@@ -36,7 +30,7 @@ pub record CanCompact (m : Map) (copies : Copies) (owners : List Owner) (image :
   pub new_kind : IsNewKind kind of_record
   pub opens : OpensAs image kind view
   pub layout : view.layout ≡ Layout.New m
-  pub copies_are : HasCopies copies (Layout.New m) image
+  pub copies_are : HasCopies copies m image
   pub owned : AreOwnersOf owners (objects_of view.listings)
 
 -- What compaction has made of a map in memory, by the owners of its identifiers.
@@ -65,3 +59,7 @@ pub record IsDone {D : Type 0} (d : Ghosts D) (m m' : Map) (owners : List Owner)
 abbrev pub CompactsParts : Parts → Parts → List ℕ → List ℕ → Type 0
 CompactsParts was now image other = (kind : Kind) (view : Opened) → OpensAs image kind view → ArePartsOf was view
     → (after : Opened) × Compacts kind (record { image = image; view = view }) (record { image = other; view = after }) × ArePartsOf now after
+
+-- If the disk tells its bytes, it has another image afterwards, and is compacted so.
+abbrev pub HasCompacted : {D : Type 0} → Ghosts D → Parts → Parts → D → D → Type 0
+HasCompacted d was now old new = ForSome (d.bytes old) (λ image. (other : List ℕ) × (d.bytes new ≡ Some other) × CompactsParts was now image other)

@@ -1,29 +1,14 @@
 -- The owners among the nodes of a tree.
-use Rattle.std.specs.Prelude.{ℕ, not, nat_lt, List, [], ◌∷◌, ◌++◌, if◌then◌else◌, Option, Some, None}
+use Rattle.std.specs.Prelude.{ℕ, nat_lt, List, [], ◌∷◌, ◌++◌, if◌then◌else◌, Option, Some, None}
 use Rattle.std.specs.List.{flat_map, range_with_len}
-use Rattle.std.specs.Int.{div_ceil}
 use Rattle.std.specs.Ordering.{nat_cmp}
 use Rattle.std.specs.FinMap.{FinMap, get}
-use Rattle.fc_names.specs.Names.{is_directory}
-use Rattle.fc_dirs.specs.declared.Entry.{Entry}
 use Rattle.fc_alloc.specs.declared.owner.Owner.{Owner}
-use Rattle.fc_image.specs.Layout.{Layout, dir_form, id_of, low_of, sector_bytes}
-use Rattle.fc_image.specs.Walk.{object_size}
+use Rattle.fc_image.specs.Layout.{Layout}
 use Rattle.fc_tree.specs.declared.node.Node.{Node}
-use Rattle.fc_tree.specs.Parts.{first_in}
+use Rattle.fc_change.specs.Owned.{entry_owner}
 
--- the owner that a node of this number is, by the number of its holder's node and by its entry
-abbrev pub entry_owner : Layout → ℕ → ℕ → Entry → Owner
-entry_owner layout n holder e = record {
-  id = id_of e.address;
-  dir = holder;
-  node = n;
-  file = not (is_directory e.attrs);
-  low = low_of e.address;
-  first = first_in layout (low_of e.address);
-  sectors = div_ceil (object_size (dir_form layout) e) (sector_bytes layout);
-}
-
+-- the owner that a node of this number is
 abbrev pub node_owner : Layout → ℕ → Node → Owner
 node_owner layout n node = entry_owner layout n node.holder node.entry
 

@@ -1,48 +1,27 @@
 // Compaction.
-ghost use Rattle.std.specs.Prelude.{◌≡◌, ◌⊎◌, ◌↔◌, ◌≤◌, ◌+◌, ◌*◌, true, false, Err, IfErr, OnOk, IsTrue, IsFalse};
+ghost use Rattle.std.specs.Prelude.{◌≡◌, ◌⊎◌, ◌↔◌, ◌≤◌, ◌+◌, ◌*◌, true, Err, IfErr, OnOk, IsTrue, IsFalse};
 ghost use Rattle.std.specs.Option.{ForSome};
 ghost use Rattle.fc_device.specs.Calls.{FailsByFault, SameForm, StopsAndExitsLeave};
-ghost use Rattle.fc_device.specs.Faults.{Rose};
 ghost use Rattle.fc_newmap.specs.Map.{Map};
-ghost use Rattle.fc_copies.specs.Copies.{HoldsCopies};
-ghost use Rattle.fc_image.specs.Layout.{Layout, dir_form, disc_sectors, sector_bytes};
+ghost use Rattle.fc_image.specs.Layout.{Layout, disc_sectors, sector_bytes};
 ghost use Rattle.fc_image.specs.Moves.{KeepsObjects};
 ghost use Rattle.fc_image.specs.Stays.{IsNewLayout};
 ghost use Rattle.fc_compact.specs.Compaction.{ChangesLoose};
 ghost use Rattle.fc_space.specs.Space.{layout_of};
-ghost use Rattle.fc_holdings.specs.Answers.{UnlessFault};
 ghost use Rattle.fc_holdings.specs.Holdings.{HoldsMap};
-ghost use Rattle.fc_volume.specs.Compacting.{CanCompact, CompactsParts, IsDone, KeepsDisc, KeepsMap};
-ghost use Rattle.fc_volume.specs.Volume.{HasCopies, StandsFor, parts_of};
+ghost use Rattle.fc_volume.specs.Changing.{KeepsVolume};
+ghost use Rattle.fc_volume.specs.Compacting.{CanCompact, HasCompacted, IsDone, KeepsDisc};
+ghost use Rattle.fc_volume.specs.Volume.{StandsFor, parts_of};
 
 use crate::{CommandError, Copies, Volume};
 use fc_alloc::Owners;
 use fc_compact::compact;
-use fc_copies::repair;
 use fc_device::{Disk, DiskFault};
 use fc_names::Refusal;
 use fc_newmap::NewMap;
 use fc_space::{Places, Space};
+use fc_writing::match_copies;
 use std::alloc::Global;
-
-/// Makes the copies of a map equal, if they may differ.
-pub fn match_copies<D: Disk>(disk: &mut D, map: &NewMap, copies: Copies) -> Result<(), DiskFault>
-    requires attached { IsTrue (D.attached disk.old) }
-    requires settled { IsFalse (D.pending disk.old) }
-    requires size { D.sector_size disk.old ≡ map.now.geometry.sector }
-    requires on_disk { map.now.geometry.map_sector + 2 * map.now.geometry.zones ≤ D.sectors disk.old }
-    requires known { ForSome (D.bytes disk.old) (HasCopies copies (Layout.New map.now)) }
-    ensures keeps { StopsAndExitsLeave D.Disk disk.old disk.new (λ was image. HasCopies copies (Layout.New map.now) was → KeepsMap map.now was image) }
-    ensures equal { OnOk result (ForSome (D.bytes disk.new) (HoldsCopies map.now.geometry map.now.zones)) }
-    ensures durable { OnOk result (IsFalse (D.pending disk.new)) }
-    ensures form { SameForm D.Disk disk.old disk.new }
-    ensures cause { FailsByFault D.Disk disk.old disk.new result }
-{
-    match copies {
-        Copies::Equal => Ok(()),
-        Copies::Chosen(which) => repair(disk, map.geometry(), which),
-    }
-}
 
 // Makes the copies of a map equal and compacts it.
 fn compact_map<D: Disk>(
@@ -116,21 +95,11 @@ impl Volume {
         requires new_map { IsNewLayout (parts_of self.old).layout }
         ensures refused { (result ≡ Err (CommandError.Refused Refusal.ReadOnly)) ↔ (self.old.read_only ≡ true) }
         ensures errors { IfErr result (λ error. (error ≡ CommandError.Refused Refusal.ReadOnly) ⊎ (error ≡ CommandError.DiskFault)) }
-        ensures unchanged { self.old.read_only ≡ true → (self.new ≡ self.old) × (disk.new ≡ disk.old) }
-        ensures compacted { OnOk result (ForSome (D.bytes disk.old) (λ image. ForSome (D.bytes disk.new) (CompactsParts (parts_of self.old) (parts_of self.new) image))) }
-        ensures keeps { (m : Map) → (parts_of self.old).layout ≡ Layout.New m → StopsAndExitsLeave D.Disk disk.old disk.new (KeepsObjects m.geometry) }
+        ensures compacted { OnOk result (HasCompacted D.Disk (parts_of self.old) (parts_of self.new) disk.old disk.new) }
+        ensures objects { (m : Map) → (parts_of self.old).layout ≡ Layout.New m → StopsAndExitsLeave D.Disk disk.old disk.new (KeepsObjects m.geometry) }
         ensures frame { (m : Map) → (parts_of self.old).layout ≡ Layout.New m → StopsAndExitsLeave D.Disk disk.old disk.new (ChangesLoose m self.old.owners) }
-        ensures stands { UnlessFault result (StandsFor D.Disk self.new disk.new) }
-        ensures durable { UnlessFault result (IsFalse (D.pending disk.new)) }
-        ensures fit { UnlessFault result (self.new.fit ≡ true) }
-        ensures unfit { result ≡ Err CommandError.DiskFault → self.new.fit ≡ false }
-        ensures new_map { IsNewLayout (parts_of self.new).layout }
-        ensures form_stays { UnlessFault result (dir_form (parts_of self.new).layout ≡ dir_form (parts_of self.old).layout) }
-        ensures rights { self.new.read_only ≡ self.old.read_only }
         ensures tree { self.new.tree ≡ self.old.tree }
-        ensures form { SameForm D.Disk disk.old disk.new }
-        ensures faults { D.faults disk.old ≤ D.faults disk.new }
-        ensures cause { result ≡ Err CommandError.DiskFault → Rose (D.faults disk.old) (D.faults disk.new) }
+        ensures keeps { KeepsVolume D.Disk disk.old disk.new self.old self.new result }
     {
         fc_image::keeps_objects();
         fc_image::one_map();

@@ -19,8 +19,7 @@ ghost use Rattle.fc_space.specs.Space.{layout_of};
 ghost use Rattle.fc_volume.specs.Answers.{IsFaultOf};
 ghost use Rattle.fc_volume.specs.Calls.{chosen_reads, copies_reads, copy_reads, layout_reads, map_reads};
 ghost use Rattle.fc_volume.specs.Maps.{Finds, HasOldMap, found_of, zone_fault, zones_layout};
-ghost use Rattle.fc_holdings.specs.Holdings.{HoldsMap};
-ghost use Rattle.fc_volume.specs.Volume.{HasCopies};
+ghost use Rattle.fc_holdings.specs.Holdings.{CopiesAre, HoldsMap, TellsVersion};
 
 use crate::{Copies, MountError};
 use fc_checks::zone_check;
@@ -114,6 +113,7 @@ fn map_in(copy: CopyRead, r: &DiscRecord) -> Result<MapFound, ImageFault>
     ensures found { Finds (zones_layout r.now (zones_in (geometry r.now) copy.zones.items)) result }
     ensures map { IfOk result (λ found. layout_of found.space ≡ Layout.New (held_map (geometry r.now) copy.zones.items)) }
     ensures copies { IfOk result (λ found. found.copies ≡ Copies.Chosen copy.which) }
+    ensures version { IfOk result (λ found. TellsVersion (layout_of found.space)) }
     ensures geometry { IfOk result (λ found. (sector_bytes (layout_of found.space) ≡ (geometry r.now).sector) × (disc_sectors (layout_of found.space) ≡ (geometry r.now).disc_bits * (geometry r.now).bit_bytes / (geometry r.now).sector)) }
 {
     let g = geometry(r);
@@ -163,7 +163,8 @@ fn read_new<D: Disk>(alloc: Global, disk: &mut D, r: &DiscRecord) -> Result<MapF
     requires size { D.sector_size disk.old ≡ (geometry r.now).sector }
     requires long { r.now.size ≤ D.image_length disk.old }
     ensures found { IfOk result (λ found. ForSome (D.bytes disk.old) (λ image. new_layout image r.now ≡ Ok (found_of found))) }
-    ensures copies { IfOk result (λ found. ForSome (D.bytes disk.old) (HasCopies found.copies (layout_of found.space))) }
+    ensures copies { IfOk result (λ found. ForSome (D.bytes disk.old) (CopiesAre found.copies (layout_of found.space))) }
+    ensures version { IfOk result (λ found. TellsVersion (layout_of found.space)) }
     ensures size { IfOk result (λ found. sector_bytes (layout_of found.space) ≡ D.sector_size disk.old) }
     ensures room { IfOk result (λ found. disc_sectors (layout_of found.space) ≤ D.sectors disk.old) }
     ensures map_room { IfOk result (λ found. HoldsMap (layout_of found.space) (D.sectors disk.old)) }
@@ -211,7 +212,8 @@ fn held_copy(alloc: Global, front: &Front) -> Result<CopyRead, NoMemory>
 fn map_of_one(alloc: Global, r: &DiscRecord, front: &Front) -> Result<MapFound, MountError>
     requires { IsKind (Kind.OneZone r.now) }
     ensures found { IfOk result (λ found. (image : List ℕ) → HasMapOf image (Kind.OneZone r.now) front.now → new_layout image r.now ≡ Ok (found_of found)) }
-    ensures copies { IfOk result (λ found. (image : List ℕ) → HasMapOf image (Kind.OneZone r.now) front.now → HasCopies found.copies (layout_of found.space) image) }
+    ensures copies { IfOk result (λ found. (image : List ℕ) → HasMapOf image (Kind.OneZone r.now) front.now → CopiesAre found.copies (layout_of found.space) image) }
+    ensures version { IfOk result (λ found. TellsVersion (layout_of found.space)) }
     ensures size { IfOk result (λ found. sector_bytes (layout_of found.space) ≡ (geometry r.now).sector) }
     ensures room { IfOk result (λ found. disc_sectors (layout_of found.space) ≡ (geometry r.now).disc_bits * (geometry r.now).bit_bytes / (geometry r.now).sector) }
     ensures map_room { IfOk result (λ found. (sectors : ℕ) → (geometry r.now).map_sector + 2 * (geometry r.now).zones ≤ sectors → HoldsMap (layout_of found.space) sectors) }
@@ -253,7 +255,8 @@ fn map_of_old(
 ) -> Result<MapFound, MountError>
     requires { (sector_units ≡ 1) ⊎ (sector_units ≡ 4) }
     ensures found { IfOk result (λ found. (image : List ℕ) → HasOldMap image units front.now.first → old_layout image sector_units root ≡ Ok (found_of found)) }
-    ensures copies { IfOk result (λ found. (image : List ℕ) → HasCopies found.copies (layout_of found.space) image) }
+    ensures copies { IfOk result (λ found. (image : List ℕ) → CopiesAre found.copies (layout_of found.space) image) }
+    ensures version { IfOk result (λ found. TellsVersion (layout_of found.space)) }
     ensures size { IfOk result (λ found. sector_bytes (layout_of found.space) ≡ 256 * sector_units) }
     ensures room { IfOk result (λ found. disc_sectors (layout_of found.space) ≡ units / sector_units) }
     ensures map_room { IfOk result (λ found. (sectors : ℕ) → 2 ≤ sectors → HoldsMap (layout_of found.space) sectors) }
@@ -289,7 +292,8 @@ pub fn read_map<D: Disk>(
     requires fits { ForSome (D.bytes disk.old) (λ image. IsTrue (fits_kind image kind.now)) }
     requires held { ForSome (D.bytes disk.old) (λ image. HasMapOf image kind.now front.now) }
     ensures found { IfOk result (λ found. ForSome (D.bytes disk.old) (λ image. map_and_root image kind.now ≡ Ok (found_of found))) }
-    ensures copies { IfOk result (λ found. ForSome (D.bytes disk.old) (HasCopies found.copies (layout_of found.space))) }
+    ensures copies { IfOk result (λ found. ForSome (D.bytes disk.old) (CopiesAre found.copies (layout_of found.space))) }
+    ensures version { IfOk result (λ found. TellsVersion (layout_of found.space)) }
     ensures size { IfOk result (λ found. sector_bytes (layout_of found.space) ≡ D.sector_size disk.old) }
     ensures room { IfOk result (λ found. disc_sectors (layout_of found.space) ≤ D.sectors disk.old) }
     ensures map_room { IfOk result (λ found. HoldsMap (layout_of found.space) (D.sectors disk.old)) }

@@ -3,9 +3,9 @@ use Rattle.std.proofs.lemmas.Result.{err_from_is_err_and}
 use Rattle.std.proofs.lemmas.List.{length-take-le}
 use Rattle.fc_record.specs.declared.Geometry.{Geometry}
 use Rattle.fc_record.specs.Record.{geometry}
-use Rattle.fc_newmap.specs.Map.{Map, zones_in}
+use Rattle.fc_newmap.specs.Map.{Map, sector_of, zones_in}
 use Rattle.fc_image.specs.Layout.{Layout}
-use Rattle.fc_volume.proofs.MapsLemmas.{of_record, first_zone, first_zone_fits, own_fault, map_right, held_same, zone_wrong}
+use Rattle.fc_volume.proofs.MapsLemmas.{of_record, first_zone, first_zone_fits, own_fault, map_right, held_same, tells, zone_wrong}
 use Rattle.fc_volume.proofs.maps.map_in.Goals as goal
 
 pub slice_bounds-own_record-end : goal.slice_bounds-own_record-end
@@ -36,6 +36,15 @@ pub returns-in-Ok-clause-map : goal.returns-in-Ok-clause-map
 returns-in-Ok-clause-map c =
     let told = rw c.geometry-g.ensures at c.in-Ok.ensures.value in
     ap (λ (m : Map). Layout.New m) (held_same (geometry c.args.r.now) c.args.copy.zones.items c.in-Ok.map (sym told))
+
+pub returns-in-Ok-clause-version : goal.returns-in-Ok-clause-version
+returns-in-Ok-clause-version c =
+    let zones = c.args.copy.zones.items in
+    let first = ap₂ (λ n bs. take n bs) (ap (λ (g : Geometry). g.sector) c.geometry-g.ensures) c.deref.ensures.value ∙ first_zone (geometry c.args.r.now) zones (of_record c.args.r.now c.requires.«record») c.requires.whole in
+    let told = rw c.geometry-g.ensures at c.in-Ok.ensures.value in
+    let held = held_same (geometry c.args.r.now) zones c.in-Ok.map (sym told) in
+    tells c.args.r.now (zones_in (geometry c.args.r.now) zones) _ first c.in_ok-own.own c.in-Ok.map c.requires.«record» (ap (λ (m : Map). m.geometry) held) (ap (λ (m : Map). sector_of m 0) held)
+    (sym c.own_record.ensures ∙ c.in_ok-own.was)
 
 pub returns-in-Ok-clause-geometry : goal.returns-in-Ok-clause-geometry
 returns-in-Ok-clause-geometry c =

@@ -10,8 +10,8 @@ use Rattle.fc_space.specs.declared.space.Space.{Space}
 use Rattle.fc_space.specs.Space.{layout_of}
 use Rattle.fc_volume.specs.Maps.{found_of}
 use Rattle.fc_writing.specs.declared.copies.Copies.{Copies}
-use Rattle.fc_holdings.specs.Holdings.{HoldsMap}
-use Rattle.fc_volume.specs.Volume.{HasCopies, parts_of}
+use Rattle.fc_holdings.specs.Holdings.{CopiesAre, HoldsMap, TellsVersion}
+use Rattle.fc_volume.specs.Volume.{parts_of}
 use Rattle.fc_volume.proofs.MountLemmas.{agrees, are_parts, both_of, no_map, no_parts, opens, opens_as, shapes_then, view}
 use Rattle.fc_volume.proofs.OpenReadsLemmas.{of_kind, of_map, of_walk}
 use Rattle.fc_volume.proofs.volume.Volume.mount.Goals as goal
@@ -71,6 +71,7 @@ returns-clause-stands g c =
       room = subst (λ (n : ℕ). disc_sectors (layout_of v.space) ≤ n) (sym reads.form.sectors_stay) room;
       map_room = subst (λ (n : ℕ). HoldsMap (layout_of v.space) n) (sym reads.form.sectors_stay)
           (subst (λ (s : Space). HoldsMap (layout_of s) (g.D.Disk.sectors c.shape.new.self)) (sym space) c.in_ok-found.ensures.map_room);
+      version = subst (λ (s : Space). TellsVersion (layout_of s)) (sym space) c.in_ok-found.ensures.version;
       agree = (kind, agrees kind _ _ (parts_of v) _ is.0);
       image = λ image told.
           let shaped = sym reads.bytes ∙ told in
@@ -86,8 +87,8 @@ returns-clause-stands g c =
           );
       copies = λ image told.
           let shaped = sym reads.bytes ∙ told in
-          subst (λ (k : Copies). HasCopies k (layout_of v.space) image) (sym is.1.1)
-          (subst (λ (s : Space). HasCopies c.in_ok-found.found.copies (layout_of s) image) (sym space) (c.in_ok-found.ensures.copies image shaped));
+          subst (λ (k : Copies). CopiesAre k (layout_of v.space) image) (sym is.1.1)
+          (subst (λ (s : Space). CopiesAre c.in_ok-found.found.copies (layout_of s) image) (sym space) (c.in_ok-found.ensures.copies image shaped));
     })
     (both_of c.volume_of.result _ _ c.volume_of.ensures.parts (both_of c.volume_of.result _ _ c.volume_of.ensures.space c.volume_of.ensures.copies))
 

@@ -1,9 +1,0 @@
-pub mod ViewedLemmas
-pub mod FreeLemmas
-pub mod RegrownLemmas
-pub mod PlaceLemmas
-pub mod CommandLemmas
-pub mod WithinLemmas
-pub mod AcrossLemmas
-pub mod NumberedLemmas
-pub mod CopyingLemmas

@@ -1,6 +1,0 @@
-pub mod BodiesLemmas
-pub mod AbsorbedLemmas
-pub mod AroundLemmas
-pub mod RegrownLemmas
-pub mod SpaceLemmas
-pub mod FreeLemmas

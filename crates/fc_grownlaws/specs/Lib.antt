@@ -1,3 +1,0 @@
-pub mod nodes
-pub mod agree
-pub mod takeover

@@ -1,4 +1,0 @@
-pub mod Free
-pub mod Regrown
-pub mod Viewed
-pub mod Commands

@@ -1,4 +1,0 @@
-pub mod Regrown
-pub mod Laws
-pub mod Commands
-pub mod Space

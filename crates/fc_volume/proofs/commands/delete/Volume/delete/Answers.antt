@@ -1,0 +1,13 @@
+use Rattle.fc_device.proofs.DiskLaws.{laws}
+use Rattle.fc_model.specs.Command.{Command}
+use Rattle.fc_volume.proofs.CommandLemmas.{asked, stands}
+use Rattle.fc_volume.proofs.commands.delete.Volume.delete.Goals as goal
+
+pub delete-answer-requires-clause-stands : goal.delete-answer-requires-clause-stands
+delete-answer-requires-clause-stands g c = stands c.args.self.now c.self.inside.holdings c.self.inside.read_only c.self.inside.fit c.self.view_is g.D.Disk c.args.disk.now c.requires.stands
+
+pub returns : goal.returns
+returns g c =
+    let e = c.delete-answer.ensures in
+    asked c.args.self.now c.self.inside.holdings c.self.inside.read_only c.self.inside.fit c.self.view_is g.D.Disk (laws g.met.D.Disk) (Command.Delete c.args.path.now) c.delete-answer.new.holdings c.args.disk.now c.delete-answer.new.disk
+    c.delete-answer.result c.is_fit_after-self-inside.result c.is_fit_after-self-inside.ensures c.requires.fit e.refused e.changed e.places e.leaves e.keeps

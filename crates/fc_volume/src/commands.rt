@@ -1,0 +1,7 @@
+// The commands that change a volume, a file each.
+mod cdir;
+mod delete;
+mod mark;
+mod rename;
+mod save;
+mod set;
