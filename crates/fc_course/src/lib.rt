@@ -12,3 +12,4 @@ pub use course::change;
 pub use fc_holdings::{CommandError, Holdings};
 pub use laws::jobs;
 pub use maps::is_map;
+pub use stages::Prepared;
