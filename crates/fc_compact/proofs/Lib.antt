@@ -29,3 +29,7 @@ pub mod GoneLemmas
 mod AdjacentLemmas
 mod SeenLemmas
 mod PassLemmas
+mod SideLemmas
+mod LongestLemmas
+mod CandidatesLemmas
+mod SurveyLemmas

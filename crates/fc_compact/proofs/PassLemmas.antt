@@ -16,7 +16,8 @@ use Rattle.fc_alloc.specs.declared.owner.Owner.{Owner}
 use Rattle.fc_alloc.specs.Owners.{is_id_owned}
 use Rattle.fc_image.specs.effects.Placed.{front_of}
 use Rattle.fc_image.specs.effects.Settled.{KeepsBits, can_join, zones_with}
-use Rattle.fc_compact.specs.Candidates.{IsLongest, Tries, run_count}
+use Rattle.fc_compact.specs.Candidates.{Tries, run_count}
+use Rattle.fc_compact.specs.Longest.{IsLongest}
 use Rattle.fc_compact.specs.Ready.{is_movable_by}
 use Rattle.fc_compact.specs.Settlement.{one_if}
 use Rattle.fc_compact.specs.Steps.{Leads, Packs}
@@ -246,7 +247,7 @@ all_tried owners m each id may =
 
 -- ---- one owner more
 
-last_or : (xs : List Owner) (x o : Owner) → Contains (xs ++ x ∷ []) o → Contains xs o ⊎ (x ≡ o)
+pub last_or : (xs : List Owner) (x o : Owner) → Contains (xs ++ x ∷ []) o → Contains xs o ⊎ (x ≡ o)
 last_or [] x o (zero, h, e) = inr e
 last_or [] x o (suc k, h, e) = absurd (omega arith)
 last_or (y ∷ xs) x o (zero, h, e) = inl (0, omega arith, e)
@@ -286,6 +287,46 @@ module _ (owners list : List Owner) (m m' : Map) (i : ℕ) (low : i < length lis
 
 pub all_taken : (list : List Owner) (i : ℕ) → length list ≤ i → (o : Owner) → Contains list o → Contains (take i list) o
 all_taken list i past o there = subst (λ (l : List Owner). Contains l o) (sym (take_all i list past)) there
+
+-- ---- some owners more
+
+both_counts : (m : Map) (xs ys : List Owner) → run_count (xs ++ ys) m ≡ run_count xs m + run_count ys m
+both_counts m xs ys = sum_by-append (λ (o : Owner). length (id_runs m o.id)) xs ys
+
+pub falls_part : (owners : List Owner) (m m' : Map) → Packs owners m m' → (front part rest : List Owner) (any joined r : Bool) (base : ℕ) → r ≡ (any || joined)
+    → run_count part m' + one_if joined ≤ run_count part m → run_count (front ++ (part ++ rest)) m + one_if any ≤ base → run_count (front ++ (part ++ rest)) m' + one_if r ≤ base
+falls_part owners m m' packs front part rest any joined r base e falls was =
+    let one = both_counts m front (part ++ rest) in
+    let two = both_counts m part rest in
+    let three = both_counts m' front (part ++ rest) in
+    let four = both_counts m' part rest in
+    let low = count_same owners m m' packs front in
+    let high = count_same owners m m' packs rest in
+    let flag = ap one_if e in
+    let less = flags any joined in
+    omega (arith, one, two, three, four, low, high, flag, less, falls, was)
+  where
+    flags : (a j : Bool) → one_if (a || j) ≤ one_if a + one_if j
+    flags true true = omega arith
+    flags true false = omega arith
+    flags false true = omega arith
+    flags false false = omega arith
+
+in_either : (xs ys : List Owner) (o : Owner) → Contains (xs ++ ys) o → Contains xs o ⊎ Contains ys o
+in_either [] ys o there = inr there
+in_either (x ∷ xs) ys o (zero, h, e) = inl (0, omega arith, e)
+in_either (x ∷ xs) ys o (suc k, h, e) = elim (in_either xs ys o (k, omega arith, e)) [
+  | inl c ↦ inl (suc c.0, (let l = c.1 in omega arith), c.2)
+  | inr c ↦ inr c
+]
+
+pub none_part : (owners : List Owner) (m m' : Map) → m' ≡ m → (front part : List Owner)
+    → ((o : Owner) → Contains front o → is_movable_by owners o.id ≡ true → can_join m o.id ≡ false) → ((o : Owner) → Contains part o → is_movable_by owners o.id ≡ true → can_join m' o.id ≡ false)
+    → (o : Owner) → Contains (front ++ part) o → is_movable_by owners o.id ≡ true → can_join m' o.id ≡ false
+none_part owners m m' same front part was now o there may = elim (in_either front part o there) [
+  | inl before ↦ (ap (λ (n : Map). can_join n o.id) same ∙ was o before may)
+  | inr here ↦ now o here may
+]
 
 -- ---- the longest hole
 
