@@ -1,0 +1,6 @@
+mod FoundLemmas
+mod MisfitLemmas
+pub mod WalkLemmas
+mod AcceptLemmas
+mod MakeLemmas
+mod TreeLemmas

@@ -1,0 +1,21 @@
+//! Which trees fit another format: the paths of a tree's objects in order, and the first object that doesn't fit. The commands that
+//! make a tree.
+#![tactic(auto)]
+
+mod counts;
+mod fit;
+mod found;
+mod order;
+mod paths;
+
+ghost use Rattle.fc_fit.specs.Makes.{MakesLaw};
+
+pub use counts::{Counts, counts_of};
+pub use fit::{Misfit, What, first_misfit, form_of};
+pub use found::node_at;
+pub use paths::paths_of;
+
+/// A law: of a tree that fits, the commands for its objects are accepted one after another, and make it.
+pub fn makes()
+    ensures { MakesLaw }
+{}
