@@ -1,11 +1,10 @@
 -- Tests, lists and paths.
-use Rattle.std.proofs.Common.{◌≡◌, ◌<◌, ◌⊎◌, inl, inr, ℕ, zero, suc, ◌-◌, Bool, true, false, cond, List, [], ◌∷◌, ◌++◌, length, map, take, drop, get_or, refl, sym, ap, ap₂, subst, ◌∙◌, arith, Some, None, Option}
-use Rattle.std.specs.Prelude.{Contains, IsPermutation, filter, remove, slice_get, slice_set, ◌&&◌, ◌||◌, ◌==◌}
+use Rattle.std.proofs.Common.{◌≡◌, ◌<◌, ◌⊎◌, inl, inr, ℕ, zero, suc, ◌-◌, Bool, true, false, cond, List, [], ◌∷◌, ◌++◌, length, map, take, get_or, refl, ap, ap₂, ◌∙◌, arith, Some, None, Option}
+use Rattle.std.specs.Prelude.{Contains, IsPermutation, filter, remove, slice_get, ◌&&◌, ◌||◌, ◌==◌}
 use Rattle.std.specs.List.{flat_map, list_any}
 use Rattle.std.specs.Option.{option_map_or, option_and_then}
-use Rattle.std.proofs.lemmas.List.{set_split}
 use Rattle.std.proofs.lemmas.List.Elements.{Contains-append_cases}
-use Rattle.std.proofs.lemmas.List.Sorted.{IsPermutation-middle, IsPermutation-remove}
+use Rattle.std.proofs.lemmas.List.Sorted.{IsPermutation-remove}
 use Rattle.fc_names.specs.Names.{Path}
 use Rattle.fc_model.specs.Tree.{holder}
 use Rattle.fc_image.proofs.EntriesLemmas.{same_some, at_place as place_of}
@@ -111,8 +110,3 @@ holder_pushed path name =
 
 pub without_it : {X : Type 0} (xs : List X) (i : ℕ) (x : X) → slice_get xs i ≡ Some x → IsPermutation xs (x ∷ remove xs i)
 without_it xs i x at = let place = place_of xs i x at in IsPermutation-remove xs i x place.0 place.1
-
-pub with_other : {X : Type 0} (xs : List X) (i : ℕ) (x y : X) → slice_get xs i ≡ Some x → IsPermutation (slice_set xs i y) (y ∷ remove xs i)
-with_other xs i x y at =
-    let place = place_of xs i x at in
-    subst (λ (ys : List _). IsPermutation ys (y ∷ remove xs i)) (sym (set_split xs i y place.0)) (IsPermutation-middle (take i xs) y (drop (suc i) xs))

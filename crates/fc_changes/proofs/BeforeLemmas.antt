@@ -1,10 +1,9 @@
 -- What an opened disc with a new map has, and the map that comes after it.
 use Rattle.std.proofs.Common.{◌≡◌, ◌≤◌, ◌⊎◌, inl, inr, ℕ, Bool, true, false, cond, List, [], ◌∷◌, ◌++◌, length, drop, refl, sym, ap, subst, ◌∙◌, Some, None, Option}
 use Rattle.std.specs.Option.{option_map_or}
-use Rattle.std.specs.Prelude.{Contains, IsPermutation, filter, ◌==◌, ◌&&◌, nat_le}
+use Rattle.std.specs.Prelude.{Contains, ◌==◌, ◌&&◌, nat_le}
 use Rattle.std.specs.Int.{div_ceil}
 use Rattle.std.proofs.lemmas.Bool.{leb-true, false_from_ne_true as unless}
-use Rattle.std.proofs.lemmas.List.Elements.{Contains-append_left}
 use Rattle.std.proofs.lemmas.List.Sorted.{Contains-permutation, IsPermutation-sym}
 use Rattle.fc_names.specs.Names.{Path, is_same_path}
 use Rattle.fc_record.specs.declared.DiscRecord.{DiscRecord}
@@ -18,7 +17,6 @@ use Rattle.fc_newmap.proofs.PlaceLemmas.{in_back}
 use Rattle.fc_copies.specs.declared.Which.TheVariants.{One}
 use Rattle.fc_copies.specs.Copies.{Chooses, HoldsCopies, chosen, copy_of, is_sound}
 use Rattle.fc_model.specs.Tree.{holder}
-use Rattle.fc_dirs.specs.Directory.{entries_of}
 use Rattle.fc_image.specs.Layout.{Layout, first_part, id_of, id_sectors, is_among, is_apart, low_of, low_start, map_place, sectors_at}
 use Rattle.fc_image.specs.Report.{holder_address}
 use Rattle.fc_image.specs.Walk.{Listing, Object, is_directory_object, reader_of}
@@ -36,11 +34,10 @@ use Rattle.fc_image.proofs.OrderLemmas.{order_law}
 use Rattle.fc_image.proofs.OpenedLemmas.{edited_image_law}
 use Rattle.fc_image.proofs.ShuffleLemmas.{same_first}
 use Rattle.fc_image.proofs.EntriesLemmas.{from_filter, from_map, in_mapped}
-use Rattle.fc_image.proofs.MapEditLemmas.{all_listed, held_in, is_file, listed_old}
-use Rattle.fc_image.proofs.RenameLemmas.{alone, child_path}
+use Rattle.fc_image.proofs.MapEditLemmas.{listed_old}
 use Rattle.fc_image.proofs.LookupLemmas.{lookup_law}
 use Rattle.fc_image.proofs.TreeLemmas.{tree_edit_law}
-use Rattle.fc_changes.proofs.BasicLemmas.{cases_cons, clash, first_in, holder_pushed, in_flat, next_in}
+use Rattle.fc_changes.proofs.BasicLemmas.{cases_cons, clash, first_in, in_flat, next_in}
 
 -- ---- copies
 
@@ -135,10 +132,6 @@ module _ (kind : Kind) (r : DiscRecord) (image : List ℕ) (m : Map) (ls : List 
         | inr kept ↦ next_in had.root l.object (held ls) (from_filter is_directory_object (held ls) l.object kept)
       ])
 
-  -- and so is what a listed directory holds
-  pub child_in : (l : Listing) (o : Object) → Contains ls l → Contains l.children o → Contains (objects_of ls) o
-  child_in l o at child = subst (λ (os : List Object). Contains os o) (sym had.objects) (next_in had.root o (held ls) (held_in ls l o at child))
-
   -- an object is a listed directory's, or is held by one
   pub object_from : (o : Object) → Contains (objects_of ls) o → ((l : Listing) × Contains ls l × (l.object ≡ o)) ⊎ ((l : Listing) × Contains ls l × Contains l.children o)
   object_from o at = elim (cases_cons had.root (held ls) o (subst (λ (os : List Object). Contains os o) had.objects at)) [
@@ -182,27 +175,3 @@ module _ (kind : Kind) (r : DiscRecord) (image : List ℕ) (m : Map) (ls : List 
   module _ (own : DiscRecord) (image' : List ℕ) (m' : Map) (e : IsMapEdit kind r own image image' old m m' had.root) where
     pub says_old : (l : Listing) → Contains ls l → IsListing (reader_of image (Layout.New m)) (Layout.New m) l
     says_old l at = listed_old kind r own image image' old m m' had.root e l at
-
-    -- no other directory has its path
-    pub other_path : (l k : Listing) (others : List Listing) → IsPermutation ls (l ∷ others) → Contains others k → is_same_path l.object.path k.object.path ≡ false
-    other_path l k others found at =
-        alone kind image old l.object k.object (listed others ++ filter is_file (held ls)) opens
-        (subst (λ (os : List Object). IsPermutation os (l.object ∷ (listed others ++ filter is_file (held ls)))) (sym had.objects) (all_listed kind r own image image' old m m' had.root e l others found))
-        (Contains-append_left (listed others) (filter is_file (held ls)) k.object (in_mapped (λ (x : Listing). x.object) others k at))
-
-    pub record HeldBy (l : Listing) : Type 0 where
-      pub dir : Listing
-      pub there : Contains ls dir
-      pub same : holder l.object.path ≡ dir.object.path
-      pub child : (dir ≡ l) ⊎ Contains dir.children l.object
-
-    pub held_by : (l : Listing) → Contains ls l → HeldBy l
-    held_by l at =
-        let among = Contains-permutation (listed ls) (had.root ∷ directories (held ls)) l.object had.all.all (in_mapped (λ (x : Listing). x.object) ls l at) in
-        elim (cases_cons had.root (directories (held ls)) l.object among) [
-          | inl top ↦ (let none : l.object.path ≡ [] = ap (λ (o : Object). o.path) (sym top) ∙ had.is_root.path in
-              record { dir = l; there = at; same = ap holder none ∙ sym none; child = inl refl })
-          | inr kept ↦ (let r' = in_flat (λ (x : Listing). x.children) ls l.object (from_filter is_directory_object (held ls) l.object kept) in
-              let path = child_path (Layout.New m) r'.0.object.path (entries_of r'.0.content) r'.0.children l.object (says_old r'.0 r'.1).1 r'.2 in
-              record { dir = r'.0; there = r'.1; same = ap holder path ∙ holder_pushed r'.0.object.path l.object.entry.name; child = inr r'.2 })
-        ]

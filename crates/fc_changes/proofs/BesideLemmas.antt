@@ -6,10 +6,8 @@ use Rattle.std.proofs.lemmas.Bool.{eqb-true, ltb-true}
 use Rattle.std.proofs.lemmas.List.Sorted.{Contains-permutation}
 use Rattle.fc_newmap.specs.Map.{Map}
 use Rattle.fc_image.specs.Layout.{Layout, id_of}
-use Rattle.fc_image.specs.Walk.{Listing, Object, reader_of}
+use Rattle.fc_image.specs.Walk.{Object}
 use Rattle.fc_image.specs.Objects.{has_sectors, is_owned, is_owner_of, owner_count}
-use Rattle.fc_image.specs.Edits.{IsListing, StayListed}
-use Rattle.fc_image.specs.Commanded.{Each}
 use Rattle.fc_image.proofs.PathsLemmas.{many}
 use Rattle.fc_image.proofs.RenameLemmas.{many_shuffled}
 use Rattle.fc_image.specs.effects.Short.{is_sharing}
@@ -57,17 +55,6 @@ three true true true h = (refl, refl, refl)
 three false b c h = absurd (cc)
 three true false c h = absurd (cc)
 three true true false h = absurd (cc)
-
--- each object stands for itself
-pub each_itself : (R : Object → Object → Type 0) (xs : List Object) → ((x : Object) → Contains xs x → R x x) → Each R xs xs
-each_itself R [] all = tt
-each_itself R (x ∷ xs) all = (all x (first_in x xs), each_itself R xs (λ y at. all y (next_in x y xs at)))
-
--- directories that are listed one by one
-pub all_listed : (m : Map) (image : List ℕ) (xs : List Listing) → ((k : Listing) → Contains xs k → IsListing (reader_of image (Layout.New m)) (Layout.New m) k)
-    → StayListed (reader_of image (Layout.New m)) (Layout.New m) xs
-all_listed m image [] all = tt
-all_listed m image (x ∷ xs) all = (all x (first_in x xs), all_listed m image xs (λ k at. all k (next_in x k xs at)))
 
 -- ---- a shared identifier
 

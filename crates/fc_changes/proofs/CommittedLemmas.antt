@@ -1,6 +1,6 @@
 -- The map after a commit.
-use Rattle.std.proofs.Common.{◌≡◌, ◌<◌, ◌≤◌, ◌⊎◌, inl, inr, ℕ, zero, suc, ◌+◌, ◌-◌, ◌*◌, ◌^◌, false, List, [], ◌∷◌, ◌++◌, length, take, drop, refl, sym, ap, ap₂, subst, ◌∙◌, arith}
-use Rattle.std.specs.Prelude.{Contains, IsPermutation, filter, slice_index, slice_range}
+use Rattle.std.proofs.Common.{◌≡◌, ◌<◌, ◌≤◌, ◌⊎◌, inl, inr, ℕ, zero, suc, ◌+◌, ◌-◌, ◌*◌, ◌^◌, List, [], ◌∷◌, ◌++◌, length, take, drop, refl, sym, ap, ap₂, subst, ◌∙◌, arith}
+use Rattle.std.specs.Prelude.{Contains, slice_index, slice_range}
 use Rattle.std.specs.List.{AllByRecursion}
 use Rattle.std.proofs.lemmas.List.{drop-drop}
 use Rattle.fc_bytes.specs.Bits.{bits, num}
@@ -13,23 +13,16 @@ use Rattle.fc_zone.specs.declared.RunKind.{RunKind}
 use Rattle.fc_zone.specs.declared.RunKind.TheVariants as kinds
 use Rattle.fc_zone.specs.declared.ZoneShape.{ZoneShape}
 use Rattle.fc_zone.specs.Zone.{Spells, field_at, hole_starts, start_if_hole}
-use Rattle.fc_newmap.specs.Map.{Map, ZoneRun, has_id, hole_runs, id_runs, is_hole, runs_in, runs_of, search_order, sector_of, shape, zone_numbers}
+use Rattle.fc_newmap.specs.Map.{Map, ZoneRun, runs_in, runs_of, sector_of, shape}
 use Rattle.fc_newmap.specs.Edits.{AreEdits, KeepsRuns}
 use Rattle.fc_newmap.proofs.GeometryLemmas.{geometry_of_valid, header_high}
 use Rattle.fc_newmap.proofs.HeldLemmas.{geometry_facts}
 use Rattle.fc_newmap.specs.RunsLaw.{IsGeometry, placed}
 use Rattle.fc_copies.specs.Copies.{CommitEnds}
 use Rattle.fc_copies.specs.Committing.{KeepsContents}
-use Rattle.fc_image.specs.effects.Steady.{KeepsOrWritesLinks, ZoneSteady, holes_with, zone_holes}
-use Rattle.fc_plan.specs.Giving.{is_one_of}
-use Rattle.fc_plan.specs.Applied.{unless_gone}
-use Rattle.fc_plan.specs.Taking.{as_runs}
-use Rattle.fc_plan.proofs.Applies.{no_parts, stays_whole, staying}
-use Rattle.fc_plan.proofs.Composed.{given_after_take, given_at_holes}
-use Rattle.fc_plan.proofs.Left.{left_of_none}
-use Rattle.fc_changes.specs.Owed.{IsMapAfter, IsSpaceEdit}
-use Rattle.fc_changes.proofs.BasicLemmas.{clash}
-use Rattle.fc_changes.specs.Laws.{CommittedLaw, GaveBack, SpaceLaw, Took}
+use Rattle.fc_image.specs.effects.Steady.{KeepsOrWritesLinks, ZoneSteady}
+use Rattle.fc_changes.specs.Owed.{IsMapAfter}
+use Rattle.fc_changes.specs.Laws.{CommittedLaw}
 
 -- ---- lists that agree in some places
 
@@ -197,36 +190,3 @@ committed_law m mid m' start image' edits kept contents ends = committed m mid m
 pub all_same : (m m' : Map) → KeepsRuns m m' → (zones : List ℕ) → runs_in m' zones ≡ runs_in m zones
 all_same m m' kept [] = refl
 all_same m m' kept (z ∷ zones) = ap₂ (λ (runs : List Run) (others : List ZoneRun). placed z runs ++ others) (kept.runs z) (all_same m m' kept zones)
-
-holes_same : (m m' : Map) → KeepsRuns m m' → hole_runs m' ≡ hole_runs m
-holes_same m m' kept =
-    ap (filter (λ (p : ZoneRun). is_hole p.1.kind)) (ap (λ (g : Geometry). runs_in m' (zone_numbers g)) kept.geometry ∙ all_same m m' kept (zone_numbers m.geometry))
-
-ids_same : (m m' : Map) → KeepsRuns m m' → (id : ℕ) → id_runs m' id ≡ id_runs m id
-ids_same m m' kept id =
-    ap (filter (λ (p : ZoneRun). has_id id p.1.kind)) (ap (λ (g : Geometry). runs_in m' (search_order g id)) kept.geometry ∙ all_same m m' kept (search_order m.geometry id))
-
-given' : (m mid m' : Map) (gone : List ℕ) → GaveBack m mid gone → KeepsRuns mid m' → IsSpaceEdit m m' 0 [] gone
-given' m mid m' gone gave kept = record {
-  holes = λ z low.
-      ap (λ (hs : List ZoneRun). zone_holes hs z) (holes_same mid m' kept) ∙ gave.holes z low
-      ∙ ap₂ (λ (hs bs : List ZoneRun). holes_with (zone_holes hs z) (zone_holes bs z)) (sym (left_of_none (hole_runs m))) (given_at_holes m gone [] gave.edits.was (no_parts m));
-  own = λ some. absurd (omega (arith, some));
-  others = λ k other. ids_same mid m' kept k ∙ gave.of_ids k ∙ staying m gone [] k gave.edits.was (no_parts m);
-}
-
-taken' : (m first mid m' : Map) (id : ℕ) (parts : List ZoneRun) (gone : List ℕ) → 0 < length parts → is_one_of gone id ≡ false → Took m first parts id → GaveBack first mid gone → KeepsRuns mid m'
-    → IsSpaceEdit m m' id parts gone
-taken' m first mid m' id parts gone some stays took gave kept = record {
-  holes = λ z low.
-      ap (λ (hs : List ZoneRun). zone_holes hs z) (holes_same mid m' kept) ∙ gave.holes z (subst (λ (g : Geometry). z < g.zones) (sym took.edits.geometry) low)
-      ∙ ap₂ (λ (hs bs : List ZoneRun). holes_with (zone_holes hs z) (zone_holes bs z)) took.holes
-      (given_after_take gone [] id parts (λ one. absurd (clash (is_one_of gone id) one stays)) m first took.edits.geometry took.runs ∙ given_at_holes m gone [] took.edits.was (no_parts m));
-  own = λ more. subst (λ (runs : List ZoneRun). IsPermutation runs (id_runs m id ++ as_runs id parts)) (sym (ids_same mid m' kept id ∙ gave.of_ids id ∙ stays_whole first gone [] id gave.edits.was stays)) took.gained;
-  others = λ k other.
-      ids_same mid m' kept k ∙ gave.of_ids k ∙ staying first gone [] k gave.edits.was (no_parts first)
-      ∙ ap (λ (runs : List ZoneRun). unless_gone gone k runs) (took.others k (other some));
-}
-
-pub space_law : SpaceLaw
-space_law = record { given = given'; taken = taken' }

@@ -11,11 +11,8 @@ pub mod DeletedLemmas
 pub mod PlacedLemmas
 pub mod NewPlaceLemmas
 pub mod MadeLemmas
-pub mod FiledLemmas
 pub mod CdirLemmas
 pub mod CommittedLemmas
 pub mod RenamedLemmas
 pub mod MovedLemmas
 pub mod BesideLemmas
-pub mod CopiedLemmas
-pub mod StepsLemmas

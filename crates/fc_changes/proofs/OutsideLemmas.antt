@@ -1,6 +1,6 @@
 -- What a change leaves outside its directory, its object and the map's runs.
 use Rattle.std.proofs.Common.{◌≡◌, ◌<◌, ◌≤◌, inl, inr, ℕ, zero, suc, ◌+◌, ◌*◌, Bool, true, false, List, [], ◌∷◌, ◌++◌, length, take, drop, refl, sym, ap, ap₂, subst, ◌∙◌, arith, Some, eq-eqb}
-use Rattle.std.specs.Prelude.{Ok, Err, Contains, filter, not, ◌==◌, ◌&&◌, ◌||◌, nat_le, nat_lt}
+use Rattle.std.specs.Prelude.{Contains, filter, not, ◌==◌, ◌&&◌, ◌||◌, nat_le, nat_lt}
 use Rattle.std.specs.List.{list_any}
 use Rattle.std.proofs.lemmas.Bool.{cases_lt, eqb-true, leb-false, lt-ltb, ltb-true, false_from_ne_true as unless, not-true as not_true}
 use Rattle.std.proofs.lemmas.List.{drop-drop, drop_all, take-append-drop}
@@ -9,7 +9,7 @@ use Rattle.fc_zone.specs.declared.RunKind.{RunKind}
 use Rattle.fc_zone.specs.declared.RunKind.TheVariants as kinds
 use Rattle.fc_newmap.specs.Map.{Map, ZoneRun, all_runs, has_id, hole_runs, id_runs, is_hole, map_sectors, sectors_of}
 use Rattle.fc_newmap.specs.RunsLaw.{HasZones, HoldsSector, IsGeometry}
-use Rattle.fc_newmap.proofs.PlaceLemmas.{filter_in, holder_of, id_run_in, in_either}
+use Rattle.fc_newmap.proofs.PlaceLemmas.{filter_in, holder_of, id_run_in}
 use Rattle.fc_newmap.proofs.RunsLemmas.{runs_apart}
 use Rattle.fc_image.specs.Layout.{Layout, hole_sectors, id_of, is_among, is_apart, map_place, sectors_at}
 use Rattle.fc_image.specs.Walk.{Object}
@@ -90,12 +90,6 @@ module _ (m : Map) (objects : List Object) (some : 1 ≤ m.geometry.zones) where
       let p = holder_of m.geometry (id_runs m id) s (in_id m o.entry.address bytes o.sectors s placed h) in
       let in_map = id_run_in m id p.0 some p.1.0 in
       (p.0, in_map.0, p.1.1, owned_busy objects id p.0.1.kind in_map.1 (object_owns objects o s at h) (id_high m o.entry.address bytes o.sectors s placed h))
-
-  pub none_busy : AreBusy m objects []
-  none_busy s h = absurd (cc)
-
-  pub both_busy : (xs ys : List ℕ) → AreBusy m objects xs → AreBusy m objects ys → AreBusy m objects (xs ++ ys)
-  both_busy xs ys a b s h = elim (in_either xs ys s h) [ Ok first ↦ a s first | Err second ↦ b s second ]
 
   pub holes_busy : (sectors : List ℕ) → ((s : ℕ) → is_among sectors s ≡ true → is_among (hole_sectors (Layout.New m)) s ≡ true) → AreBusy m objects sectors
   holes_busy sectors within s h =

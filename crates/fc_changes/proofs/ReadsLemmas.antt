@@ -1,6 +1,6 @@
 -- What a written directory reads as, and edits of entries by name.
-use Rattle.std.proofs.Common.{◌≡◌, inl, inr, ℕ, zero, suc, Bool, true, false, cond, List, [], ◌∷◌, ◌++◌, sym, ap, ap₂, subst, ◌∙◌, Some, None, Option}
-use Rattle.std.specs.Prelude.{Result, Ok, Contains, slice_get, slice_set, map, ◌&&◌}
+use Rattle.std.proofs.Common.{◌≡◌, ℕ, Bool, true, false, cond, List, [], ◌∷◌, ◌++◌, sym, ap, ap₂, subst, ◌∙◌, Some, None, Option}
+use Rattle.std.specs.Prelude.{Result, Ok, slice_get, slice_set, map, ◌&&◌}
 use Rattle.fc_names.specs.declared.name.NameForm.{NameForm}
 use Rattle.fc_names.specs.declared.name.NameForm.TheVariants.{Seven, Ten, Long}
 use Rattle.fc_names.specs.Names.{Path, is_same_name, is_same_path}
@@ -15,15 +15,12 @@ use Rattle.fc_dirs.specs.Small.{SmallDir, small_dir, small_fault}
 use Rattle.fc_dirs.specs.Big.{BigDir, big_dir, big_fault}
 use Rattle.fc_dirs.specs.Directory.{Directory, directory_of, read_or}
 use Rattle.fc_dirs.proofs.EditLemmas.{edit_law}
-use Rattle.fc_image.specs.Layout.{Layout}
-use Rattle.fc_image.specs.Walk.{Object}
-use Rattle.fc_image.specs.Edits.{AreChildren}
 use Rattle.fc_image.proofs.PathsLemmas.{cut, itself, root_other, same_last}
 use Rattle.fc_image.proofs.RenameLemmas.{last_pushed}
 use Rattle.fc_image.proofs.CommandLemmas.{same_by_folds}
 use Rattle.fc_image.proofs.TreeLemmas.{folds_alike}
 use Rattle.fc_image.specs.effects.Steady.{AreWritten, IsRewritten, replaced_entry, with_made}
-use Rattle.fc_changes.proofs.BasicLemmas.{cases_cons, clash, first_in, holder_pushed, next_in, nothing_in}
+use Rattle.fc_changes.proofs.BasicLemmas.{clash, holder_pushed}
 use Rattle.std.proofs.lemmas.Bool.{false_from_ne_true as unless}
 use Rattle.fc_record.proofs.KindLemmas.{and_first, and_second}
 
@@ -81,19 +78,6 @@ reads_back Long before bytes c path parent (Directory.Big old) (Directory.Small 
 
 -- ---- entries
 
--- entry i is that of object i
-pub entry_at : (layout : Layout) (path : Path) (entries : List Entry) (objects : List Object) (i : ℕ) (o : Object) → AreChildren layout path entries objects
-    → slice_get objects i ≡ Some o → slice_get entries i ≡ Some o.entry
-entry_at layout path [] [] i o c at = absurd (cc)
-entry_at layout path (e ∷ entries) [] i o c at = absurd c
-entry_at layout path [] (p ∷ objects) i o c at = absurd c
-entry_at layout path (e ∷ entries) (p ∷ objects) zero o c at =
-    ap (λ (d : Entry). let q : Option Entry = Some d in q) (sym c.1 ∙ ap (λ (x : Object). x.entry) (same p o at))
-  where
-    same : (x y : Object) → (let q : Option Object = Some x in q) ≡ Some y → x ≡ y
-    same x y g = cc
-entry_at layout path (e ∷ entries) (p ∷ objects) (suc i) o c at = entry_at layout path entries objects i o c.3 at
-
 -- where a path lies that is a directory's, and a name
 pub record LiesIn (path dir : Path) (name : List ℕ) : Type 0 where
   pub holds : is_same_path (holder path) dir ≡ true
@@ -130,17 +114,6 @@ pub same_name_turned : (a b : List ℕ) → is_same_name a b ≡ true → is_sam
 same_name_turned a b h =
     let there : is_same_path (a ∷ []) (b ∷ []) ≡ true = same_last [] [] a b ∙ ap₂ (λ (x y : Bool). x && y) (itself []) h in
     and_second (is_same_path [] []) (is_same_name b a) (sym (same_last [] [] b a) ∙ same_by_folds (b ∷ []) (a ∷ []) (sym (folds_alike (a ∷ []) (b ∷ []) there)))
-
--- the object of an entry
-pub object_of_entry : (layout : Layout) (path : Path) (entries : List Entry) (objects : List Object) (d : Entry) → AreChildren layout path entries objects → Contains entries d
-    → (o : Object) × Contains objects o × (o.path ≡ path ++ d.name ∷ [])
-object_of_entry layout path [] [] d c at = absurd (nothing_in d at)
-object_of_entry layout path (e ∷ entries) [] d c at = absurd c
-object_of_entry layout path [] (p ∷ objects) d c at = absurd c
-object_of_entry layout path (e ∷ entries) (p ∷ objects) d c at = elim (cases_cons e entries d at) [
-  | inl is ↦ (p, first_in p objects, c.0 ∙ ap (λ (x : Entry). path ++ x.name ∷ []) is)
-  | inr later ↦ (let r = object_of_entry layout path entries objects d c.3 later in (r.0, next_in p r.0 objects r.1, r.2))
-]
 
 -- a path of a directory and a name is that of the directory and a name that folds alike
 pub same_path_of : (path dir : Path) (name other : List ℕ) (there : Path) → is_same_path path (dir ++ name ∷ []) ≡ true → is_same_name name other ≡ true → there ≡ dir ++ other ∷ []

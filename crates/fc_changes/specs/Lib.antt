@@ -2,4 +2,3 @@ pub mod Owed
 pub mod Changed
 pub mod Laws
 pub mod Rows
-pub mod Copied

@@ -1,5 +1,3 @@
 pub mod Grown
-pub mod Laws
 pub mod Maps
 pub mod Rows
-pub mod Renames

@@ -3,8 +3,7 @@
 
 ghost use Rattle.fc_laws.specs.agree.Copied.{CopiedLaw};
 ghost use Rattle.fc_laws.specs.agree.Cuts.{CutLaw};
-ghost use Rattle.fc_laws.specs.agree.Laws.{AddedLaw, AgreedLaw, DirectoryAddedLaw, RemovedLaw, RenamedLaw, ReplacedLaw, RewordedLaw, TransferredLaw};
-ghost use Rattle.fc_laws.specs.agree.Maps.{MapLaw};
+ghost use Rattle.fc_laws.specs.agree.Laws.{AgreedLaw};
 ghost use Rattle.fc_laws.specs.agree.Sayable.{SayLaw};
 
 /// Parts that agree: what is known of their listings.
@@ -17,49 +16,9 @@ pub fn cuts()
     ensures { CutLaw }
 {}
 
-/// Maps that stay, and space that isn't given back.
-pub fn maps()
-    ensures { MapLaw }
-{}
-
 /// Directories that objects can say.
 pub fn sayable()
     ensures { SayLaw }
-{}
-
-/// After `set` and `mark` the parts agree.
-pub fn reworded()
-    ensures { RewordedLaw }
-{}
-
-/// After `delete` the parts agree.
-pub fn removed()
-    ensures { RemovedLaw }
-{}
-
-/// After `save` and `create` of a new file the parts agree.
-pub fn added()
-    ensures { AddedLaw }
-{}
-
-/// After `save` and `create` over a file the parts agree.
-pub fn replaced()
-    ensures { ReplacedLaw }
-{}
-
-/// After `cdir` the parts agree.
-pub fn directory_added()
-    ensures { DirectoryAddedLaw }
-{}
-
-/// After `rename` within a directory the parts agree.
-pub fn renamed()
-    ensures { RenamedLaw }
-{}
-
-/// After `rename` to another directory the parts agree.
-pub fn transferred()
-    ensures { TransferredLaw }
 {}
 
 /// After `rename` of a file that is copied the parts agree.

@@ -1,36 +1,28 @@
 -- What an opened disc has, whatever its map.
-use Rattle.std.proofs.Common.{◌≡◌, ◌≤◌, ◌⊎◌, inl, inr, ℕ, true, false, List, [], ◌∷◌, ◌++◌, length, refl, sym, ap, subst, ◌∙◌, arith, zero, suc}
-use Rattle.std.specs.Prelude.{Ok, Contains, IsPermutation, filter}
-use Rattle.std.proofs.lemmas.List.Elements.{Contains-append_left}
-use Rattle.std.proofs.lemmas.List.Sorted.{Contains-permutation, IsPermutation-append_left, IsPermutation-cons, IsPermutation-filter_both, IsPermutation-map, IsPermutation-sym, IsPermutation-trans}
-use Rattle.fc_names.specs.Names.{Path, is_same_path}
+use Rattle.std.proofs.Common.{◌≡◌, ◌≤◌, ◌⊎◌, inl, inr, ℕ, true, List, [], ◌∷◌, ◌++◌, length, refl, sym, ap, subst, ◌∙◌, arith, zero, suc}
+use Rattle.std.specs.Prelude.{Ok, Contains}
+use Rattle.std.proofs.lemmas.List.Sorted.{Contains-permutation}
 use Rattle.fc_record.specs.declared.Kind.{Kind}
 use Rattle.fc_record.specs.Kinds.{disc_size, fits_kind}
 use Rattle.fc_model.specs.Tree.{holder}
 use Rattle.fc_dirs.specs.Directory.{entries_of}
 use Rattle.fc_image.specs.Layout.{Layout}
-use Rattle.fc_image.specs.Report.{holder_address}
 use Rattle.fc_image.specs.Walk.{Listing, Object, Reader, is_directory_object, reader_of, walk}
 use Rattle.fc_image.specs.Objects.{first_object, objects_of}
 use Rattle.fc_image.specs.Opening.{Opened, map_and_root, reserved_in}
 use Rattle.fc_image.specs.Stays.{OpensAs}
 use Rattle.fc_image.specs.Edits.{Apart, IsListing, IsRoot, StayListed}
-use Rattle.fc_image.specs.Laws.{Tells}
 use Rattle.fc_image.specs.Order.{AreListings, directories, held, listed}
 use Rattle.fc_image.specs.Sound.{AreSound}
 use Rattle.fc_image.proofs.FreeLemmas.{parts_of}
 use Rattle.fc_image.proofs.HolesLemmas.{Each-contains, Each-objects, Lies, walk_lies}
 use Rattle.fc_image.proofs.OrderLemmas.{order_law}
 use Rattle.fc_image.proofs.ShuffleLemmas.{same_first}
-use Rattle.fc_image.proofs.EntriesLemmas.{from_filter, from_map, in_mapped}
-use Rattle.fc_image.proofs.MapEditLemmas.{held_in, is_file, stays_listed}
-use Rattle.fc_image.proofs.RenameLemmas.{alone, child_path}
+use Rattle.fc_image.proofs.EntriesLemmas.{from_filter, in_mapped}
+use Rattle.fc_image.proofs.MapEditLemmas.{stays_listed}
+use Rattle.fc_image.proofs.RenameLemmas.{child_path}
 use Rattle.fc_image.proofs.TreeLemmas.{tree_edit_law}
-use Rattle.fc_image.proofs.PathsLemmas.{itself}
-use Rattle.fc_image.proofs.WalkLemmas.{walk-Tells}
 use Rattle.fc_changes.proofs.BasicLemmas.{cases_cons, first_in, holder_pushed, in_flat, next_in}
-use Rattle.fc_changes.proofs.BeforeLemmas.{address_by}
-use Rattle.fc_changes.proofs.DirectoriesLemmas.{Lasts}
 
 -- what is opened is of this kind and has this layout
 pub opened_as : (kind : Kind) (image : List ℕ) (v : Opened) (y : Layout) → OpensAs image kind v → v.layout ≡ y
@@ -108,44 +100,8 @@ module _ (kind : Kind) (image : List ℕ) (y : Layout) (ls : List Listing) (open
         | inr kept ↦ next_in had.root l.object (held ls) (from_filter is_directory_object (held ls) l.object kept)
       ])
 
-  pub root_in : Contains (objects_of ls) had.root
-  root_in = subst (λ (os : List Object). Contains os had.root) (sym had.objects) (first_in had.root (held ls))
-
-  pub held_object : (o : Object) → Contains (held ls) o → Contains (objects_of ls) o
-  held_object o at = subst (λ (os : List Object). Contains os o) (sym had.objects) (next_in had.root o (held ls) at)
-
-  -- and so is what a listed directory holds
-  pub child_in : (l : Listing) (o : Object) → Contains ls l → Contains l.children o → Contains (objects_of ls) o
-  child_in l o at child = held_object o (held_in ls l o at child)
-
-  -- an object is a listed directory's, or is held by one
-  pub object_from : (o : Object) → Contains (objects_of ls) o → ((l : Listing) × Contains ls l × (l.object ≡ o)) ⊎ ((l : Listing) × Contains ls l × Contains l.children o)
-  object_from o at = elim (cases_cons had.root (held ls) o (subst (λ (os : List Object). Contains os o) had.objects at)) [
-    | inl top ↦ (let l = from_map (λ (x : Listing). x.object) ls had.root
-        (Contains-permutation (had.root ∷ directories (held ls)) (listed ls) had.root (IsPermutation-sym (listed ls) (had.root ∷ directories (held ls)) had.all.all) (first_in had.root (directories (held ls)))) in
-        inl (l.0, l.1, l.2 ∙ top))
-    | inr kept ↦ inr (in_flat (λ (x : Listing). x.children) ls o kept)
-  ]
-
   pub says_old : (l : Listing) → Contains ls l → IsListing read y l
   says_old l at = stays_listed read y ls l had.all.say at
-
-  -- all objects are the listed directories and the files
-  pub all_listed : (l : Listing) (others : List Listing) → IsPermutation ls (l ∷ others) → IsPermutation (had.root ∷ held ls) (l.object ∷ (listed others ++ filter is_file (held ls)))
-  all_listed l others found =
-      let files = filter is_file (held ls) in
-      IsPermutation-trans (had.root ∷ held ls) ((had.root ∷ directories (held ls)) ++ files) (l.object ∷ (listed others ++ files))
-      (IsPermutation-cons had.root (held ls) (directories (held ls) ++ files) (IsPermutation-filter_both is_directory_object is_file (λ p. refl) (held ls)))
-      (IsPermutation-append_left files (had.root ∷ directories (held ls)) (l.object ∷ listed others)
-      (IsPermutation-trans (had.root ∷ directories (held ls)) (listed ls) (l.object ∷ listed others)
-      (IsPermutation-sym (listed ls) (had.root ∷ directories (held ls)) had.all.all) (IsPermutation-map (λ (k : Listing). k.object) ls (l ∷ others) found)))
-
-  -- no other directory has its path
-  pub other_path : (l k : Listing) (others : List Listing) → IsPermutation ls (l ∷ others) → Contains others k → is_same_path l.object.path k.object.path ≡ false
-  other_path l k others found at =
-      alone kind image old l.object k.object (listed others ++ filter is_file (held ls)) opens
-      (subst (λ (os : List Object). IsPermutation os (l.object ∷ (listed others ++ filter is_file (held ls)))) (sym had.objects) (all_listed l others found))
-      (Contains-append_left (listed others) (filter is_file (held ls)) k.object (in_mapped (λ (x : Listing). x.object) others k at))
 
   -- the directory that holds a directory
   pub record HeldBy (l : Listing) : Type 0 where
@@ -164,19 +120,3 @@ module _ (kind : Kind) (image : List ℕ) (y : Layout) (ls : List Listing) (open
             let path = child_path y r'.0.object.path (entries_of r'.0.content) r'.0.children l.object (says_old r'.0 r'.1).1 r'.2 in
             record { dir = r'.0; there = r'.1; same = ap holder path ∙ holder_pushed r'.0.object.path l.object.entry.name; child = inr r'.2 })
       ]
-
-  -- what the image tells
-  pub tells : Tells read ls
-  tells = walk-Tells read y reserved parts.address parts.size ls parts.walked
-
--- a directory's holder has the address that it had
-pub holder_stays : (kind : Kind) (image image' : List ℕ) (y y' : Layout) (ls found : List Listing) (opens : OpensAs image kind (record { kind = kind; layout = y; listings = ls }))
-    → OpensAs image' kind (record { kind = kind; layout = y'; listings = found })
-    → (l : Listing) → Contains ls l → ((k : Listing) → Contains ls k → (k ≡ l) ⊎ Contains k.children l.object → Lasts found k)
-    → holder_address found l.object.path ≡ holder_address ls l.object.path
-holder_stays kind image image' y y' ls found opens opens' l at stays =
-    let h = held_by kind image y ls opens l at in
-    let s = stays h.dir h.there h.child in
-    let here : is_same_path (holder l.object.path) h.dir.object.path ≡ true = ap (λ (p : Path). is_same_path p h.dir.object.path) h.same ∙ itself h.dir.object.path in
-    address_by y' found l.object.path s.now (sound kind image' y' found opens') s.there (ap (λ (p : Path). is_same_path (holder l.object.path) p) s.path ∙ here)
-    ∙ s.address ∙ sym (address_by y ls l.object.path h.dir (sound kind image y ls opens) h.there here)

@@ -1,7 +1,7 @@
 -- On a disc with an old map no directory grows, and commands that neither take nor give space leave the holes.
 use Rattle.std.proofs.Common.{◌≡◌, ◌⊎◌, inl, inr, ℕ, ◌*◌, Bool, true, false, cond, List, refl, sym, ap, ap₂, subst, ◌∙◌, Some, None, Option}
-use Rattle.std.specs.Prelude.{Result, Ok, not, is_some, ◌==◌, ◌&&◌}
-use Rattle.std.specs.Option.{option_and_then, option_map, option_map_or}
+use Rattle.std.specs.Prelude.{Result, Ok, not, is_some, ◌==◌}
+use Rattle.std.specs.Option.{option_and_then, option_map}
 use Rattle.std.specs.Int.{div_ceil}
 use Rattle.std.specs.Str.{bytes_eq}
 use Rattle.fc_names.specs.declared.name.NameForm.TheVariants.{Seven, Ten}
@@ -15,11 +15,11 @@ use Rattle.fc_dirs.specs.declared.SmallForm.TheVariants.{Bytes1280, Bytes2048}
 use Rattle.fc_dirs.specs.Small.{small_dir, small_fault}
 use Rattle.fc_dirs.specs.Directory.{Directory, directory_of, read_or}
 use Rattle.fc_image.specs.Layout.{Layout}
-use Rattle.fc_image.specs.Walk.{Listing, Object, is_directory_object, object_bytes}
+use Rattle.fc_image.specs.Walk.{Listing, Object, object_bytes}
 use Rattle.fc_image.specs.Objects.{listing_at, object_at}
 use Rattle.fc_image.specs.Opening.{Opened}
 use Rattle.fc_image.specs.Stays.{OpensAs}
-use Rattle.fc_image.specs.effects.Short.{Gain, gain_at, gain_by_new_name, gain_by_rename, gain_of, growth_in, growth_of, growth_with, holes_without, is_copied, new_length, old_holes_after, old_need, replaced_object, with_space_of}
+use Rattle.fc_image.specs.effects.Short.{Gain, gain_at, gain_by_new_name, gain_by_rename, gain_of, growth_in, growth_of, growth_with, holes_without, new_length, old_holes_after, old_need, replaced_object, with_space_of}
 use Rattle.fc_changes.proofs.PlacedLemmas.{found_in}
 use Rattle.fc_oldchanges.proofs.BeforeLemmas.{says_old}
 use Rattle.fc_oldchanges.proofs.ChangeLemmas.{opened}
@@ -104,24 +104,3 @@ pub given_alone : (space : OldMapContent) (v : Opened) (c : Command) (o : Option
 given_alone space v c o units replaced none =
     sym (ap₂ (λ (r : Option Object) (n : ℕ). with_space_of space r (holes_without (old_need space n) space.holes)) replaced none
     ∙ ap (λ (n : ℕ). with_space_of space o (holes_without n space.holes)) (none_needed space units))
-
--- a rename takes nothing
-pub renames_take_none : (kind : Kind) (space : OldMapContent) (ls : List Listing) (from to : Path) → new_length (opened kind space ls) (Command.Rename from to) ≡ 0
-renames_take_none kind space ls from to = go (object_at ls from)
-  where
-    by : (a b : Bool) (n : ℕ) → cond ((a && b) && false) n 0 ≡ 0
-    by true true n = refl
-    by true false n = refl
-    by false b n = refl
-
-    go : (o : Option Object) → option_map_or (λ (p : Object). cond (is_copied (opened kind space ls) from to p) p.entry.len 0) o 0 ≡ 0
-    go None = refl
-    go (Some o) = by (not (is_directory_object o)) (not (is_same_path (holder from) (holder to))) o.entry.len
-
-pub renames_copy_none : (kind : Kind) (space : OldMapContent) (ls : List Listing) (from to : Path) (o : Object) → is_copied (opened kind space ls) from to o ≡ false
-renames_copy_none kind space ls from to o = by (not (is_directory_object o)) (not (is_same_path (holder from) (holder to)))
-  where
-    by : (a b : Bool) → ((a && b) && false) ≡ false
-    by true true = refl
-    by true false = refl
-    by false b = refl

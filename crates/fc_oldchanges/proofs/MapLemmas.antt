@@ -26,7 +26,7 @@ use Rattle.fc_image.specs.Layout.{Layout}
 use Rattle.fc_image.specs.Opening.{MapAndRoot, holes_or, map_and_root, old_layout}
 use Rattle.fc_image.specs.Stays.{HasSectorsOf}
 use Rattle.fc_image.proofs.HolesLemmas.{found_map}
-use Rattle.fc_oldchanges.specs.Owed.{IsMapAfter, MapStays, holding}
+use Rattle.fc_oldchanges.specs.Owed.{IsMapAfter, holding}
 use Rattle.fc_oldmap.proofs.ReadLemmas.{holes_of-more as holes_step}
 use Rattle.fc_image.proofs.OldEditLemmas.{found_ok}
 use Rattle.fc_image.proofs.OldMapLemmas.{old_same, not_old as no_new}
@@ -286,8 +286,3 @@ front_same image image' u (inl one) same =
 front_same image image' u (inr four) same =
     subst (λ (n : ℕ). HasSectorsOf (256 * n) (range_with_len 0 (map_units n / n)) image image' → (take 512 image' ≡ take 512 image) × (bytes_at image' 512 (256 * n - 512) ≡ bytes_at image 512 (256 * n - 512)))
     (sym four) (wide image image') same
-
-pub map_kept : (space : OldMapContent) (image image' : List ℕ) → IsOldMap space → MapStays space image image' → IsMapAfter space space.holes image image'
-map_kept space image image' is stays =
-    let f = front_same image image' space.sector_units is.units stays in
-    record { few = is.few; bytes = inl (refl, f.0); rest = f.1 }

@@ -7,14 +7,10 @@ use Rattle.fc_record.specs.declared.Kind.{Kind}
 use Rattle.fc_oldmap.specs.declared.Hole.{Hole}
 use Rattle.fc_oldmap.specs.Holes.{hole_limit}
 use Rattle.fc_oldmap.specs.OldMap.{OldMapContent, IsOldMap}
-use Rattle.fc_model.specs.Command.{Command}
-use Rattle.fc_dirs.specs.Directory.{Directory}
 use Rattle.fc_image.specs.Layout.{Layout, is_among, map_place, sector_bytes}
-use Rattle.fc_image.specs.Report.{holder_address}
-use Rattle.fc_image.specs.Walk.{Listing, object_bytes}
 use Rattle.fc_image.specs.Opening.{Opened}
 use Rattle.fc_image.specs.Stays.{HasSectorsOf, OpensAs}
-use Rattle.fc_image.specs.effects.Steady.{AreWritten, IsRewritten, OldMapOutside}
+use Rattle.fc_image.specs.effects.Steady.{OldMapOutside}
 
 -- ---- the disc before
 
@@ -37,13 +33,6 @@ pub record IsWritten (space : OldMapContent) (sectors image image' : List ℕ) :
   pub length_stays : length image' ≡ length image
   pub writes : (s : ℕ) → is_among sectors s ≡ false → is_among (map_place (Layout.Old space)) s ≡ false
       → sector_at (sector_bytes (Layout.Old space)) image' s ≡ sector_at (sector_bytes (Layout.Old space)) image s
-
--- Directory l says `content`, and has all its bytes as writing makes them.
-pub record IsDirectoryWritten (image' : List ℕ) (v : Opened) (space : OldMapContent) (c : Command) (l : Listing) (content : Directory) : Type 0 where
-  -- The edits of directories are equations: `insert`, `remove`, `change`, `set_parent`, `touch`.
-  pub says : IsRewritten c l.object.path (holder_address v.listings l.object.path) l.content content
-  -- `SmallDir::write`: `written`
-  pub bytes : AreWritten (object_bytes image' (Layout.Old space) l.object) content
 
 -- ---- the map afterwards
 

@@ -1,4 +1,2 @@
-pub mod Laws
 pub mod Writes
 pub mod Places
-pub mod Steps

@@ -1,5 +1,5 @@
 -- Commits of a map of which nothing or something has changed.
-use Rattle.std.proofs.Common.{◌≡◌, ◌<◌, ℕ, suc, true, List, [], ◌∷◌, length, get_or, refl, sym, ap, ap₂, subst, ◌∙◌, arith, inl, inr, Some, IsFalse}
+use Rattle.std.proofs.Common.{◌≡◌, ◌<◌, ℕ, suc, true, List, [], ◌∷◌, length, get_or, refl, sym, ap, ap₂, subst, ◌∙◌, arith, inl, Some, IsFalse}
 use Rattle.std.specs.Prelude.{Contains, Ok}
 use Rattle.std.specs.List.{range_with_len}
 use Rattle.std.specs.Option.{ForSome}
@@ -10,11 +10,8 @@ use Rattle.fc_device.specs.declared.disk.Disk.{Ghosts}
 use Rattle.fc_device.specs.Stops.{Keeps}
 use Rattle.fc_device.proofs.DiskLaws.{Laws}
 use Rattle.fc_device.proofs.StopLemmas.{started}
-use Rattle.fc_record.specs.declared.Geometry.{Geometry}
-use Rattle.fc_newmap.specs.Map.{Map, sector_of}
+use Rattle.fc_newmap.specs.Map.{Map}
 use Rattle.fc_newmap.specs.NewMap.{IsNewMap}
-use Rattle.fc_newmap.specs.Edits.{AreEdits}
-use Rattle.fc_newmap.proofs.GeometryLemmas.{header_high}
 use Rattle.fc_copies.specs.declared.Which.TheVariants.{One}
 use Rattle.fc_copies.specs.Committing.{CanWrite}
 use Rattle.fc_copies.specs.Copies.{ChangesCopies, CommitEnds, CommitLeaves, HoldsCopies, chosen, copy_of, copy_start, is_sound}
@@ -64,14 +61,4 @@ keeps_at_once {d = d} law R s quiet same = record {
   stops = started law s (λ image. ForSome (d.bytes s) (λ was. R was image)) (λ image left was told. subst (λ (i : List ℕ). R was i) (sym (law.settled s quiet was told image left)) (same was told));
   exit = λ was told. (was, told, same was told);
   told = λ image told. (image, told);
-}
-
--- the image's copies are the old map's, and zones that aren't listed have not changed
-pub can_write : (m mid : Map) (changed image : List ℕ) → AreEdits m mid → HoldsCopies m.geometry m.zones image
-    → ((z : ℕ) → z < m.geometry.zones → (Contains changed z → ⊥) → sector_of mid z ≡ sector_of m z) → CanWrite mid changed image
-can_write m mid changed image edits copies others = record {
-  base = m.zones;
-  copies = subst (λ (g : Geometry). HoldsCopies g m.zones image) (sym edits.geometry) copies;
-  crosses = λ z low. edits.bytes z 3 (inr (omega arith)) (inl (let high = header_high z in omega (arith, high)));
-  others = λ z low none. others z (subst (λ (g : Geometry). z < g.zones) edits.geometry low) none;
 }

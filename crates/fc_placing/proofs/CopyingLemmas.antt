@@ -32,7 +32,7 @@ use Rattle.fc_tree.specs.Parts.{AreOwners, owner_of}
 use Rattle.fc_tree.proofs.PlaceLemmas.{one_path, same_number}
 use Rattle.fc_tree.proofs.SoundLemmas.{folds_alike}
 use Rattle.fc_tree.proofs.WalkedLemmas.{same_some}
-use Rattle.fc_placing.specs.Copying.{CopiesLaw, SaysCopied, copied_among, copied_of}
+use Rattle.fc_placing.specs.Copying.{CopiesLaw, copied_among, copied_of}
 use Rattle.fc_placing.proofs.LeavingLemmas.{others_are, owner_is}
 use Rattle.fc_placing.proofs.PlacesLemmas.{none_refused, short_is, space_refusal}
 use Rattle.fc_record.proofs.KindLemmas.{and_first}
@@ -149,11 +149,6 @@ module _ (m : Map) (nodes : FinMap nat_cmp Node) (listings : List Listing) (owne
       by true some =
           ap₂ (λ (a b : Bool). not (is_directory_object o) && not a && b) dir_same
           (ap (λ (b : Bool). (own.id == 2) || b) (others_are m nodes listings owners o stay node sound held are numbered order own.id) ∙ shared_is m objects stay o order some)
-
-pub says_copied : (owners : List Owner) (node dir : ℕ) → SaysCopied owners node dir (copied_among owners node dir)
-says_copied owners node dir v m nodes from to there o layout sound held are at from_is numbered above dir_is =
-    copied_is m nodes v.listings owners node dir from to there o sound held are at from_is numbered above dir_is
-    ∙ ap (λ (y : Layout). not (is_directory_object o) && not (is_same_path (holder from) (holder to)) && is_sharing y (objects_of v.listings) o) (sym layout)
 
 -- ---- what it wants of space
 

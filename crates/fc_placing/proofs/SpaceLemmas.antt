@@ -27,21 +27,19 @@ use Rattle.fc_image.specs.effects.Placed.{holes_left, stands_at}
 use Rattle.fc_image.specs.effects.Steady.{ZoneSteady, holes_with, has_id_that, runs_that, zone_holes}
 use Rattle.fc_plan.specs.declared.plan.Plan.{Plan}
 use Rattle.fc_plan.specs.Applied.{is_changed, unless_gone}
-use Rattle.fc_plan.specs.Giving.{has_run_of, is_given, is_one_of, stays_given}
-use Rattle.fc_plan.specs.Parts.{KeepsZones, fronts, has_part}
+use Rattle.fc_plan.specs.Giving.{has_run_of, is_one_of}
 use Rattle.fc_plan.specs.Taking.{as_runs, hole_taken, run_taken, runs_taken}
 use Rattle.fc_plan.proofs.Applies.{no_parts}
 use Rattle.fc_plan.proofs.Changes.{not_listed}
 use Rattle.fc_plan.proofs.Composed.{given_after_take, given_at_holes}
 use Rattle.fc_plan.proofs.Left.{left_of_none}
-use Rattle.fc_changes.specs.Laws.{GaveBack}
 use Rattle.fc_device.specs.Sectors.{sector_at}
 use Rattle.fc_image.specs.Layout.{is_among}
 use Rattle.fc_changes.specs.Owed.{IsMapAfter, IsSpaceEdit, IsWritten}
 use Rattle.fc_changes.proofs.BasicLemmas.{cases_cons, clash, first_in, next_in, or_false}
 use Rattle.fc_changes.proofs.CommittedLemmas.{geometry_same, index_part, kept_links, record_same, steady_zone, all_same}
 use Rattle.fc_placing.specs.Space.{HasTaken, IsMapEdited, StepsLaw, zones_changed}
-use Rattle.fc_record.proofs.KindLemmas.{or_first, or_second}
+use Rattle.fc_record.proofs.KindLemmas.{or_second}
 use Rattle.fc_placing.proofs.LeavingLemmas.{any_append}
 
 -- ---- the zones that change
@@ -68,17 +66,6 @@ module _ (m : Map) (plan : Option Plan) (gone zones : List ℕ) (are : zones ≡
   pub unlisted : (z : ℕ) → z < m.geometry.zones → (Contains zones z → ⊥) → is_changed m plan None gone z ≡ false
   unlisted z low none = not_listed (is_changed m plan None gone) m.geometry.zones z [] zones are low none
 
--- zones in which nothing goes back stay
-pub others_given : (m mid : Map) (gone zones : List ℕ) → zones ≡ zones_changed m None gone → KeepsZones (λ z. has_run_of gone (runs_of m z)) m mid
-    → (z : ℕ) → z < m.geometry.zones → (Contains zones z → ⊥) → sector_of mid z ≡ sector_of m z
-others_given m mid gone zones are keeps z low none = keeps z (unlisted m None gone zones are z low none)
-
--- zones in which nothing is taken stay
-pub others_taken : (m mid : Map) (plan : Plan) (zones : List ℕ) → zones ≡ zones_changed m (Some plan) [] → KeepsZones (has_part (fronts plan.parts.items)) m mid
-    → (z : ℕ) → z < m.geometry.zones → (Contains zones z → ⊥) → sector_of mid z ≡ sector_of m z
-others_taken m mid plan zones are keeps z low none =
-    keeps z (or_first (has_part (fronts plan.parts.items) z) (has_run_of [] (runs_of m z)) (unlisted m (Some plan) [] zones are z low none))
-
 -- ---- the map after the commit
 
 pub edited : (m mid m' : Map) → AreEdits m mid → KeepsRuns mid m' → KeepsContents mid m' → IsMapEdited m m'
@@ -92,11 +79,6 @@ edited m mid m' edits kept contents = record {
 
 pub after : (m m' : Map) (image : List ℕ) → IsMapEdited m m' → HoldsCopies m.geometry m'.zones image → IsMapAfter m m' image
 after m m' image e copies = record { is_map = e.is_map; geometry = e.geometry; copies = copies; record_stays = e.record_stays; zones = e.zones; links = e.links }
-
-pub gave : (m mid : Map) (gone : List ℕ) → AreEdits m mid
-    → ((z : ℕ) → z < m.geometry.zones → zone_holes (hole_runs mid) z ≡ holes_with (zone_holes (hole_runs m) z) (zone_holes (filter (is_given gone []) (all_runs m)) z))
-    → ((id : ℕ) → id_runs mid id ≡ filter (stays_given gone []) (id_runs m id)) → GaveBack m mid gone
-gave m mid gone edits holes of_ids = record { edits = edits; holes = holes; of_ids = of_ids }
 
 -- ---- a map with the same runs
 

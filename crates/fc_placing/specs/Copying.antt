@@ -1,14 +1,11 @@
 -- Whether a rename copies a file, by the owners alone, and what it wants of space.
-use Rattle.std.specs.Prelude.{◌≡◌, ◌<◌, ℕ, Bool, true, false, not, ◌==◌, ◌&&◌, ◌||◌, List, Some, None, Contains}
+use Rattle.std.specs.Prelude.{◌≡◌, ◌<◌, ℕ, Bool, true, false, not, ◌==◌, ◌&&◌, ◌||◌, List, None, Contains}
 use Rattle.std.specs.List.{find}
 use Rattle.std.specs.Option.{option_map_or}
-use Rattle.std.specs.Ordering.{nat_cmp}
-use Rattle.std.specs.FinMap.{FinMap}
 use Rattle.fc_names.specs.Names.{Path, is_same_path}
 use Rattle.fc_alloc.specs.declared.owner.Owner.{Owner}
 use Rattle.fc_alloc.specs.Owners.{is_node}
 use Rattle.fc_newmap.specs.Map.{Map}
-use Rattle.fc_model.specs.Tree.{holder}
 use Rattle.fc_model.specs.Command.{Command}
 use Rattle.fc_image.specs.Layout.{Layout}
 use Rattle.fc_image.specs.Walk.{Object}
@@ -17,9 +14,6 @@ use Rattle.fc_image.specs.Opening.{Opened}
 use Rattle.fc_image.specs.Edits.{IsAt}
 use Rattle.fc_image.specs.Sound.{AreSound}
 use Rattle.fc_image.specs.effects.Short.{is_copied, new_length, short}
-use Rattle.fc_tree.specs.declared.node.Node.{Node}
-use Rattle.fc_tree.specs.Nodes.{number_of, HoldObjects}
-use Rattle.fc_tree.specs.Parts.{AreOwners}
 use Rattle.fc_placing.specs.Leaving.{has_other}
 use Rattle.fc_placing.specs.Places.{FitsDirectory, WantsOwnSpace}
 
@@ -30,13 +24,6 @@ copied_of owners node dir own = own.file && not (own.dir == dir) && ((own.id == 
 -- so it is with the node's owner
 abbrev pub copied_among : List Owner → ℕ → ℕ → Bool
 copied_among owners node dir = option_map_or (copied_of owners node dir) (find (is_node node) owners) false
-
--- It says whether a rename copies the node's object o. The directory of node `dir` holds the new path, and `there` is its path.
-abbrev pub SaysCopied : List Owner → ℕ → ℕ → Bool → Type 0
-SaysCopied owners node dir copied = (v : Opened) (m : Map) (nodes : FinMap nat_cmp Node) (from to there : Path) (o : Object) → v.layout ≡ Layout.New m
-    → AreSound (Layout.New m) v.listings → HoldObjects nodes v.listings → AreOwners owners nodes (Layout.New m) (objects_of v.listings)
-    → Contains (objects_of v.listings) o → is_same_path from o.path ≡ true → number_of nodes o.path ≡ Some node
-    → is_same_path (holder to) there ≡ true → number_of nodes there ≡ Some dir → copied ≡ is_copied v from to o
 
 -- What a rename wants of space, if no directory grows.
 pub record CopiesLaw : Type 0 where

@@ -1,11 +1,9 @@
 -- Places for new objects.
-use Rattle.std.specs.Prelude.{◌≡◌, ◌<◌, ℕ, ◌+◌, ◌*◌, nat_eq, nat_lt, false, List, [], ◌∷◌, Option, Some, None, Result, Ok, Err, Contains}
+use Rattle.std.specs.Prelude.{◌≡◌, ◌<◌, ℕ, ◌+◌, ◌*◌, nat_eq, nat_lt, false, List, [], ◌∷◌, Option, Some, None, Contains}
 use Rattle.std.specs.Option.{option_map_or}
 use Rattle.std.specs.Ordering.{nat_cmp}
 use Rattle.std.specs.FinMap.{FinMap}
 use Rattle.fc_names.specs.Names.{Path}
-use Rattle.fc_names.specs.declared.refusal.Refusal.{Refusal}
-use Rattle.fc_names.specs.declared.refusal.Refusal.TheVariants as refusals
 use Rattle.fc_alloc.specs.declared.owner.Owner.{Owner}
 use Rattle.fc_newmap.specs.Map.{Map, ZoneRun, bits_in, hole_runs, id_runs, is_used}
 use Rattle.fc_newmap.specs.NewMap.{IsNewMap}
@@ -20,10 +18,8 @@ use Rattle.fc_tree.specs.Nodes.{number_of, HoldObjects}
 use Rattle.fc_tree.specs.Parts.{AreOwners}
 use Rattle.fc_image.specs.effects.Placed.{IsPlan, file_low}
 use Rattle.fc_image.specs.effects.Sharing.{new_ids, slack, slack_among, units}
-use Rattle.fc_image.specs.effects.Short.{gain_in, growth_in, is_full_with, new_dir_size, new_length, short, slack_for, slack_in}
+use Rattle.fc_image.specs.effects.Short.{gain_in, growth_in, is_full_with, new_dir_size, new_length, slack_for}
 use Rattle.fc_plan.specs.declared.plan.Plan.{Plan}
-use Rattle.fc_plan.specs.declared.supply.PlanError.{PlanError}
-use Rattle.fc_plan.specs.declared.supply.PlanError.TheVariants as errors
 use Rattle.fc_plan.specs.Applied.{CanTakePlan}
 use Rattle.fc_plan.specs.Parts.{fronts}
 use Rattle.fc_slack.specs.Slack.{holdings, place_in}
@@ -105,13 +101,6 @@ pub record PlaceLaw : Type 0 where
 
 -- ---- refusals
 
--- The answer refuses exactly as a command is refused for want of space.
-abbrev pub AnswersShort : {T : Type 0} → Result T PlanError → Option Refusal → Type 0
-AnswersShort (Ok place) refusal = refusal ≡ None
-AnswersShort (Err errors.IdsFull) refusal = refusal ≡ Some refusals.IdsFull
-AnswersShort (Err errors.DiscFull) refusal = refusal ≡ Some refusals.DiscFull
-AnswersShort (Err errors.NoMemory) refusal = Unit {0}
-
 -- The command grows no directory, and fills none.
 pub record FitsDirectory (v : Opened) (c : Command) : Type 0 where
   pub no_growth : growth_in v c ≡ None
@@ -121,18 +110,3 @@ pub record FitsDirectory (v : Opened) (c : Command) : Type 0 where
 pub record WantsOwnSpace (v : Opened) (c : Command) (bytes : ℕ) : Type 0 where
   pub len : new_length v c ≡ bytes
   pub no_slack : slack_for v c ≡ None
-
--- The command wants so many bytes, in slack of this directory if there is some: a file.
-pub record WantsSpace (v : Opened) (c : Command) (dir : Path) (bytes : ℕ) : Type 0 where
-  pub len : new_length v c ≡ bytes
-  pub slack : slack_for v c ≡ slack_in v.layout (objects_of v.listings) dir bytes
-
--- Commands that want so many bytes, and never in slack, are refused for want of space as is answered.
-abbrev pub RefusesOwnSpace : {T : Type 0} → Map → ℕ → Result T PlanError → Type 0
-RefusesOwnSpace m bytes result = (v : Opened) (c : Command) → v.layout ≡ Layout.New m → WantsOwnSpace v c bytes → FitsDirectory v c → AnswersShort result (short v c)
-
--- So are commands that make a file in a directory of this number.
-abbrev pub RefusesSpace : {T : Type 0} → Map → List Owner → ℕ → ℕ → Result T PlanError → Type 0
-RefusesSpace m owners dir bytes result = (v : Opened) (c : Command) (nodes : FinMap nat_cmp Node) (path : Path) → v.layout ≡ Layout.New m
-    → AreSound (Layout.New m) v.listings → HoldObjects nodes v.listings → AreOwners owners nodes (Layout.New m) (objects_of v.listings)
-    → number_of nodes path ≡ Some dir → WantsSpace v c path bytes → FitsDirectory v c → AnswersShort result (short v c)

@@ -50,15 +50,6 @@ fn left_among(owners: &Owners, node: u64, kept: Option<u32>) -> Option<u32>
     Some(id)
 }
 
-/// The identifier that goes back if the object of a node goes: its own, if no other object has it, and it isn't the map's.
-/// No memory is taken.
-pub fn left_by(owners: &Owners, node: u64) -> Option<u32>
-    ensures exactly { LeavesIds owners.now node None (option_to_list result) }
-    ensures used { LeavesUsed owners.now (option_to_list result) }
-{
-    left_among(owners, node, None)
-}
-
 /// The same if an object comes in the place of the one that goes: `shared` is the identifier of others that it shares, if
 /// it does.
 pub fn left_by_replaced(owners: &Owners, node: u64, shared: Option<u32>) -> Option<u32>

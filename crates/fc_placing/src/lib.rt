@@ -12,10 +12,10 @@ mod space;
 
 pub use addressing::{address_of, directory_address};
 pub use committing::commit_zones;
-pub use copying::{copies, is_copied};
-pub use extents::{extents_of, push_met};
+pub use copying::copies;
+pub use extents::push_met;
 pub use fc_plan::{Plan, PlanError};
 pub use fc_slack::Share;
-pub use leaving::{has_other, left_by, left_by_replaced};
-pub use placing::{Placing, place_alone, place_directory, place_file, places, slack_by_owners};
-pub use space::{give_space, steps, take_space};
+pub use leaving::{has_other, left_by_replaced};
+pub use placing::{Placing, places, slack_by_owners};
+pub use space::steps;

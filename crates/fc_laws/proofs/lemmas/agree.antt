@@ -4,17 +4,11 @@ pub mod RoomLemmas
 pub mod WalkEditLemmas
 pub mod EditLemmas
 pub mod KeptLemmas
-pub mod RewordedLemmas
 pub mod SpaceLemmas
-pub mod DirectoryLemmas
 pub mod RemovedLemmas
 pub mod NewPlaceLemmas
 pub mod AddedLemmas
-pub mod ReplacedLemmas
-pub mod DirectoryAddedLemmas
-pub mod MovedLemmas
 pub mod RenamedLemmas
-pub mod TransferredLemmas
 pub mod CopiedLemmas
 pub mod CutLemmas
 pub mod MapLemmas

@@ -5,13 +5,5 @@ pub mod FollowLemmas
 pub mod ListLemmas
 pub mod OtherLemmas
 pub mod KeptLemmas
-pub mod ChangedLemmas
 pub mod OwnerLemmas
-pub mod RewordedLemmas
-pub mod RemovedLemmas
-pub mod AddedLemmas
 pub mod MovingLemmas
-pub mod RenamedLemmas
-pub mod TransferredLemmas
-pub mod CopiedLemmas
-pub mod OwningLemmas

@@ -1,12 +1,5 @@
 pub mod KindLemmas
 pub mod WriteLemmas
-pub mod RepairLemmas
-pub mod TakenLemmas
-pub mod PlainLemmas
 pub mod SaidLemmas
-pub mod MovingLemmas
 pub mod ApartLemmas
-pub mod StepLemmas
-pub mod StoredLemmas
-pub mod CopiedLemmas
 pub mod CopiedBytesLemmas

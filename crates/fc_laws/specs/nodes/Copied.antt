@@ -2,13 +2,10 @@
 use Rattle.std.specs.Prelude.{◌≡◌, ℕ, false, List, [], ◌∷◌, ◌++◌, insert, remove, Some, IsPermutation}
 use Rattle.fc_dirs.specs.Entries.{has_name}
 use Rattle.fc_dirs.specs.Directory.{Directory, entries_of}
-use Rattle.fc_alloc.specs.declared.owner.Owner.{Owner}
-use Rattle.fc_image.specs.Layout.{Layout}
 use Rattle.fc_image.specs.Walk.{Listing, Object, is_directory_object}
 use Rattle.fc_image.specs.InPlace.{says_now}
 use Rattle.fc_tree.specs.Nodes.{body_in, number_of}
-use Rattle.fc_laws.specs.nodes.Edits.{IsChild, Nodes, NodesFollow, OwnersEdited, OwnersFollow, owners_with, with_body, with_entry, with_holder}
-use Rattle.fc_laws.specs.nodes.Laws.{IsHeld, IsOwned}
+use Rattle.fc_laws.specs.nodes.Edits.{IsChild, Nodes, with_body, with_entry, with_holder}
 
 -- The file o goes from directory k to another directory l, where its copy has another name and address. All other directories are
 -- listed as they were.
@@ -24,12 +21,3 @@ pub record IsCopied (nodes nodes' : Nodes) (listings listings' rest : List Listi
   pub l_entries : entries_of l_content ≡ insert (entries_of l.content) j copy.entry
   pub listings_are : listings' ≡ says_now k k_content (remove k.children i) ∷ says_now l l_content (insert l.children j copy) ∷ rest
   pub nodes_are : nodes' ≡ with_holder number dir (with_entry number copy.entry (with_body dir (body_in l_content) (with_body from_dir (body_in k_content) nodes)))
-
--- `rename` of a file that is copied
-pub record CopiedLaw : Type 0 where
-  pub nodes : (nodes nodes' : Nodes) (layout : Layout) (listings listings' rest : List Listing) (k l : Listing) (k_content l_content : Directory) (i j : ℕ) (o copy : Object) (from_dir dir number : ℕ)
-      (name : List ℕ) → IsHeld nodes layout listings → IsCopied nodes nodes' listings listings' rest k l k_content l_content i j o copy from_dir dir number name → NodesFollow nodes' listings'
-  pub owners : (owners owners' : List Owner) (nodes nodes' : Nodes) (layout layout' : Layout) (listings listings' rest : List Listing) (k l : Listing) (k_content l_content : Directory) (i j : ℕ)
-      (o copy : Object) (from_dir dir number : ℕ) (name : List ℕ) → IsHeld nodes layout listings
-      → IsCopied nodes nodes' listings listings' rest k l k_content l_content i j o copy from_dir dir number name → IsOwned owners nodes layout layout' listings
-      → OwnersEdited owners owners' (owners_with layout from_dir number o) (owners_with layout' dir number copy) → OwnersFollow owners' nodes' layout' listings'

@@ -1,16 +1,15 @@
 -- The places of objects, and the sectors that a command may write beside those of the map.
-use Rattle.std.specs.Prelude.{◌≡◌, ◌<◌, ℕ, true, false, List, [], ◌∷◌, ◌++◌, if◌then◌else◌, Contains, IsPermutation}
-use Rattle.fc_names.specs.Names.{Path, is_same_path}
+use Rattle.std.specs.Prelude.{◌≡◌, ◌<◌, ℕ, true, false, List, [], ◌∷◌, ◌++◌, if◌then◌else◌, Contains}
+use Rattle.fc_names.specs.Names.{Path}
 use Rattle.fc_record.specs.declared.Kind.{Kind}
-use Rattle.fc_newmap.specs.Map.{Map, ZoneRun, map_sectors}
+use Rattle.fc_newmap.specs.Map.{Map, ZoneRun}
 use Rattle.fc_newmap.specs.NewMap.{IsNewMap}
-use Rattle.fc_model.specs.Tree.{holder}
 use Rattle.fc_model.specs.Command.{Command}
 use Rattle.fc_image.specs.Layout.{Layout, dir_form, disc_sectors, hole_sectors, is_among, is_apart}
-use Rattle.fc_image.specs.Walk.{Listing, Object, is_directory_object, object_size, reader_of}
+use Rattle.fc_image.specs.Walk.{Listing, Object, is_directory_object, object_size}
 use Rattle.fc_image.specs.Objects.{objects_of}
 use Rattle.fc_image.specs.Opening.{Opened, boot_place}
-use Rattle.fc_image.specs.Edits.{IsAt, IsListing}
+use Rattle.fc_image.specs.Edits.{IsAt}
 use Rattle.fc_image.specs.Stays.{OpensAs}
 use Rattle.fc_image.specs.effects.Steady.{idle_sectors, may_be_rewritten}
 use Rattle.fc_changes.specs.Owed.{GivesBack, IsSpaceEdit}
@@ -20,26 +19,6 @@ use Rattle.fc_changes.specs.Changed.{IsFileAt, IsInNewSpace}
 pub record OpensBy (kind : Kind) (image : List ℕ) (view : Opened) (m : Map) : Type 0 where
   pub opens : OpensAs image kind view
   pub layout : view.layout ≡ Layout.New m
-
--- ---- objects
-
-pub record ObjectsLaw : Type 0 where
-  -- A listed directory is an object, and its bytes say what is listed.
-  pub listed : (kind : Kind) (image : List ℕ) (view : Opened) (m : Map) (l : Listing) → OpensBy kind image view m → Contains view.listings l → Contains (objects_of view.listings) l.object
-  pub says : (kind : Kind) (image : List ℕ) (view : Opened) (m : Map) (l : Listing) → OpensBy kind image view m → Contains view.listings l
-      → IsListing (reader_of image (Layout.New m)) (Layout.New m) l
-  pub child : (kind : Kind) (image : List ℕ) (view : Opened) (m : Map) (l : Listing) (o : Object) → OpensBy kind image view m → Contains view.listings l → Contains l.children o
-      → Contains (objects_of view.listings) o
-  -- A path of what it holds lies in it.
-  pub holds : (kind : Kind) (image : List ℕ) (view : Opened) (m : Map) (l : Listing) (o : Object) (path : Path) → OpensBy kind image view m → Contains view.listings l → Contains l.children o
-      → is_same_path path o.path ≡ true → is_same_path (holder path) l.object.path ≡ true
-  -- Objects lie at their addresses, and apart from the map.
-  pub placed : (kind : Kind) (image : List ℕ) (view : Opened) (m : Map) (o : Object) → OpensBy kind image view m → Contains (objects_of view.listings) o → IsAt (Layout.New m) o
-  pub no_map : (kind : Kind) (image : List ℕ) (view : Opened) (m : Map) (o : Object) → OpensBy kind image view m → Contains (objects_of view.listings) o
-      → is_apart o.sectors (map_sectors m.geometry) ≡ true
-  -- A directory is apart from the others.
-  pub others : (kind : Kind) (image : List ℕ) (view : Opened) (m : Map) (l k : Listing) (rest : List Listing) → OpensBy kind image view m → IsPermutation view.listings (l ∷ rest) → Contains rest k
-      → is_apart k.object.sectors l.object.sectors ≡ true
 
 -- ---- what may be written
 

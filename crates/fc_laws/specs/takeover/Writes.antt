@@ -1,21 +1,16 @@
 -- What is written into the sectors of an object is there, and it stays if other sectors are written.
-use Rattle.std.specs.Prelude.{◌≡◌, ◌≤◌, ℕ, ◌*◌, true, List, [], length, Some}
-use Rattle.fc_names.specs.declared.name.NameForm.{NameForm}
-use Rattle.fc_names.specs.Names.{is_directory}
+use Rattle.std.specs.Prelude.{◌≡◌, ◌≤◌, ℕ, ◌*◌, true, List, [], length}
 use Rattle.fc_newmap.specs.Map.{Map, map_sectors}
 use Rattle.fc_newmap.specs.NewMap.{IsNewMap}
 use Rattle.fc_copies.specs.Copies.{ChangesCopies, HoldsCopies}
-use Rattle.fc_dirs.specs.declared.Entry.{Entry}
 use Rattle.fc_dirs.specs.Directory.{Directory}
-use Rattle.fc_drafts.specs.Draft.{size_of}
-use Rattle.fc_image.specs.Layout.{Layout, bytes_in, dir_form, is_among, is_apart, sectors_at}
+use Rattle.fc_image.specs.Layout.{Layout, bytes_in, dir_form, is_among, is_apart}
 use Rattle.fc_image.specs.Walk.{Object, object_bytes, object_size}
 use Rattle.fc_image.specs.Edits.{IsAt}
 use Rattle.fc_image.specs.Stays.{HasSectorsOf}
 use Rattle.fc_image.specs.effects.Steady.{AreWritten}
 use Rattle.fc_objects.specs.Bytes.{first_bytes}
 use Rattle.fc_objects.specs.Written.{AreApart, IsPartWritten}
-use Rattle.fc_tree.specs.Agree.{HasForm}
 use Rattle.fc_changes.specs.Owed.{IsWritten}
 
 -- Sectors that are apart from those that were written, and from the map.
@@ -58,25 +53,3 @@ pub record WrittenBytesLaw : Type 0 where
   pub stored : (m m' : Map) (o : Object) (bytes image : List ℕ) → IsObjectWritten m m' o bytes image → object_bytes image (Layout.New m') o ≡ bytes
   pub directory : (m m' : Map) (o : Object) (content : Directory) (bytes image : List ℕ) → IsObjectWritten m m' o bytes image → AreWritten bytes content
       → AreWritten (object_bytes image (Layout.New m') o) content
-
--- ---- what a writer leaves, by the entry of the object
-
--- The object of this entry has its place in these sectors, and has got these bytes (`place_of`, `write_object`).
-pub record IsObjectStored (m : Map) (e : Entry) (sectors bytes image image' : List ℕ) : Type 0 where
-  pub place : sectors_at (Layout.New m) e.address (object_size (dir_form (Layout.New m)) e) ≡ Some sectors
-  pub long : length bytes ≡ object_size (dir_form (Layout.New m)) e
-  pub part : IsPartWritten m.geometry.sector sectors bytes image image'
-  pub reads_back : AreApart sectors → length bytes ≤ length sectors * m.geometry.sector → first_bytes m.geometry.sector image' sectors (length bytes) ≡ bytes
-
-pub record StoredLaw : Type 0 where
-  -- the bytes of a directory: as many as its draft has
-  pub size : (form : NameForm) (e : Entry) (content : Directory) → is_directory e.attrs ≡ true → HasForm form e.len content → object_size form e ≡ size_of content
-  -- Only the object's sectors are written, and they have its bytes.
-  pub place : (m : Map) (o : Object) (sectors bytes image image' : List ℕ) → IsAt (Layout.New m) o → IsObjectStored m o.entry sectors bytes image image' → sectors ≡ o.sectors
-  pub written : (m m' : Map) (o : Object) (sectors bytes image image' : List ℕ) → m'.geometry ≡ m.geometry → IsAt (Layout.New m') o → IsObjectStored m' o.entry sectors bytes image image'
-      → IsWritten m o.sectors image image'
-  pub bytes : (m' : Map) (o : Object) (sectors bytes image image' : List ℕ) → IsNewMap m' → IsAt (Layout.New m') o → IsObjectStored m' o.entry sectors bytes image image'
-      → object_bytes image' (Layout.New m') o ≡ bytes
-  -- The map stays, if the object lies apart from it.
-  pub map_stays : (m m' : Map) (o : Object) (sectors bytes image image' : List ℕ) → m'.geometry ≡ m.geometry → IsAt (Layout.New m') o → is_apart o.sectors (map_sectors m.geometry) ≡ true
-      → IsObjectStored m' o.entry sectors bytes image image' → HasSectorsOf m.geometry.sector (map_sectors m.geometry) image image'

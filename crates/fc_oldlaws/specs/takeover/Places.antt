@@ -1,41 +1,17 @@
 -- The places of objects on a disc with an old map, and the sectors that a command may write beside those of the map.
-use Rattle.std.specs.Prelude.{◌≡◌, ◌<◌, ◌⊎◌, ℕ, true, false, List, [], ◌∷◌, ◌++◌, if◌then◌else◌, Contains, IsPermutation}
-use Rattle.fc_names.specs.Names.{Path, is_same_path}
+use Rattle.std.specs.Prelude.{◌≡◌, ◌<◌, ◌⊎◌, ℕ, true, false, List, [], ◌++◌, if◌then◌else◌, Contains}
 use Rattle.fc_record.specs.declared.Kind.{Kind}
 use Rattle.fc_oldmap.specs.OldMap.{OldMapContent}
-use Rattle.fc_model.specs.Tree.{holder}
 use Rattle.fc_model.specs.Command.{Command}
-use Rattle.fc_image.specs.Layout.{Layout, disc_sectors, hole_sectors, is_among, is_apart, map_place}
-use Rattle.fc_image.specs.Walk.{Listing, Object, is_directory_object, object_size, reader_of}
+use Rattle.fc_image.specs.Layout.{Layout, disc_sectors, hole_sectors, is_among, is_apart}
+use Rattle.fc_image.specs.Walk.{Listing, Object, is_directory_object, object_size}
 use Rattle.fc_image.specs.Layout.{dir_form}
 use Rattle.fc_image.specs.Objects.{objects_of}
 use Rattle.fc_image.specs.Opening.{Opened}
-use Rattle.fc_image.specs.Edits.{IsAt, IsListing}
+use Rattle.fc_image.specs.Edits.{IsAt}
 use Rattle.fc_image.specs.effects.Steady.{lost_sectors, may_be_rewritten}
 use Rattle.fc_oldchanges.specs.Owed.{IsBefore}
 use Rattle.fc_oldchanges.specs.Changed.{IsFileAt, IsFirstFitted}
-
--- ---- objects
-
-pub record ObjectsLaw : Type 0 where
-  -- A listed directory is an object, and its bytes say what is listed.
-  pub listed : (kind : Kind) (image : List ℕ) (view : Opened) (space : OldMapContent) (l : Listing) → IsBefore kind image view space → Contains view.listings l → Contains (objects_of view.listings) l.object
-  pub says : (kind : Kind) (image : List ℕ) (view : Opened) (space : OldMapContent) (l : Listing) → IsBefore kind image view space → Contains view.listings l
-      → IsListing (reader_of image (Layout.Old space)) (Layout.Old space) l
-  pub child : (kind : Kind) (image : List ℕ) (view : Opened) (space : OldMapContent) (l : Listing) (o : Object) → IsBefore kind image view space → Contains view.listings l → Contains l.children o
-      → Contains (objects_of view.listings) o
-  -- A path of what it holds lies in it.
-  pub holds : (kind : Kind) (image : List ℕ) (view : Opened) (space : OldMapContent) (l : Listing) (o : Object) (path : Path) → IsBefore kind image view space → Contains view.listings l
-      → Contains l.children o → is_same_path path o.path ≡ true → is_same_path (holder path) l.object.path ≡ true
-  -- Objects lie at their addresses, and apart from the map and the holes.
-  pub placed : (kind : Kind) (image : List ℕ) (view : Opened) (space : OldMapContent) (o : Object) → IsBefore kind image view space → Contains (objects_of view.listings) o → IsAt (Layout.Old space) o
-  pub no_map : (kind : Kind) (image : List ℕ) (view : Opened) (space : OldMapContent) (o : Object) → IsBefore kind image view space → Contains (objects_of view.listings) o
-      → is_apart o.sectors (map_place (Layout.Old space)) ≡ true
-  pub no_hole : (kind : Kind) (image : List ℕ) (view : Opened) (space : OldMapContent) (o : Object) → IsBefore kind image view space → Contains (objects_of view.listings) o
-      → is_apart o.sectors (hole_sectors (Layout.Old space)) ≡ true
-  -- A directory is apart from the others.
-  pub others : (kind : Kind) (image : List ℕ) (view : Opened) (space : OldMapContent) (l k : Listing) (rest : List Listing) → IsBefore kind image view space → IsPermutation view.listings (l ∷ rest)
-      → Contains rest k → is_apart k.object.sectors l.object.sectors ≡ true
 
 -- ---- what may be written
 

@@ -1,6 +1,5 @@
 -- What is written into the sectors of an object is there, and it stays if other sectors are written, on a disc with an old map.
 use Rattle.std.specs.Prelude.{◌≡◌, ◌≤◌, ◌*◌, ℕ, true, List, [], length}
-use Rattle.fc_oldmap.specs.declared.Hole.{Hole}
 use Rattle.fc_oldmap.specs.OldMap.{OldMapContent, IsOldMap}
 use Rattle.fc_dirs.specs.Directory.{Directory}
 use Rattle.fc_image.specs.Layout.{Layout, bytes_in, dir_form, is_among, is_apart, map_place, sector_bytes}
@@ -10,17 +9,12 @@ use Rattle.fc_image.specs.Stays.{HasSectorsOf}
 use Rattle.fc_image.specs.effects.Steady.{AreWritten}
 use Rattle.fc_objects.specs.Bytes.{first_bytes}
 use Rattle.fc_objects.specs.Written.{AreApart, IsPartWritten}
-use Rattle.fc_oldchanges.specs.Owed.{IsMapAfter, IsWritten, MapStays}
+use Rattle.fc_oldchanges.specs.Owed.{IsWritten, MapStays}
 
 -- One step: only these sectors are written, and none of the map.
 pub record IsObjectStep (space : OldMapContent) (sectors image image' : List ℕ) : Type 0 where
   pub written : IsWritten space sectors image image'
   pub map_stays : MapStays space image image'
-
--- One step: only the map's sectors are written, and the map then has these holes.
-pub record IsMapStep (space : OldMapContent) (holes : List Hole) (image image' : List ℕ) : Type 0 where
-  pub written : IsWritten space [] image image'
-  pub map : IsMapAfter space holes image image'
 
 -- Sectors that are apart from those that were written, and from the map.
 pub record IsUnwritten (space : OldMapContent) (sectors written : List ℕ) : Type 0 where

@@ -2,7 +2,6 @@
 use Rattle.std.proofs.Common.{◌≡◌, ℕ, Bool, true, false, cond, not, List, [], ◌∷◌, ◌++◌, length, map, filter, refl, sym, ap, subst, ◌∙◌, Option, Some, unwrap_or}
 use Rattle.std.specs.Prelude.{Contains, IsPermutation, nat_lt}
 use Rattle.std.proofs.lemmas.List.Sorted.{IsPermutation-trans, IsPermutation-sym, IsPermutation-cons, IsPermutation-map, IsPermutation-append_right, Contains-permutation}
-use Rattle.fc_names.specs.Names.{Path}
 use Rattle.fc_model.specs.Tree.{holder}
 use Rattle.fc_alloc.specs.declared.owner.Owner.{Owner}
 use Rattle.fc_image.specs.Layout.{Layout, id_of, low_of}
@@ -11,7 +10,7 @@ use Rattle.fc_image.specs.Objects.{objects_of, has_sectors}
 use Rattle.fc_image.specs.Order.{held}
 use Rattle.fc_image.specs.Sound.{AreSound}
 use Rattle.fc_image.proofs.ShuffleLemmas.{IsPermutation-filter, IsPermutation-flat_map, filter-append, IsPermutation-unappend}
-use Rattle.fc_tree.specs.Nodes.{number_of, HoldObjects}
+use Rattle.fc_tree.specs.Nodes.{number_of}
 use Rattle.fc_tree.specs.Parts.{AreOwners, first_in, owner_of}
 use Rattle.fc_tree.proofs.MemberLemmas.{contains_here, from_map, in_filter}
 use Rattle.fc_tree.proofs.WalkedLemmas.{root, root_path, root_and_held, root_is_directory, contained, child_path, holder-push, directories_listed}
@@ -127,15 +126,6 @@ keeps_owner nodes nodes' layout layout' o o' dir number above at above' at' sect
       }) ∙ sym old;
     }
 
--- an object whose paths lead as before
-pub keeps_way : (nodes nodes' : Nodes) (layout layout' : Layout) (listings : List Listing) → HoldObjects nodes listings
-    → ((path : Path) (n : ℕ) → number_of nodes path ≡ Some n → number_of nodes' path ≡ Some n) → ((low : ℕ) → first_in layout' low ≡ first_in layout low)
-    → (o : Object) → Contains (objects_of listings) o → KeepsOwner nodes nodes' layout layout' o o
-keeps_way nodes nodes' layout layout' listings all leads first o at =
-    let h = all.each o at in
-    keeps_owner nodes nodes' layout layout' o o h.holder_number h.number h.at_holder h.at_path (leads (holder o.path) h.holder_number h.at_holder) (leads o.path h.number h.at_path)
-    refl refl refl first
-
 -- the owner of one object, if it has sectors
 pub among_one : (nodes : Nodes) (layout layout' : Layout) (o : Object) (dir number : ℕ) → owner_of nodes layout o ≡ owner_with layout' dir number o
     → owners_among nodes layout (o ∷ []) ≡ owners_with layout' dir number o
@@ -149,19 +139,3 @@ pub owner_law : OwnerLaw
 owner_law nodes layout listings l i o dir number h child =
     let path = child_path layout listings h.sound l o child.listed (contained l.children i o child.at) in
     owner_known nodes layout layout o dir number (ap (number_of nodes) (ap holder path ∙ holder-push l.object.path o.entry.name) ∙ child.dir_is) child.number_is (λ low. refl)
-
--- the same owner, if the layouts agree on it
-pub same_owner : (layout layout' : Layout) (dir number : ℕ) (o x : Object) → ((low : ℕ) → first_in layout' low ≡ first_in layout low) → x.entry.address ≡ o.entry.address
-    → is_directory_object x ≡ is_directory_object o → x.sectors ≡ o.sectors → owners_with layout' dir number x ≡ owners_with layout dir number o
-same_owner layout layout' dir number o x first address kind sectors i =
-    let from = first (low_of (address i)) in
-    let one : Owner = record {
-      id = id_of (address i);
-      dir = dir;
-      node = number;
-      file = not (kind i);
-      low = low_of (address i);
-      first = from i;
-      sectors = length (sectors i);
-    } in
-    cond (nat_lt 0 (length (sectors i))) (one ∷ []) []

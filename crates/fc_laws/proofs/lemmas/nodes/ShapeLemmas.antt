@@ -1,5 +1,5 @@
 -- What nodes say, and as what they are held, after edits of nodes.
-use Rattle.std.proofs.Common.{◌≡◌, ⊎_elim, ℕ, zero, suc, ◌+◌, ◌-◌, Bool, true, false, cond, refl, sym, ap, subst, ◌∙◌, arith, Option, Some, None, nat_cmp, eq-eqb, ne_eqb}
+use Rattle.std.proofs.Common.{◌≡◌, ⊎_elim, ℕ, zero, suc, ◌+◌, ◌-◌, true, cond, refl, sym, ap, subst, ◌∙◌, arith, Option, Some, None, nat_cmp, eq-eqb, ne_eqb}
 use Rattle.std.specs.Prelude.{is_some}
 use Rattle.std.specs.Option.{option_map, option_map_or}
 use Rattle.std.specs.Ordering.{eq_by_cmp}
@@ -7,12 +7,9 @@ use Rattle.std.specs.Cmp.{nat_cmp_total, unsigned_tied}
 use Rattle.std.specs.FinMap.{get, insert as put, remove as take, len, get-insert, get-remove, len-insert, len-remove, empty_of_len, get-empty}
 use Rattle.std.proofs.lemmas.Bool.{cases_eq}
 use Rattle.fc_dirs.specs.declared.Entry.{Entry}
-use Rattle.fc_dirs.specs.Directory.{Directory}
-use Rattle.fc_image.specs.Walk.{Object, is_directory_object}
 use Rattle.fc_tree.specs.declared.node.Body.{Body}
 use Rattle.fc_tree.specs.declared.node.Node.{Node}
-use Rattle.fc_tree.specs.Nodes.{body_in}
-use Rattle.fc_laws.specs.nodes.Edits.{Nodes, with_edited, with_body, with_entry, with_holder, with_own_body}
+use Rattle.fc_laws.specs.nodes.Edits.{Nodes, with_edited, with_body}
 use Rattle.fc_tree.proofs.SlotLemmas.{other as untied}
 
 -- which directory holds a node, and by what entry
@@ -127,59 +124,3 @@ body_said nodes n b c is = ap (option_map said) (edited_here nodes n (λ node. r
 
 pub body_other : (nodes : Nodes) (n : ℕ) (b : Body) (m : ℕ) → (m ≡ n → ⊥) → says_at (with_body n b nodes) m ≡ says_at nodes m
 body_other nodes n b m other = ap (option_map said) (edited_other nodes n (λ node. record node { body = b }) m other)
-
-pub entry_said : (nodes : Nodes) (n : ℕ) (e : Entry) (m : ℕ) → says_at (with_entry n e nodes) m ≡ says_at nodes m
-entry_said nodes n e m = edited_keeps nodes n (λ node. record node { entry = e }) said (λ a. refl) m
-
-pub entry_held : (nodes : Nodes) (n h : ℕ) (e d : Entry) → held_as nodes n ≡ Some (h, d) → held_as (with_entry n e nodes) n ≡ Some (h, e)
-entry_held nodes n h e d is = ap (option_map held_by) (edited_here nodes n (λ node. record node { entry = e })) ∙ by (get nodes n) is
-  where
-    by : (o : Option Node) → option_map held_by o ≡ Some (h, d) → option_map held_by (option_map {T = Node} (λ node. record node { entry = e }) o) ≡ Some (h, e)
-    by None p = absurd (cc)
-    by (Some a) p = ap (λ (o : Option (ℕ × Entry)). Some ((option_map_or (λ y. y) o (h, d)).0, e)) p
-
-pub entry_other : (nodes : Nodes) (n : ℕ) (e : Entry) (m : ℕ) → (m ≡ n → ⊥) → held_as (with_entry n e nodes) m ≡ held_as nodes m
-entry_other nodes n e m other = ap (option_map held_by) (edited_other nodes n (λ node. record node { entry = e }) m other)
-
-pub holder_said : (nodes : Nodes) (n dir m : ℕ) → says_at (with_holder n dir nodes) m ≡ says_at nodes m
-holder_said nodes n dir m = edited_keeps nodes n (λ node. record node { holder = dir }) said (λ a. refl) m
-
-pub holder_held : (nodes : Nodes) (n dir h : ℕ) (e : Entry) → held_as nodes n ≡ Some (h, e) → held_as (with_holder n dir nodes) n ≡ Some (dir, e)
-holder_held nodes n dir h e is = ap (option_map held_by) (edited_here nodes n (λ node. record node { holder = dir })) ∙ by (get nodes n) is
-  where
-    by : (o : Option Node) → option_map held_by o ≡ Some (h, e) → option_map held_by (option_map {T = Node} (λ node. record node { holder = dir }) o) ≡ Some (dir, e)
-    by None p = absurd (cc)
-    by (Some a) p = ap (λ (o : Option (ℕ × Entry)). Some (dir, (option_map_or (λ y. y) o (h, e)).1)) p
-
-pub holder_other : (nodes : Nodes) (n dir m : ℕ) → (m ≡ n → ⊥) → held_as (with_holder n dir nodes) m ≡ held_as nodes m
-holder_other nodes n dir m other = ap (option_map held_by) (edited_other nodes n (λ node. record node { holder = dir }) m other)
-
--- ---- what a directory of its own says
-
-module _ (o : Object) (n : ℕ) (now : Directory) (nodes : Nodes) where
-  pub own_held : (m : ℕ) → held_as (with_own_body o n now nodes) m ≡ held_as nodes m
-  own_held m = by (is_directory_object o)
-    where
-      by : (b : Bool) → held_as (cond b (with_body n (body_in now) nodes) nodes) m ≡ held_as nodes m
-      by true = body_held nodes n (body_in now) m
-      by false = refl
-
-  pub own_other : (m : ℕ) → (m ≡ n → ⊥) → says_at (with_own_body o n now nodes) m ≡ says_at nodes m
-  own_other m other = by (is_directory_object o)
-    where
-      by : (b : Bool) → says_at (cond b (with_body n (body_in now) nodes) nodes) m ≡ says_at nodes m
-      by true = body_other nodes n (body_in now) m other
-      by false = refl
-
-  pub own_said : (c : Body) → is_directory_object o ≡ true → says_at nodes n ≡ Some c → says_at (with_own_body o n now nodes) n ≡ Some (body_in now)
-  own_said c is had = ap (λ b. says_at (cond b (with_body n (body_in now) nodes) nodes) n) is ∙ body_said nodes n (body_in now) c had
-
-  pub own_file : is_directory_object o ≡ false → (m : ℕ) → says_at (with_own_body o n now nodes) m ≡ says_at nodes m
-  own_file is m = ap (λ b. says_at (cond b (with_body n (body_in now) nodes) nodes) m) is
-
-  pub own_length : len (with_own_body o n now nodes) ≡ len nodes
-  own_length = by (is_directory_object o)
-    where
-      by : (b : Bool) → len (cond b (with_body n (body_in now) nodes) nodes) ≡ len nodes
-      by true = edited_length nodes n (λ node. record node { body = body_in now })
-      by false = refl

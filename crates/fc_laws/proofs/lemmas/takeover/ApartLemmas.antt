@@ -2,17 +2,16 @@
 use Rattle.std.proofs.Common.{◌≡◌, ◌<◌, ◌⊎◌, inl, inr, ℕ, ◌-◌, Bool, true, false, cond, List, [], ◌∷◌, ◌++◌, refl, sym, ap, subst, ◌∙◌}
 use Rattle.std.specs.Prelude.{Ok, Err, Contains, IsPermutation, filter, not, ◌==◌, ◌||◌}
 use Rattle.std.proofs.lemmas.List.Sorted.{Contains-permutation, IsPermutation-append_left, IsPermutation-cons, IsPermutation-filter_both, IsPermutation-map, IsPermutation-sym, IsPermutation-trans}
-use Rattle.fc_names.specs.Names.{Path, is_directory, is_same_path}
+use Rattle.fc_names.specs.Names.{Path, is_directory}
 use Rattle.fc_record.specs.declared.DiscRecord.{DiscRecord}
 use Rattle.fc_record.specs.declared.Geometry.{Geometry}
 use Rattle.fc_record.specs.declared.Kind.{Kind}
 use Rattle.fc_record.specs.Record.{base}
-use Rattle.fc_newmap.specs.Map.{Map, ZoneRun, all_runs, map_sectors, sectors_of}
+use Rattle.fc_newmap.specs.Map.{Map, ZoneRun, all_runs, sectors_of}
 use Rattle.fc_newmap.proofs.CoverLemmas.{run_on_disc}
 use Rattle.fc_newmap.proofs.PlaceLemmas.{filter_in, holder_of, in_back, in_either}
 use Rattle.fc_newmap.proofs.RunsLemmas.{runs_apart}
 use Rattle.fc_dirs.specs.declared.Entry.{Entry}
-use Rattle.fc_dirs.specs.Directory.{entries_of}
 use Rattle.fc_model.specs.Command.{Command}
 use Rattle.fc_image.specs.Layout.{Layout, disc_sectors, hole_sectors, is_among, is_apart, map_place}
 use Rattle.fc_image.specs.Walk.{Listing, Object, is_directory_object, reader_of}
@@ -23,21 +22,17 @@ use Rattle.fc_image.specs.Order.{directories, held, listed}
 use Rattle.fc_image.proofs.EntriesLemmas.{in_mapped, listings_law}
 use Rattle.fc_image.proofs.HolesLemmas.{apart_at, apart_from, holes_law, no_hole_in}
 use Rattle.fc_image.proofs.MapEditLemmas.{held_in, is_file}
-use Rattle.fc_image.proofs.RenameLemmas.{child_path}
 use Rattle.fc_image.proofs.WrittenLemmas.{cut}
 use Rattle.fc_image.specs.effects.Steady.{idle_sectors, is_idle, may_be_rewritten}
 use Rattle.fc_changes.specs.Changed.{IsFileAt, IsInNewSpace}
 use Rattle.fc_changes.proofs.BasicLemmas.{cases_cons, clash}
-use Rattle.fc_changes.proofs.BeforeLemmas.{child_in, had, listed_in, object_from, object_lies, opened_as, parts}
+use Rattle.fc_changes.proofs.BeforeLemmas.{had, listed_in, object_from, object_lies, opened_as, parts}
 use Rattle.fc_changes.proofs.NewPlaceLemmas.{NewPlace, file_place, new_place}
 use Rattle.fc_changes.proofs.OutsideLemmas.{AreBusy, holes_busy, no_sectors, object_busy}
 use Rattle.fc_changes.proofs.PlacedLemmas.{filter_test}
-use Rattle.fc_changes.proofs.ReadsLemmas.{lies_in}
 use Rattle.fc_changes.proofs.RenamedLemmas.{each_apart}
-use Rattle.fc_laws.specs.takeover.Places.{IsNewObject, MayBeWritten, ObjectsLaw, OpensBy, PlacesLaw}
+use Rattle.fc_laws.specs.takeover.Places.{IsNewObject, MayBeWritten, OpensBy, PlacesLaw}
 use Rattle.fc_laws.proofs.lemmas.takeover.KindLemmas.{new_kind}
-use Rattle.fc_laws.proofs.lemmas.takeover.PlainLemmas.{says_before}
-use Rattle.fc_laws.proofs.lemmas.takeover.SaidLemmas.{apart_front, others_apart, own_apart}
 use Rattle.fc_image.proofs.EditLemmas.{apart_turned as turned}
 use Rattle.fc_changes.proofs.MovedLemmas.{both_apart as apart_both}
 
@@ -149,10 +144,6 @@ module _ (kind : Kind) (image : List ℕ) (view : Opened) (m : Map) (e : OpensBy
             (each_apart reserved (listed parted.0 ++ files) l.object o (cut kind r image image old m parted.0 l new opens refl parted.1) later))
       ]
 
-  pub own_apart' : (o : Object) (k : Listing) → Contains (held ls) o → Contains ls k → is_same_path o.path k.object.path ≡ false
-      → is_apart k.object.sectors (cond (is_directory_object o) o.sectors []) ≡ true
-  own_apart' o k there at other = own_apart kind r image m ls new opens o k there at other
-
   -- a new file, and a new directory
   pub file_lies : (m' : Map) (dir : Path) (n id : ℕ) (parts' : List ZoneRun) (gone : List ℕ) (o : Object) (stay : List Object) → IsNewObject view m m' n id parts' gone o stay
       → IsFileAt m (objects_of ls) dir n id parts' o → NewPlace kind m (objects_of ls) stay id parts' o
@@ -230,20 +221,6 @@ module _ (kind : Kind) (image : List ℕ) (view : Opened) (m : Map) (e : OpensBy
         → IsInNewSpace m n low id parts' o → MayBeWritten kind view m c o.sectors
     new_directory' m' n low id parts' gone o stay small is place =
         placed_written stay id parts' o (directory_lies m' n low id parts' gone o stay small is place)
-
-pub objects_law : ObjectsLaw
-objects_law = record {
-  listed = λ kind image view m l e at. listed' kind image view m e l at;
-  says = λ kind image view m l e at. says_before kind (r kind image view m e) image view m l (new kind image view m e) e.opens e.layout at;
-  child = λ kind image view m l o e at child. child_in kind (r kind image view m e) image m view.listings (new kind image view m e) (opens kind image view m e) l o at child;
-  holds = λ kind image view m l o path e at child same.
-      let own_path = child_path (Layout.New m) l.object.path (entries_of l.content) l.children o
-      (says_before kind (r kind image view m e) image view m l (new kind image view m e) e.opens e.layout at).1 child in
-      (lies_in path l.object.path o.entry.name (ap (λ (p : Path). is_same_path path p) (sym own_path) ∙ same)).holds;
-  placed = λ kind image view m o e at. (object_lies kind (r kind image view m e) image m view.listings (new kind image view m e) (opens kind image view m e) o at).placed;
-  no_map = λ kind image view m o e at. apart_front o.sectors (map_sectors m.geometry) (boot_place kind m.geometry.sector) (lies_apart kind image view m e o at);
-  others = λ kind image view m l k rest e found at. others_apart kind (r kind image view m e) image m view.listings (new kind image view m e) (opens kind image view m e) l k rest found at;
-}
 
 pub places_law : PlacesLaw
 places_law = record {

@@ -7,9 +7,8 @@ use Rattle.byteorder.specs.Endian.{little_bytes}
 use Rattle.fc_bytes.specs.Words.{bytes_at}
 use Rattle.fc_checks.specs.Checks.{old_check}
 use Rattle.fc_oldmap.specs.declared.Hole.{Hole}
-use Rattle.fc_oldmap.specs.OldMap.{OldMapContent, IsOldMap, checked_half, triples, with_holes}
-use Rattle.fc_oldchanges.specs.Owed.{IsMapAfter, MapStays, holding}
-use Rattle.fc_oldchanges.proofs.MapLemmas.{front_same}
+use Rattle.fc_oldmap.specs.OldMap.{OldMapContent, checked_half, triples, with_holes}
+use Rattle.fc_oldchanges.specs.Owed.{IsMapAfter, holding}
 
 -- ---- the map's bytes
 
@@ -115,23 +114,3 @@ module _ (space : OldMapContent) (a b c : List ℕ) where
         (λ last. inr (last ∙ ap (λ (bs : List ℕ). with_holes bs holes) anew ∙ again mid holes (bytes_at a 0 512) (length-take-le 512 a long))) second.bytes) first.bytes;
     rest = second.rest ∙ first.rest;
   }
-
-  -- other sectors are written before
-  pub map_later : (holes : List Hole) → IsOldMap space → MapStays space a b → IsMapAfter space holes b c → IsMapAfter space holes a c
-  map_later holes is stays map =
-      let f = front_same a b space.sector_units is.units stays in
-      record {
-        few = map.few;
-        bytes = ⊎_elim (λ later. inl (later.0, later.1 ∙ f.0)) (λ anew. inr (anew ∙ ap (λ (bs : List ℕ). with_holes bs holes) f.0)) map.bytes;
-        rest = map.rest ∙ f.1;
-      }
-
-  -- and after it
-  pub map_before : (holes : List Hole) → IsOldMap space → IsMapAfter space holes a b → MapStays space b c → IsMapAfter space holes a c
-  map_before holes is map stays =
-      let f = front_same b c space.sector_units is.units stays in
-      record {
-        few = map.few;
-        bytes = ⊎_elim (λ later. inl (later.0, f.0 ∙ later.1)) (λ anew. inr (f.0 ∙ anew)) map.bytes;
-        rest = f.1 ∙ map.rest;
-      }

@@ -1,15 +1,13 @@
 -- The places of objects on a disc with an old map, and which sectors a command may write.
 use Rattle.std.proofs.Common.{◌≡◌, ◌<◌, ◌⊎◌, inl, inr, ⊎_elim, ℕ, ◌*◌, ◌/◌, Bool, true, false, cond, List, [], ◌∷◌, ◌++◌, refl, sym, ap, subst, ◌∙◌, arith}
-use Rattle.std.specs.Prelude.{Ok, Err, Option, Some, Contains, IsPermutation, filter, not, ◌==◌, ◌||◌, ◌&&◌}
+use Rattle.std.specs.Prelude.{Ok, Err, Option, Some, Contains, filter, not, ◌==◌, ◌||◌, ◌&&◌}
 use Rattle.std.specs.List.{flat_map, range_with_len}
 use Rattle.std.proofs.lemmas.Bool.{eqb-true, not-true as not_true}
-use Rattle.std.proofs.lemmas.List.Elements.{Contains-append_left}
 use Rattle.std.proofs.lemmas.List.Sorted.{Contains-permutation}
-use Rattle.fc_names.specs.Names.{Path, is_directory, is_same_path}
+use Rattle.fc_names.specs.Names.{is_directory}
 use Rattle.fc_record.specs.declared.Kind.{Kind}
 use Rattle.fc_newmap.proofs.PlaceLemmas.{in_either}
 use Rattle.fc_dirs.specs.declared.Entry.{Entry}
-use Rattle.fc_dirs.specs.Directory.{entries_of}
 use Rattle.fc_oldmap.specs.OldMap.{OldMapContent, map_units}
 use Rattle.fc_model.specs.Command.{Command}
 use Rattle.fc_image.specs.Layout.{Layout, dir_form, disc_sectors, hole_sectors, is_among, is_apart, map_place, sectors_at}
@@ -22,27 +20,19 @@ use Rattle.fc_image.specs.Edits.{Apart, IsAt}
 use Rattle.fc_image.specs.Order.{directories, held, listed}
 use Rattle.fc_image.proofs.EntriesLemmas.{in_mapped}
 use Rattle.fc_image.proofs.HolesLemmas.{apart_at, apart_from}
-use Rattle.fc_image.proofs.MapEditLemmas.{is_file}
 use Rattle.fc_image.proofs.OldMapLemmas.{old_map_law}
-use Rattle.fc_image.proofs.OrderLemmas.{order_law}
-use Rattle.fc_image.proofs.PathsLemmas.{itself}
-use Rattle.fc_image.proofs.RenameLemmas.{child_path}
 use Rattle.fc_image.specs.effects.Steady.{lost_sectors, may_be_rewritten}
 use Rattle.fc_changes.proofs.BasicLemmas.{cases_cons, clash, nothing_in}
-use Rattle.fc_changes.proofs.OutsideLemmas.{no_sectors}
 use Rattle.fc_changes.proofs.PlacedLemmas.{filter_test, is_in_flat as among_flat}
-use Rattle.fc_changes.proofs.ReadsLemmas.{lies_in}
 use Rattle.fc_laws.proofs.lemmas.takeover.ApartLemmas.{apart_back}
-use Rattle.fc_laws.proofs.lemmas.takeover.SaidLemmas.{apart_front}
 use Rattle.fc_oldchanges.specs.Owed.{IsBefore}
 use Rattle.fc_oldchanges.specs.Changed.{IsFileAt, IsFirstFitted}
-use Rattle.fc_oldchanges.proofs.BeforeLemmas.{all_listed, child_in, had, listed_in, object_lies, opened_as, parts, says_old}
+use Rattle.fc_oldchanges.proofs.BeforeLemmas.{had, listed_in, object_lies, opened_as, parts}
 use Rattle.fc_oldchanges.proofs.HoleLemmas.{below_end, units_in}
 use Rattle.fc_oldchanges.proofs.MapLemmas.{IsOldDisc, old_disc}
 use Rattle.fc_oldchanges.proofs.PlaceLemmas.{in_disc, pair_apart}
 use Rattle.fc_oldchanges.proofs.SpaceLemmas.{new_place, spaced}
-use Rattle.fc_oldlaws.specs.takeover.Writes.{IsUnwritten}
-use Rattle.fc_oldlaws.specs.takeover.Places.{AreSpared, IsOfRewritten, MayBeWritten, ObjectsLaw, PlacesLaw}
+use Rattle.fc_oldlaws.specs.takeover.Places.{AreSpared, IsOfRewritten, MayBeWritten, PlacesLaw}
 use Rattle.fc_record.proofs.KindLemmas.{and_first, and_second}
 
 -- ---- lists
@@ -111,9 +101,6 @@ module _ (kind : Kind) (image : List ℕ) (view : Opened) (space : OldMapContent
   pub listed' : (l : Listing) → Contains ls l → Contains (objects_of ls) l.object
   listed' l at = listed_in kind image y ls opens l at
 
-  pub no_map' : (o : Object) → Contains (objects_of ls) o → is_apart o.sectors (map_place y) ≡ true
-  no_map' o at = apart_front o.sectors (map_place y) (hole_sectors y) (lies_apart o at)
-
   pub no_hole' : (o : Object) → Contains (objects_of ls) o → is_apart o.sectors (hole_sectors y) ≡ true
   no_hole' o at = apart_back o.sectors (map_place y) (hole_sectors y) (lies_apart o at)
 
@@ -126,14 +113,6 @@ module _ (kind : Kind) (image : List ℕ) (view : Opened) (space : OldMapContent
         | inl top ↦ ap (λ (x : Object). is_directory_object x) (sym top) ∙ ap (λ (x : Entry). is_directory x.attrs) before.is_root.entry
         | inr kept ↦ filter_test is_directory_object (held ls) l.object kept
       ]
-
-  -- two directories are apart
-  pub others_apart : (l k : Listing) (others : List Listing) → IsPermutation ls (l ∷ others) → Contains others k → is_apart k.object.sectors l.object.sectors ≡ true
-  others_apart l k others found at =
-      let before = had kind image y ls opens in
-      pair_apart reserved l.object (listed others ++ filter is_file (held ls)) k.object
-      (order_law.apart reserved (before.root ∷ held ls) (l.object ∷ (listed others ++ filter is_file (held ls))) before.apart (all_listed kind image y ls opens l others found))
-      (Contains-append_left (listed others) (filter is_file (held ls)) k.object (in_mapped (λ (x : Listing). x.object) others k at))
 
   same_object : (p q : Object) (s : ℕ) → Contains (objects_of ls) p → Contains (objects_of ls) q → is_among p.sectors s ≡ true → is_among q.sectors s ≡ true → p ≡ q
   same_object p q s p_in q_in =
@@ -159,17 +138,6 @@ module _ (kind : Kind) (image : List ℕ) (view : Opened) (space : OldMapContent
       let r = in_disc space o.entry.address _ o.sectors s (object_lies kind image y ls opens o at).placed h in
       let inside = r.0.inside in let low = r.2 in omega (arith, inside, low)
 
-  -- another directory is apart from an object, if that is a directory
-  pub own_apart : (o : Object) (k : Listing) → Contains (objects_of ls) o → Contains ls k → is_same_path o.path k.object.path ≡ false
-      → is_apart k.object.sectors (cond (is_directory_object o) o.sectors []) ≡ true
-  own_apart o k there at other = by (is_directory_object o)
-    where
-      by : (b : Bool) → is_apart k.object.sectors (cond b o.sectors []) ≡ true
-      by false = no_sectors k.object.sectors
-      by true = apart_from k.object.sectors o.sectors (λ s i j.
-          let same = same_object k.object o s (listed' k at) there i j in
-          clash (is_same_path o.path k.object.path) (ap (λ (x : Object). is_same_path o.path x.path) same ∙ itself o.path) other)
-
   -- ---- new objects
 
   -- all its sectors lay in holes
@@ -190,13 +158,6 @@ module _ (kind : Kind) (image : List ℕ) (view : Opened) (space : OldMapContent
         free = λ s h. absurd (clash (is_among o.sectors s) h (ap (λ (xs : List ℕ). is_among xs s) empty));
         off_map = λ s h. absurd (clash (is_among o.sectors s) h (ap (λ (xs : List ℕ). is_among xs s) empty));
       }) place
-
-  -- it is apart from what was there
-  pub free_unwritten : (o : Object) (l : Listing) → IsFree o → Contains ls l → IsUnwritten space o.sectors l.object.sectors
-  free_unwritten o l f at = record {
-    apart = apart_from o.sectors l.object.sectors (λ s i j. clash (is_among (hole_sectors y) s) (f.free s i) (apart_at l.object.sectors (hole_sectors y) s (no_hole' l.object (listed' l at)) j));
-    no_map = apart_from o.sectors (map_place y) (λ s i j. clash (is_among (map_place y) s) j (f.off_map s i));
-  }
 
   -- ---- what may be written
 
@@ -229,21 +190,6 @@ module _ (kind : Kind) (image : List ℕ) (view : Opened) (space : OldMapContent
           (λ r. clash (is_among (flat_map (λ (o : Object). o.sectors) (objects_of ls)) s) (among_flat (λ (o : Object). o.sectors) (objects_of ls) r.object s r.there r.within) no_object) (may s i));
       inside = λ s i. ⊎_elim (λ hole. hole_inside s hole) (λ r. object_inside r.object r.there s r.within) (may s i);
     }
-
-pub objects_law : ObjectsLaw
-objects_law = record {
-  listed = λ kind image view space l e at. listed' kind image view space e l at;
-  says = λ kind image view space l e at. says_old kind image (Layout.Old space) view.listings (opens kind image view space e) l at;
-  child = λ kind image view space l o e at child. child_in kind image (Layout.Old space) view.listings (opens kind image view space e) l o at child;
-  holds = λ kind image view space l o path e at child same.
-      let own_path = child_path (Layout.Old space) l.object.path (entries_of l.content) l.children o
-      (says_old kind image (Layout.Old space) view.listings (opens kind image view space e) l at).1 child in
-      (lies_in path l.object.path o.entry.name (ap (λ (p : Path). is_same_path path p) (sym own_path) ∙ same)).holds;
-  placed = λ kind image view space o e at. (object_lies kind image (Layout.Old space) view.listings (opens kind image view space e) o at).placed;
-  no_map = λ kind image view space o e at. no_map' kind image view space e o at;
-  no_hole = λ kind image view space o e at. no_hole' kind image view space e o at;
-  others = λ kind image view space l k rest e found at. others_apart kind image view space e l k rest found at;
-}
 
 pub places_law : PlacesLaw
 places_law = record {
