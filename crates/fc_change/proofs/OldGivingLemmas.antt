@@ -6,8 +6,8 @@ use Rattle.std.specs.FinMap.{get}
 use Rattle.std.proofs.lemmas.Bool.{le-ltb}
 use Rattle.fc_dirs.specs.declared.Entry.{Entry}
 use Rattle.fc_laws.specs.nodes.Edits.{Nodes}
-use Rattle.fc_oldchanges.specs.Owed.{holding}
-use Rattle.fc_oldlaws.specs.agree.Spaces.{CanGive}
+use Rattle.fc_changes.specs.old.Owed.{holding}
+use Rattle.fc_laws.specs.old.agree.Spaces.{CanGive}
 use Rattle.fc_oldmap.specs.declared.Hole.{Hole}
 use Rattle.fc_oldmap.specs.Holes.{hole_limit}
 use Rattle.fc_oldmap.specs.OldMap.{OldMapContent, IsOldMap}

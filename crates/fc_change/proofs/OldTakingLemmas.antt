@@ -19,12 +19,12 @@ use Rattle.fc_image.specs.Layout.{Layout, sectors_at}
 use Rattle.fc_image.specs.effects.Short.{old_need}
 use Rattle.fc_objects.specs.Extents.{sectors_in}
 use Rattle.fc_tree.proofs.WalkedLemmas.{same_some}
-use Rattle.fc_oldlaws.specs.agree.Spaces.{SpaceLaw}
-use Rattle.fc_oldchanges.specs.Owed.{holding}
+use Rattle.fc_laws.specs.old.agree.Spaces.{SpaceLaw}
+use Rattle.fc_changes.specs.old.Owed.{holding}
 use Rattle.fc_changes.proofs.BasicLemmas.{and_false}
-use Rattle.fc_oldchanges.proofs.GrowthLemmas.{none_needed}
-use Rattle.fc_oldchanges.proofs.MadeLemmas.{need_some}
-use Rattle.fc_oldchanges.proofs.SpaceLemmas.{none_over}
+use Rattle.fc_changes.proofs.lemmas.old.GrowthLemmas.{none_needed}
+use Rattle.fc_changes.proofs.lemmas.old.MadeLemmas.{need_some}
+use Rattle.fc_changes.proofs.lemmas.old.SpaceLemmas.{none_over}
 use Rattle.fc_change.specs.declared.job.Wants.{Wants}
 use Rattle.fc_change.specs.declared.placing.old.Taken.{Taken}
 use Rattle.fc_change.specs.declared.spaces.Place.{Place}

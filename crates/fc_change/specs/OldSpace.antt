@@ -10,8 +10,8 @@ use Rattle.fc_image.specs.Layout.{Layout, dir_form}
 use Rattle.fc_image.specs.Walk.{object_size}
 use Rattle.fc_image.specs.effects.Short.{holes_without, old_need}
 use Rattle.fc_laws.specs.nodes.Edits.{Nodes}
-use Rattle.fc_oldchanges.specs.Owed.{holding}
-use Rattle.fc_oldlaws.specs.agree.Spaces.{CanGive}
+use Rattle.fc_changes.specs.old.Owed.{holding}
+use Rattle.fc_laws.specs.old.agree.Spaces.{CanGive}
 use Rattle.fc_tree.specs.declared.node.Node.{Node}
 
 -- The holes lie after the map.

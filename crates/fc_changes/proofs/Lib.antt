@@ -16,3 +16,4 @@ pub mod CommittedLemmas
 pub mod RenamedLemmas
 pub mod MovedLemmas
 pub mod BesideLemmas
+pub mod lemmas

@@ -1,5 +1,8 @@
-//! From what the calls of a command leave on a disc with a new map, to what the command promises.
+//! From what the calls of a command leave on a disc to what the command promises: on new maps, if a big directory grows (`growth`), and on
+//! old maps (`old`, in definitions and lemmas).
 #![tactic(auto)]
+
+pub mod growth;
 
 ghost use Rattle.fc_changes.specs.Rows.{OwedRows};
 ghost use Rattle.fc_changes.specs.Laws.{CommittedLaw};

@@ -17,7 +17,7 @@ use Rattle.fc_image.specs.Walk.{Listing, Object}
 use Rattle.fc_image.specs.effects.Short.{Gain, Growth as GrownTo, growth_with}
 use Rattle.fc_model.specs.Command.{Command}
 use Rattle.fc_laws.proofs.lemmas.agree.BeforeLemmas.{agreed_law}
-use Rattle.fc_oldlaws.proofs.lemmas.moves.FormLemmas.{not_long}
+use Rattle.fc_laws.proofs.lemmas.old.agree.FormLemmas.{not_long}
 use Rattle.fc_refusals.specs.declared.target.Renaming.{Renaming}
 use Rattle.fc_refusals.specs.declared.target.Slot.TheVariants as slots
 use Rattle.fc_refusals.specs.Slots.{IsRenaming}

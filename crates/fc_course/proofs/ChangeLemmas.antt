@@ -16,11 +16,11 @@ use Rattle.fc_image.specs.Layout.{Layout, dir_form, disc_sectors, sector_bytes}
 use Rattle.fc_image.specs.Opening.{Opened}
 use Rattle.fc_image.specs.Stays.{OpensAs}
 use Rattle.fc_image.specs.effects.Short.{short}
-use Rattle.fc_oldchanges.specs.Owed.{IsBefore}
+use Rattle.fc_changes.specs.old.Owed.{IsBefore}
 use Rattle.fc_space.specs.Space.{layout_of}
 use Rattle.fc_tree.specs.Parts.{Parts}
 use Rattle.fc_laws.proofs.lemmas.takeover.ApartLemmas.{places_law}
-use Rattle.fc_oldlaws.proofs.lemmas.takeover.ApartLemmas.{places_law as old_places_law}
+use Rattle.fc_laws.proofs.lemmas.old.takeover.ApartLemmas.{places_law as old_places_law}
 use Rattle.fc_writing.specs.declared.copies.Copies.{Copies}
 use Rattle.fc_writing.specs.declared.copies.Copies.TheVariants.{Equal}
 use Rattle.fc_writing.specs.declared.ready.MapStep.{MapStep}

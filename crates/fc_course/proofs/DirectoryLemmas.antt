@@ -19,7 +19,7 @@ use Rattle.fc_laws.specs.nodes.Edits.{Nodes}
 use Rattle.fc_laws.proofs.lemmas.agree.WalkedLemmas.{object_lies}
 use Rattle.fc_laws.proofs.lemmas.takeover.SaidLemmas.{apart_front}
 use Rattle.fc_laws.proofs.lemmas.takeover.WriteLemmas.{written_bytes_law}
-use Rattle.fc_oldlaws.proofs.lemmas.takeover.WriteLemmas.{written_bytes_law as old_bytes_law}
+use Rattle.fc_laws.proofs.lemmas.old.takeover.WriteLemmas.{written_bytes_law as old_bytes_law}
 use Rattle.fc_writing.specs.declared.ready.Piece.{Piece}
 use Rattle.fc_writing.specs.declared.ready.Ready.{Ready}
 use Rattle.fc_writing.specs.Ready.{CanPut, place_of}

@@ -42,7 +42,7 @@ use Rattle.fc_model.specs.Command.{Command}
 use Rattle.fc_model.specs.Tree.{holder, last_name}
 use Rattle.fc_names.specs.Names.{is_same_path}
 use Rattle.fc_objects.specs.Extents.{sectors_in}
-use Rattle.fc_oldlaws.proofs.lemmas.moves.SayableLemmas.{twins_same}
+use Rattle.fc_laws.proofs.lemmas.agree.TwinLemmas.{twins_same}
 use Rattle.fc_tree.proofs.EndLemmas.{no_twin as apart_names}
 use Rattle.fc_tree.proofs.MemberLemmas.{contains_here, no_element}
 use Rattle.fc_tree.proofs.SoundLemmas.{children_stored}

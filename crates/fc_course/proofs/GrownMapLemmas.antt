@@ -34,8 +34,8 @@ use Rattle.fc_placing.proofs.SpaceLemmas.{after}
 use Rattle.fc_edits.specs.Growing.{Growing}
 use Rattle.fc_outcomes.specs.Growth.{GrowsRoot, MapGrows}
 use Rattle.fc_outcomes.specs.NewImage.{IsMapRooted, rooted_zone}
-use Rattle.fc_growths.specs.Grown.{HasRoot, NewPlace}
-use Rattle.fc_growths.proofs.RootLemmas.{grown_maps_law}
+use Rattle.fc_changes.specs.growth.Grown.{HasRoot, NewPlace}
+use Rattle.fc_changes.proofs.lemmas.growth.RootLemmas.{grown_maps_law}
 use Rattle.fc_writing.specs.declared.ready.RootPlace.{RootPlace}
 use Rattle.fc_writing.specs.Steps.{CanRoot, rooted_map}
 

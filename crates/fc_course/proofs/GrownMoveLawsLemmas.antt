@@ -57,7 +57,7 @@ use Rattle.fc_names.specs.declared.name.NameForm.{NameForm}
 use Rattle.fc_names.specs.declared.name.NameForm.TheVariants as forms
 use Rattle.fc_newmap.specs.Map.{Map}
 use Rattle.fc_newmap.specs.NewMap.{IsNewMap}
-use Rattle.fc_oldchanges.proofs.BeforeLemmas.{opened_as}
+use Rattle.fc_changes.proofs.lemmas.old.BeforeLemmas.{opened_as}
 use Rattle.fc_outcomes.specs.NewImage.{Outcome}
 use Rattle.fc_record.specs.declared.Kind.{Kind}
 use Rattle.fc_refusals.specs.declared.target.Renaming.{Renaming}

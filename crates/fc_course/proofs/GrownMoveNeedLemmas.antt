@@ -18,7 +18,7 @@ use Rattle.fc_model.specs.Command.{Command}
 use Rattle.fc_names.specs.Names.{Path}
 use Rattle.fc_newmap.specs.Map.{Map}
 use Rattle.fc_newmap.specs.NewMap.{IsNewMap}
-use Rattle.fc_oldlaws.proofs.lemmas.agree.GivenLemmas.{space_law}
+use Rattle.fc_laws.proofs.lemmas.old.agree.GivenLemmas.{space_law}
 use Rattle.fc_oldmap.specs.OldMap.{OldMapContent}
 use Rattle.fc_record.specs.declared.Kind.{Kind}
 use Rattle.fc_refusals.specs.declared.target.Renaming.{Renaming}

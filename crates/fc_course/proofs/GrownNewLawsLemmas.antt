@@ -18,7 +18,7 @@ use Rattle.fc_laws.specs.nodes.Edits.{Nodes}
 use Rattle.fc_laws.specs.agree.Agreed.{AgreeOn}
 use Rattle.fc_laws.specs.takeover.Places.{MayBeWritten}
 use Rattle.fc_laws.proofs.lemmas.agree.BeforeLemmas.{agreed_law}
-use Rattle.fc_oldchanges.proofs.BeforeLemmas.{opened_as}
+use Rattle.fc_changes.proofs.lemmas.old.BeforeLemmas.{opened_as}
 use Rattle.fc_refusals.specs.Targets.{IsVacant}
 use Rattle.fc_tree.specs.Agree.{Agree}
 use Rattle.fc_tree.specs.Parts.{AreOwners, ArePartsOf, Parts}

@@ -22,7 +22,7 @@ use Rattle.fc_changes.specs.Owed.{IsBefore}
 use Rattle.fc_writing.specs.declared.ready.RootPlace.{RootPlace}
 use Rattle.fc_writing.specs.Steps.{CanRoot}
 use Rattle.fc_slack.proofs.LowLemmas.{or_true}
-use Rattle.fc_growths.proofs.RootLemmas.{no_difference, raw_of}
+use Rattle.fc_changes.proofs.lemmas.growth.RootLemmas.{no_difference, raw_of}
 use Rattle.fc_record.proofs.KindLemmas.{and_first, and_second}
 use Rattle.fc_holdings.specs.Holdings.{TellsVersion}
 

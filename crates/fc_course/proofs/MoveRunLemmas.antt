@@ -17,7 +17,7 @@ use Rattle.fc_image.specs.Sound.{AreSound}
 use Rattle.fc_image.specs.Stays.{OpensAs}
 use Rattle.fc_image.specs.Walk.{Listing}
 use Rattle.fc_image.specs.effects.Short.{is_copied, short}
-use Rattle.fc_oldchanges.proofs.BeforeLemmas.{opened_as}
+use Rattle.fc_changes.proofs.lemmas.old.BeforeLemmas.{opened_as}
 use Rattle.fc_space.specs.Space.{PlacesSuffice}
 use Rattle.fc_tree.specs.declared.node.Node.{Node}
 use Rattle.fc_tree.specs.Agree.{Agree}
@@ -25,9 +25,9 @@ use Rattle.fc_tree.specs.Parts.{AreOwners, ArePartsOf, Parts}
 use Rattle.fc_laws.specs.nodes.Edits.{Nodes, OwnersEdited, owners_with}
 use Rattle.fc_laws.specs.agree.Agreed.{AgreeOn}
 use Rattle.fc_laws.proofs.lemmas.agree.BeforeLemmas.{agreed_law}
-use Rattle.fc_oldlaws.specs.agree.Laws.{AgreeOn as OldAgreeOn}
-use Rattle.fc_oldlaws.proofs.lemmas.agree.BeforeLemmas.{sound as old_sound}
-use Rattle.fc_oldlaws.proofs.lemmas.agree.GivenLemmas.{space_law}
+use Rattle.fc_laws.specs.old.agree.Laws.{AgreeOn as OldAgreeOn}
+use Rattle.fc_laws.proofs.lemmas.old.agree.BeforeLemmas.{sound as old_sound}
+use Rattle.fc_laws.proofs.lemmas.old.agree.GivenLemmas.{space_law}
 use Rattle.fc_outcomes.specs.Moving as outcomes
 use Rattle.fc_outcomes.specs.NewImage.{Outcome}
 use Rattle.fc_refusals.specs.Slots.{IsRenaming}

@@ -31,7 +31,7 @@ use Rattle.fc_image.specs.Sound.{AreSound}
 use Rattle.fc_image.specs.Walk.{Listing, Object, is_directory_object, object_size}
 use Rattle.fc_image.proofs.HolesLemmas.{Each-contains, Each-objects, Lies, walk_lies}
 use Rattle.fc_model.specs.Tree.{holder}
-use Rattle.fc_oldchanges.proofs.PlaceLemmas.{row_or_none}
+use Rattle.fc_changes.proofs.lemmas.old.PlaceLemmas.{row_or_none}
 use Rattle.fc_tree.specs.declared.node.Node.{Node}
 use Rattle.fc_tree.specs.Agree.{HasForm, IsDirectory}
 use Rattle.fc_tree.specs.Counts.{address_in}

@@ -19,17 +19,17 @@ use Rattle.fc_image.specs.Sound.{AreSound}
 use Rattle.fc_image.specs.Stays.{OpensAs}
 use Rattle.fc_image.specs.Walk.{Listing, Object, object_size}
 use Rattle.fc_image.specs.effects.Short.{holes_without, old_need}
-use Rattle.fc_oldchanges.specs.Changed.{IsFileAt}
-use Rattle.fc_oldchanges.specs.Owed.{IsBefore, IsMapAfter, holding}
+use Rattle.fc_changes.specs.old.Changed.{IsFileAt}
+use Rattle.fc_changes.specs.old.Owed.{IsBefore, IsMapAfter, holding}
 use Rattle.fc_edits.specs.Addition.{Addition, IsAddition, OldAddition, edit, holes_with_it}
 use Rattle.fc_edits.specs.NewNodes as edited
 use Rattle.fc_edits.proofs.lemmas.AdditionLawLemmas.{addition_law}
 use Rattle.fc_laws.specs.nodes.Edits.{Nodes, OwnersEdited, owner_with, owners_with}
-use Rattle.fc_oldlaws.specs.agree.Laws.{AgreeOn, parts_with}
-use Rattle.fc_oldlaws.specs.takeover.Places.{MayBeWritten}
-use Rattle.fc_oldlaws.proofs.lemmas.agree.BeforeLemmas.{sound as old_sound}
-use Rattle.fc_oldlaws.proofs.lemmas.takeover.ApartLemmas.{places_law}
-use Rattle.fc_oldlaws.proofs.lemmas.takeover.WriteLemmas.{written_bytes_law}
+use Rattle.fc_laws.specs.old.agree.Laws.{AgreeOn, parts_with}
+use Rattle.fc_laws.specs.old.takeover.Places.{MayBeWritten}
+use Rattle.fc_laws.proofs.lemmas.old.agree.BeforeLemmas.{sound as old_sound}
+use Rattle.fc_laws.proofs.lemmas.old.takeover.ApartLemmas.{places_law}
+use Rattle.fc_laws.proofs.lemmas.old.takeover.WriteLemmas.{written_bytes_law}
 use Rattle.fc_objects.specs.Extents.{sectors_in}
 use Rattle.fc_outcomes.specs.Addition.{Joins, OldAdditionWritten}
 use Rattle.fc_outcomes.specs.Addition as outcomes

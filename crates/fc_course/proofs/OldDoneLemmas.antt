@@ -3,7 +3,7 @@ use Rattle.std.proofs.Common.{◌≡◌, ℕ, List, length, sym, subst}
 use Rattle.fc_names.specs.Names.{Path}
 use Rattle.fc_model.specs.Command.{Command}
 use Rattle.fc_image.specs.Layout.{Layout, dir_form}
-use Rattle.fc_oldchanges.specs.Changed.{IsFileAt}
+use Rattle.fc_changes.specs.old.Changed.{IsFileAt}
 use Rattle.fc_edits.specs.Addition.{OldAddition}
 use Rattle.fc_outcomes.specs.Addition.{OldAdditionWritten}
 use Rattle.fc_outcomes.specs.Addition as outcomes

@@ -11,9 +11,9 @@ use Rattle.fc_oldmap.specs.Holes.{hole_limit}
 use Rattle.fc_oldmap.specs.OldMap.{OldMapContent, IsOldMap, checked_half, map_units, triples, with_holes}
 use Rattle.fc_image.specs.Layout.{Layout, sector_bytes}
 use Rattle.fc_image.specs.effects.Short.{holes_without}
-use Rattle.fc_oldchanges.specs.Owed.{IsMapAfter, holding}
-use Rattle.fc_oldchanges.proofs.GrowthLemmas.{none_needed}
-use Rattle.fc_oldlaws.proofs.lemmas.takeover.AgainLemmas.{map_twice, long_triples}
+use Rattle.fc_changes.specs.old.Owed.{IsMapAfter, holding}
+use Rattle.fc_changes.proofs.lemmas.old.GrowthLemmas.{none_needed}
+use Rattle.fc_laws.proofs.lemmas.old.takeover.AgainLemmas.{map_twice, long_triples}
 use Rattle.fc_writing.specs.declared.ready.MapStep.{MapStep}
 use Rattle.fc_writing.specs.declared.ready.MapStep.TheVariants as steps
 use Rattle.fc_writing.specs.declared.ready.Ready.{Ready}

@@ -13,7 +13,7 @@ use Rattle.fc_image.specs.Stays.{OpensAs}
 use Rattle.fc_image.specs.Walk.{Listing, Object}
 use Rattle.fc_image.specs.effects.Short.{is_copied}
 use Rattle.fc_image.specs.effects.Steady.{may_be_rewritten}
-use Rattle.fc_oldchanges.specs.Owed.{IsBefore, IsMapAfter}
+use Rattle.fc_changes.specs.old.Owed.{IsBefore, IsMapAfter}
 use Rattle.fc_space.specs.Space.{PlacesSuffice}
 use Rattle.fc_tree.specs.declared.node.Node.{Node}
 use Rattle.fc_tree.specs.Agree.{Agree}
@@ -21,10 +21,10 @@ use Rattle.fc_tree.specs.Parts.{Parts}
 use Rattle.fc_tree.proofs.MemberLemmas.{contains_here}
 use Rattle.fc_laws.specs.nodes.Edits.{Nodes, OwnersEdited, owners_with}
 use Rattle.fc_laws.proofs.lemmas.takeover.SaidLemmas.{apart_front}
-use Rattle.fc_oldlaws.specs.agree.Laws.{AgreeOn, parts_with}
-use Rattle.fc_oldlaws.specs.takeover.Places.{MayBeWritten}
-use Rattle.fc_oldlaws.proofs.lemmas.takeover.ApartLemmas.{places_law}
-use Rattle.fc_oldlaws.proofs.lemmas.takeover.WriteLemmas.{written_bytes_law}
+use Rattle.fc_laws.specs.old.agree.Laws.{AgreeOn, parts_with}
+use Rattle.fc_laws.specs.old.takeover.Places.{MayBeWritten}
+use Rattle.fc_laws.proofs.lemmas.old.takeover.ApartLemmas.{places_law}
+use Rattle.fc_laws.proofs.lemmas.old.takeover.WriteLemmas.{written_bytes_law}
 use Rattle.fc_edits.specs.Edit.{Amended}
 use Rattle.fc_edits.specs.Moving.{OldMoving, edit}
 use Rattle.fc_edits.specs.NewNodes as edited

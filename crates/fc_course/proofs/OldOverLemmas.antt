@@ -17,20 +17,20 @@ use Rattle.fc_image.specs.Sound.{AreSound}
 use Rattle.fc_image.specs.Stays.{OpensAs}
 use Rattle.fc_image.specs.Walk.{Listing, Object, object_size}
 use Rattle.fc_image.specs.effects.Short.{holes_without, old_need, with_space_of}
-use Rattle.fc_oldchanges.specs.Changed.{IsFileAt}
-use Rattle.fc_oldchanges.specs.Owed.{IsBefore, IsMapAfter, holding}
+use Rattle.fc_changes.specs.old.Changed.{IsFileAt}
+use Rattle.fc_changes.specs.old.Owed.{IsBefore, IsMapAfter, holding}
 use Rattle.fc_edits.specs.Addition.{Addition, IsAddition, OldAddition, holes_with_it, nodes_over, owners_before}
 use Rattle.fc_edits.proofs.lemmas.AdditionLawLemmas.{addition_law}
 use Rattle.fc_laws.specs.nodes.Edits.{Nodes, OwnersEdited, owners_with}
 use Rattle.fc_laws.proofs.lemmas.agree.BeforeLemmas.{agreed_law}
 use Rattle.fc_laws.proofs.lemmas.agree.CutLemmas.{cut_law}
-use Rattle.fc_oldlaws.specs.agree.Laws.{AgreeOn, parts_with}
-use Rattle.fc_oldlaws.specs.agree.Spaces.{CanGive}
-use Rattle.fc_oldlaws.specs.takeover.Places.{MayBeWritten}
-use Rattle.fc_oldlaws.proofs.lemmas.agree.BeforeLemmas.{sound as old_sound}
-use Rattle.fc_oldlaws.proofs.lemmas.agree.GivenLemmas.{space_law}
-use Rattle.fc_oldlaws.proofs.lemmas.takeover.ApartLemmas.{places_law}
-use Rattle.fc_oldlaws.proofs.lemmas.takeover.WriteLemmas.{written_bytes_law}
+use Rattle.fc_laws.specs.old.agree.Laws.{AgreeOn, parts_with}
+use Rattle.fc_laws.specs.old.agree.Spaces.{CanGive}
+use Rattle.fc_laws.specs.old.takeover.Places.{MayBeWritten}
+use Rattle.fc_laws.proofs.lemmas.old.agree.BeforeLemmas.{sound as old_sound}
+use Rattle.fc_laws.proofs.lemmas.old.agree.GivenLemmas.{space_law}
+use Rattle.fc_laws.proofs.lemmas.old.takeover.ApartLemmas.{places_law}
+use Rattle.fc_laws.proofs.lemmas.old.takeover.WriteLemmas.{written_bytes_law}
 use Rattle.fc_objects.specs.Extents.{sectors_in}
 use Rattle.fc_outcomes.specs.Addition.{Joins, OldAdditionWritten}
 use Rattle.fc_outcomes.specs.Addition as outcomes

@@ -14,11 +14,11 @@ use Rattle.fc_image.specs.effects.Short.{old_need}
 use Rattle.fc_image.proofs.HolesLemmas.{apart_at, apart_from}
 use Rattle.fc_newmap.proofs.PlaceLemmas.{in_back}
 use Rattle.fc_changes.proofs.BasicLemmas.{clash}
-use Rattle.fc_oldchanges.specs.Changed.{IsFileAt, IsFirstFitted}
-use Rattle.fc_oldchanges.proofs.SpaceLemmas.{AreSpaced, IsNewPlace, new_place, nowhere}
-use Rattle.fc_oldlaws.specs.agree.Laws.{AgreeOn}
-use Rattle.fc_oldlaws.proofs.lemmas.agree.DirectoryLemmas.{spaced_parts}
-use Rattle.fc_oldlaws.proofs.lemmas.takeover.WriteLemmas.{written_bytes_law}
+use Rattle.fc_changes.specs.old.Changed.{IsFileAt, IsFirstFitted}
+use Rattle.fc_changes.proofs.lemmas.old.SpaceLemmas.{AreSpaced, IsNewPlace, new_place, nowhere}
+use Rattle.fc_laws.specs.old.agree.Laws.{AgreeOn}
+use Rattle.fc_laws.proofs.lemmas.old.agree.DirectoryLemmas.{spaced_parts}
+use Rattle.fc_laws.proofs.lemmas.old.takeover.WriteLemmas.{written_bytes_law}
 use Rattle.fc_space.specs.Space.{PlacesSuffice}
 use Rattle.fc_laws.specs.nodes.Edits.{Nodes}
 use Rattle.fc_laws.proofs.lemmas.takeover.SaidLemmas.{apart_front}
@@ -29,7 +29,7 @@ use Rattle.fc_change.specs.Places.{IsOldAt}
 use Rattle.fc_course.proofs.ArrivalLemmas.{Arrival, bytes_of}
 use Rattle.fc_course.proofs.ArrivalPlaceLemmas.{dir_some}
 use Rattle.fc_course.proofs.TwoPieceLemmas.{AreRoom}
-use Rattle.fc_oldlaws.proofs.lemmas.takeover.ApartLemmas.{no_bytes}
+use Rattle.fc_laws.proofs.lemmas.old.takeover.ApartLemmas.{no_bytes}
 
 -- ---- as the command places it
 

@@ -20,7 +20,7 @@ use Rattle.fc_image.specs.Stays.{OpensAs}
 use Rattle.fc_image.specs.Walk.{Listing, Object}
 use Rattle.fc_image.specs.effects.Short.{old_need, space_of, with_space_of}
 use Rattle.fc_image.specs.effects.Steady.{has_grown, has_new_holder}
-use Rattle.fc_oldchanges.specs.Owed.{IsBefore, IsMapAfter, holding}
+use Rattle.fc_changes.specs.old.Owed.{IsBefore, IsMapAfter, holding}
 use Rattle.fc_space.specs.Space.{PlacesSuffice}
 use Rattle.fc_tree.specs.declared.node.Node.{Node}
 use Rattle.fc_tree.specs.Agree.{Agree, AreWalked, HasForm}
@@ -28,11 +28,11 @@ use Rattle.fc_tree.specs.Nodes.{HoldObjects}
 use Rattle.fc_tree.specs.Parts.{ArePartsOf, Parts}
 use Rattle.fc_laws.specs.nodes.Edits.{Nodes}
 use Rattle.fc_laws.proofs.lemmas.agree.BeforeLemmas.{agreed_law}
-use Rattle.fc_oldlaws.specs.agree.Laws.{AgreeOn, parts_with}
-use Rattle.fc_oldlaws.specs.agree.Spaces.{CanGive}
-use Rattle.fc_oldlaws.proofs.lemmas.agree.BeforeLemmas.{sound as old_sound}
-use Rattle.fc_oldlaws.proofs.lemmas.agree.GivenLemmas.{space_law}
-use Rattle.fc_oldlaws.proofs.lemmas.takeover.ApartLemmas.{places_law}
+use Rattle.fc_laws.specs.old.agree.Laws.{AgreeOn, parts_with}
+use Rattle.fc_laws.specs.old.agree.Spaces.{CanGive}
+use Rattle.fc_laws.proofs.lemmas.old.agree.BeforeLemmas.{sound as old_sound}
+use Rattle.fc_laws.proofs.lemmas.old.agree.GivenLemmas.{space_law}
+use Rattle.fc_laws.proofs.lemmas.old.takeover.ApartLemmas.{places_law}
 use Rattle.fc_edits.specs.Deletion.{Deletion, OldDeletion, holes_with_it, nodes_without}
 use Rattle.fc_edits.proofs.lemmas.DeletionLemmas.{deletion_law}
 use Rattle.fc_outcomes.specs.NewImage.{Outcome}

@@ -10,7 +10,7 @@ use Rattle.fc_image.specs.Opening.{Opened}
 use Rattle.fc_image.specs.Sound.{AreSound}
 use Rattle.fc_image.specs.Stays.{OpensAs}
 use Rattle.fc_image.specs.Walk.{Listing}
-use Rattle.fc_oldchanges.specs.Owed.{IsBefore, IsMapAfter}
+use Rattle.fc_changes.specs.old.Owed.{IsBefore, IsMapAfter}
 use Rattle.fc_space.specs.Space.{PlacesSuffice}
 use Rattle.fc_tree.specs.declared.node.Node.{Node}
 use Rattle.fc_tree.specs.Agree.{Agree}
@@ -18,9 +18,9 @@ use Rattle.fc_tree.specs.Nodes.{HoldObjects}
 use Rattle.fc_tree.specs.Parts.{ArePartsOf, Parts}
 use Rattle.fc_laws.specs.nodes.Edits.{Nodes}
 use Rattle.fc_laws.proofs.lemmas.agree.BeforeLemmas.{agreed_law}
-use Rattle.fc_oldlaws.specs.agree.Laws.{AgreeOn, parts_with}
-use Rattle.fc_oldlaws.proofs.lemmas.agree.BeforeLemmas.{sound as old_sound}
-use Rattle.fc_oldlaws.proofs.lemmas.takeover.ApartLemmas.{places_law}
+use Rattle.fc_laws.specs.old.agree.Laws.{AgreeOn, parts_with}
+use Rattle.fc_laws.proofs.lemmas.old.agree.BeforeLemmas.{sound as old_sound}
+use Rattle.fc_laws.proofs.lemmas.old.takeover.ApartLemmas.{places_law}
 use Rattle.fc_edits.specs.NewNodes as edited
 use Rattle.fc_edits.specs.Rewording.{OldRewording, Rewording, edit}
 use Rattle.fc_edits.proofs.lemmas.RewordingLemmas.{rewording_law}

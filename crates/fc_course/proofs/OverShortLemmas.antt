@@ -22,7 +22,7 @@ use Rattle.fc_image.specs.Walk.{Listing, Object}
 use Rattle.fc_image.specs.effects.Sharing.{units}
 use Rattle.fc_image.specs.effects.Short.{Gain, gain_at, gain_in, growth_in, growth_of, holes_without, is_full_with, new_length, old_need, replaced_object, short, slack_for, slack_in, space_reasons, with_space_of}
 use Rattle.fc_laws.specs.nodes.Edits.{Nodes}
-use Rattle.fc_oldchanges.specs.Owed.{holding}
+use Rattle.fc_changes.specs.old.Owed.{holding}
 use Rattle.fc_placing.specs.Places.{FitsDirectory, slack_left}
 use Rattle.fc_placing.proofs.PlacesLemmas.{space_refusal}
 use Rattle.fc_placing.proofs.PlacesLemmas as placing

@@ -15,8 +15,8 @@ use Rattle.fc_image.specs.Opening.{Opened}
 use Rattle.fc_image.specs.Sound.{AreSound}
 use Rattle.fc_image.specs.Stays.{OpensAs}
 use Rattle.fc_image.specs.effects.Short.{short, with_space_of}
-use Rattle.fc_oldchanges.specs.Owed.{holding}
-use Rattle.fc_oldchanges.proofs.BeforeLemmas.{opened_as}
+use Rattle.fc_changes.specs.old.Owed.{holding}
+use Rattle.fc_changes.proofs.lemmas.old.BeforeLemmas.{opened_as}
 use Rattle.fc_space.specs.Space.{PlacesSuffice}
 use Rattle.fc_tree.specs.declared.node.Node.{Node}
 use Rattle.fc_tree.specs.Agree.{Agree}
@@ -24,9 +24,9 @@ use Rattle.fc_tree.specs.Parts.{ArePartsOf, Parts}
 use Rattle.fc_laws.specs.nodes.Edits.{Nodes}
 use Rattle.fc_laws.specs.agree.Agreed.{AgreeOn}
 use Rattle.fc_laws.proofs.lemmas.agree.BeforeLemmas.{agreed_law}
-use Rattle.fc_oldlaws.specs.agree.Laws.{AgreeOn as OldAgreeOn}
-use Rattle.fc_oldlaws.proofs.lemmas.agree.BeforeLemmas.{sound as old_sound}
-use Rattle.fc_oldlaws.proofs.lemmas.agree.GivenLemmas.{space_law}
+use Rattle.fc_laws.specs.old.agree.Laws.{AgreeOn as OldAgreeOn}
+use Rattle.fc_laws.proofs.lemmas.old.agree.BeforeLemmas.{sound as old_sound}
+use Rattle.fc_laws.proofs.lemmas.old.agree.GivenLemmas.{space_law}
 use Rattle.fc_edits.proofs.lemmas.ViewLemmas.{view_law}
 use Rattle.fc_outcomes.specs.NewImage.{Outcome}
 use Rattle.fc_outcomes.specs.Deletion as outcomes

@@ -17,15 +17,15 @@ use Rattle.fc_image.specs.Sound.{AreSound}
 use Rattle.fc_image.specs.Stays.{OpensAs}
 use Rattle.fc_image.specs.Walk.{Object}
 use Rattle.fc_image.specs.effects.Short.{short}
-use Rattle.fc_oldchanges.proofs.BeforeLemmas.{opened_as}
+use Rattle.fc_changes.proofs.lemmas.old.BeforeLemmas.{opened_as}
 use Rattle.fc_space.specs.Space.{PlacesSuffice}
 use Rattle.fc_tree.specs.Agree.{Agree}
 use Rattle.fc_tree.specs.Parts.{ArePartsOf, Parts, owner_of}
 use Rattle.fc_laws.specs.nodes.Edits.{Nodes, owner_with}
 use Rattle.fc_laws.proofs.lemmas.agree.BeforeLemmas.{agreed_law}
 use Rattle.fc_laws.proofs.lemmas.nodes.OwnerLemmas.{owner_law}
-use Rattle.fc_oldlaws.proofs.lemmas.agree.BeforeLemmas.{sound as old_sound}
-use Rattle.fc_oldlaws.proofs.lemmas.agree.GivenLemmas.{space_law}
+use Rattle.fc_laws.proofs.lemmas.old.agree.BeforeLemmas.{sound as old_sound}
+use Rattle.fc_laws.proofs.lemmas.old.agree.GivenLemmas.{space_law}
 use Rattle.fc_outcomes.specs.NewImage.{Outcome}
 use Rattle.fc_outcomes.specs.Rewording as outcomes
 use Rattle.fc_edits.proofs.lemmas.ShapeLemmas.{only}

@@ -17,8 +17,8 @@ use Rattle.fc_image.specs.Opening.{Opened}
 use Rattle.fc_image.specs.Walk.{Object}
 use Rattle.fc_image.specs.effects.Sharing.{new_ids}
 use Rattle.fc_image.specs.effects.Short.{holes_without, short, space_reasons, with_space_of}
-use Rattle.fc_oldchanges.specs.Owed.{holding}
-use Rattle.fc_oldchanges.proofs.GrowthLemmas.{none_needed}
+use Rattle.fc_changes.specs.old.Owed.{holding}
+use Rattle.fc_changes.proofs.lemmas.old.GrowthLemmas.{none_needed}
 use Rattle.fc_tree.specs.Parts.{Parts}
 use Rattle.fc_laws.specs.nodes.Edits.{Nodes}
 use Rattle.fc_refusals.specs.declared.target.Target.{Target}

@@ -19,7 +19,7 @@ use Rattle.fc_image.specs.Objects.{has_sectors}
 use Rattle.fc_image.specs.Walk.{Object, object_size}
 use Rattle.fc_laws.specs.nodes.Edits.{owner_with}
 use Rattle.fc_laws.proofs.lemmas.nodes.ListLemmas.{map_fixed}
-use Rattle.fc_oldchanges.proofs.PlaceLemmas.{row_or_none}
+use Rattle.fc_changes.proofs.lemmas.old.PlaceLemmas.{row_or_none}
 use Rattle.fc_tree.specs.Parts.{first_in}
 use Rattle.fc_tree.proofs.WalkedLemmas.{same_some}
 use Rattle.fc_change.specs.After.{HasPlaceFor}

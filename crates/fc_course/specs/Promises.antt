@@ -23,7 +23,7 @@ use Rattle.fc_tree.specs.Parts.{ArePartsOf, Parts}
 use Rattle.fc_tree.specs.declared.node.Node.{Node}
 use Rattle.fc_laws.specs.nodes.Edits.{Nodes}
 use Rattle.fc_laws.specs.takeover.Places.{MayBeWritten}
-use Rattle.fc_oldlaws.specs.takeover.Places.{AreSpared, MayBeWritten as MayBeWrittenOnOld}
+use Rattle.fc_laws.specs.old.takeover.Places.{AreSpared, MayBeWritten as MayBeWrittenOnOld}
 use Rattle.fc_writing.specs.declared.ready.MapStep.{MapStep}
 use Rattle.fc_writing.specs.declared.ready.MapStep.TheVariants as steps
 use Rattle.fc_writing.specs.Laws.{ChangesOnly}

@@ -20,12 +20,12 @@ use Rattle.fc_image.specs.effects.Short.{holes_without, old_need, with_space_of}
 use Rattle.fc_tree.specs.declared.node.Node.{Node}
 use Rattle.fc_tree.specs.Nodes.{number_of}
 use Rattle.fc_changes.specs.Owed.{GivesBack, IsSpaceEdit}
-use Rattle.fc_oldchanges.specs.Changed.{IsFileAt as IsOldFileAt}
-use Rattle.fc_oldchanges.specs.Owed.{holding}
+use Rattle.fc_changes.specs.old.Changed.{IsFileAt as IsOldFileAt}
+use Rattle.fc_changes.specs.old.Owed.{holding}
 use Rattle.fc_laws.specs.nodes.Edits.{Nodes, OwnersEdited, owners_with}
 use Rattle.fc_laws.specs.nodes.Laws.{IsHeld}
 use Rattle.fc_laws.specs.agree.Agreed.{AgreeOn as NewAgreeOn, CanSay}
-use Rattle.fc_oldlaws.specs.agree.Laws.{AgreeOn}
+use Rattle.fc_laws.specs.old.agree.Laws.{AgreeOn}
 use Rattle.fc_edits.specs.Edit.{Amended, AreEdited, Edit, IsEdit, listings_after, owners_joined, owners_left}
 use Rattle.fc_edits.specs.NewNodes.{enter, nodes_after, tell}
 use Rattle.fc_edits.specs.NewPlaces.{IsSpaceChange, NewPlaces}

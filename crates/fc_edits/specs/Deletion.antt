@@ -18,11 +18,11 @@ use Rattle.fc_tree.specs.Nodes.{body_in, number_of}
 use Rattle.fc_refusals.specs.declared.target.Target.{Target}
 use Rattle.fc_refusals.specs.Targets.{IsRemovable}
 use Rattle.fc_changes.specs.Owed.{GoesAlone}
-use Rattle.fc_oldchanges.specs.Owed.{holding}
+use Rattle.fc_changes.specs.old.Owed.{holding}
 use Rattle.fc_laws.specs.nodes.Edits.{Nodes, OwnersEdited, owners_with, with_body}
 use Rattle.fc_laws.specs.nodes.Laws.{IsHeld}
 use Rattle.fc_laws.specs.agree.Agreed.{AgreeOn as NewAgreeOn, CanSay}
-use Rattle.fc_oldlaws.specs.agree.Laws.{AgreeOn}
+use Rattle.fc_laws.specs.old.agree.Laws.{AgreeOn}
 use Rattle.fc_edits.specs.Edit.{Amended, AreEdited, Edit, IsEdit, listings_after, owners_joined, owners_left}
 use Rattle.fc_edits.specs.NewPlaces.{GivesBack, IsSpaceChange, NewPlaces}
 use Rattle.fc_edits.specs.OldPlaces.{OldPlaces}

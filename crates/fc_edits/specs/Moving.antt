@@ -16,7 +16,7 @@ use Rattle.fc_tree.specs.Nodes.{number_of}
 use Rattle.fc_laws.specs.nodes.Edits.{Nodes, OwnersEdited}
 use Rattle.fc_laws.specs.nodes.Laws.{IsHeld}
 use Rattle.fc_laws.specs.agree.Agreed.{AgreeOn as NewAgreeOn, CanSay}
-use Rattle.fc_oldlaws.specs.agree.Laws.{AgreeOn}
+use Rattle.fc_laws.specs.old.agree.Laws.{AgreeOn}
 use Rattle.fc_edits.specs.Edit.{Amended, AreEdited, Edit, IsAmended, IsEdit, listings_after, owners_joined, owners_left}
 use Rattle.fc_edits.specs.NewNodes.{nodes_after}
 use Rattle.fc_edits.specs.PartsEdit.{OldAgreeNow}

@@ -8,9 +8,9 @@ use Rattle.fc_image.specs.Layout.{Layout, hole_sectors, is_among, map_place}
 use Rattle.fc_image.specs.Walk.{Listing, Object}
 use Rattle.fc_image.specs.Edits.{IsAt}
 use Rattle.fc_tree.specs.declared.node.Node.{Node}
-use Rattle.fc_oldchanges.specs.Owed.{holding}
+use Rattle.fc_changes.specs.old.Owed.{holding}
 use Rattle.fc_laws.specs.nodes.Edits.{Nodes}
-use Rattle.fc_oldlaws.specs.agree.Laws.{AgreeOn}
+use Rattle.fc_laws.specs.old.agree.Laws.{AgreeOn}
 use Rattle.fc_edits.specs.Edit.{Edit, IsEdit, joining, leaving, objects}
 use Rattle.fc_edits.specs.NewPlaces.{HasPlaceOf}
 use Rattle.fc_edits.specs.Places.{ApartPairs, WalkFits}

@@ -17,8 +17,8 @@ use Rattle.fc_tree.specs.Parts.{ArePartsOf}
 use Rattle.fc_laws.specs.nodes.Edits.{Nodes, OwnersEdited}
 use Rattle.fc_laws.specs.nodes.Laws.{IsOwned}
 use Rattle.fc_laws.specs.agree.Agreed.{AgreeOn}
-use Rattle.fc_oldchanges.specs.Owed.{holding}
-use Rattle.fc_oldlaws.specs.agree.Laws.{AgreeOn as OldAgreeOn}
+use Rattle.fc_changes.specs.old.Owed.{holding}
+use Rattle.fc_laws.specs.old.agree.Laws.{AgreeOn as OldAgreeOn}
 use Rattle.fc_edits.specs.OldPlaces.{with_holes}
 use Rattle.fc_edits.specs.Edit.{AreEdited, Edit, IsEdit, listings_after, owners_joined, owners_left}
 use Rattle.fc_edits.specs.NodesEdit.{NodesEdit}

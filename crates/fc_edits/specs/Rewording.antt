@@ -13,7 +13,7 @@ use Rattle.fc_tree.specs.Nodes.{number_of}
 use Rattle.fc_laws.specs.nodes.Edits.{Nodes}
 use Rattle.fc_laws.specs.nodes.Laws.{IsHeld}
 use Rattle.fc_laws.specs.agree.Agreed.{AgreeOn as NewAgreeOn, CanSay}
-use Rattle.fc_oldlaws.specs.agree.Laws.{AgreeOn}
+use Rattle.fc_laws.specs.old.agree.Laws.{AgreeOn}
 use Rattle.fc_edits.specs.Edit.{Amended, AreEdited, Edit, IsEdit, listings_after}
 use Rattle.fc_edits.specs.PartsEdit.{OldAgreeNow}
 use Rattle.fc_edits.specs.Places.{AgreeNow, CanSayAll}

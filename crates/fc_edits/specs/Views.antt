@@ -11,7 +11,7 @@ use Rattle.fc_tree.specs.declared.node.Node.{Node}
 use Rattle.fc_tree.specs.Parts.{ArePartsOf}
 use Rattle.fc_laws.specs.nodes.Edits.{Nodes}
 use Rattle.fc_laws.specs.agree.Agreed.{AgreeOn, parts_with}
-use Rattle.fc_oldlaws.specs.agree.Laws.{AgreeOn as OldAgreeOn, parts_with as old_parts_with}
+use Rattle.fc_laws.specs.old.agree.Laws.{AgreeOn as OldAgreeOn, parts_with as old_parts_with}
 
 -- Parts that agree by the listings of one kind agree by those of each view that has these parts, whatever the view's kind.
 pub record ViewLaw : Type 0 where

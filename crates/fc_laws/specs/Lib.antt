@@ -1,3 +1,4 @@
 pub mod nodes
 pub mod agree
 pub mod takeover
+pub mod old

@@ -1,3 +1,1 @@
-pub mod agree
-pub mod takeover
 pub mod moves

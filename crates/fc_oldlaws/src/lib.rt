@@ -1,6 +1,4 @@
-//! Laws of volumes in memory (fc_laws) on discs with old maps, and those of their compaction (`moves`).
+//! Laws of the compaction of volumes with old maps in memory.
 #![tactic(auto)]
 
-pub mod agree;
 pub mod moves;
-pub mod takeover;

@@ -3,7 +3,7 @@ use Rattle.std.proofs.Common.{◌≡◌, ◌≤◌, List, [], ℕ, refl, sym, su
 use Rattle.fc_device.specs.declared.disk.Disk.{Ghosts}
 use Rattle.fc_oldmap.specs.OldMap.{OldMapContent, IsOldMap}
 use Rattle.fc_image.specs.Layout.{Layout}
-use Rattle.fc_oldchanges.specs.Owed.{IsWritten}
+use Rattle.fc_changes.specs.old.Owed.{IsWritten}
 use Rattle.fc_space.specs.Space.{layout_of}
 use Rattle.fc_holdings.specs.Holdings.{HoldsMap}
 use Rattle.fc_volume.specs.Volume.{StandsFor, Volume}

@@ -14,12 +14,12 @@ use Rattle.fc_image.specs.Layout.{Layout, dir_form}
 use Rattle.fc_image.specs.Objects.{listing_at}
 use Rattle.fc_image.specs.Walk.{Listing}
 use Rattle.fc_laws.specs.nodes.Edits.{Nodes}
-use Rattle.fc_oldlaws.specs.agree.Laws.{AgreeOn, parts_with}
-use Rattle.fc_oldlaws.proofs.lemmas.agree.BeforeLemmas.{sound}
+use Rattle.fc_laws.specs.old.agree.Laws.{AgreeOn, parts_with}
+use Rattle.fc_laws.proofs.lemmas.old.agree.BeforeLemmas.{sound}
 use Rattle.fc_oldmap.specs.OldMap.{OldMapContent, IsOldMap}
 use Rattle.fc_oldlaws.specs.moves.Laws.{ReadyLaw}
 use Rattle.fc_oldlaws.specs.moves.Nodes.{AreReady, sliding_below}
-use Rattle.fc_oldlaws.proofs.lemmas.moves.FormLemmas.{not_long}
+use Rattle.fc_laws.proofs.lemmas.old.agree.FormLemmas.{not_long}
 use Rattle.fc_tree.specs.declared.node.Body.{Body}
 use Rattle.fc_tree.specs.declared.node.Body.TheVariants as bodies
 use Rattle.fc_tree.specs.declared.node.Node.{Node}

@@ -18,9 +18,9 @@ use Rattle.fc_image.specs.Walk.{Listing, Reader, reader_of, walk}
 use Rattle.fc_image.proofs.PathsLemmas.{opened_walk}
 use Rattle.fc_record.specs.declared.Kind.{Kind}
 use Rattle.fc_laws.specs.nodes.Edits.{Nodes}
-use Rattle.fc_oldlaws.specs.agree.Laws.{AgreeOn, parts_with}
-use Rattle.fc_oldlaws.proofs.lemmas.agree.BeforeLemmas.{sound}
-use Rattle.fc_oldchanges.specs.Owed.{IsWritten, holding}
+use Rattle.fc_laws.specs.old.agree.Laws.{AgreeOn, parts_with}
+use Rattle.fc_laws.proofs.lemmas.old.agree.BeforeLemmas.{sound}
+use Rattle.fc_changes.specs.old.Owed.{IsWritten, holding}
 use Rattle.fc_oldmap.specs.OldMap.{OldMapContent, IsOldMap}
 use Rattle.fc_oldlaws.specs.moves.After.{IsSlide, Slide, space_after}
 use Rattle.fc_oldlaws.specs.moves.Nodes.{AreMoved, AreReady, AreRemade, remade}

@@ -21,8 +21,8 @@ use Rattle.fc_image.specs.Walk.{Listing, Object}
 use Rattle.fc_image.proofs.lemmas.effects.OneHoleLemmas.{in_range}
 use Rattle.fc_laws.specs.nodes.Edits.{Nodes}
 use Rattle.fc_laws.proofs.lemmas.agree.BeforeLemmas.{agreed_law}
-use Rattle.fc_oldchanges.specs.Owed.{MapStays}
-use Rattle.fc_oldlaws.proofs.lemmas.agree.GivenLemmas.{space_law}
+use Rattle.fc_changes.specs.old.Owed.{MapStays}
+use Rattle.fc_laws.proofs.lemmas.old.agree.GivenLemmas.{space_law}
 use Rattle.fc_refusals.specs.Targets.{IsRemovable}
 use Rattle.fc_refusals.specs.declared.target.Renaming.{Renaming}
 use Rattle.fc_refusals.specs.declared.target.Target.{Target}
@@ -39,9 +39,9 @@ use Rattle.fc_change.specs.declared.job.Job.TheVariants as jobs
 use Rattle.fc_change.specs.Jobs.{IsJob}
 use Rattle.fc_change.specs.Needs.{AreWants, copied_on, is_copied}
 use Rattle.fc_change.specs.OldSpace.{units_given, units_of}
-use Rattle.fc_course.specs.Jobs.{IsJobFor}
+use Rattle.fc_commands.specs.Promises.{IsJobFor}
 use Rattle.fc_course.proofs.RoomyLemmas.{NoneGrows}
-use Rattle.fc_course.specs.Promises.{IsUnderWay, SameMap}
+use Rattle.fc_commands.specs.Promises.{IsUnderWay, SameMap}
 use Rattle.fc_course.specs.Run.{IsMapIn}
 use Rattle.fc_course.proofs.MoveStageLemmas.{renamer, wants_none}
 use Rattle.fc_course.proofs.OwnerLemmas.{object_as}

@@ -27,8 +27,8 @@ use Rattle.fc_image.proofs.HolesLemmas.{Each-contains, Each-objects, Lies, walk_
 use Rattle.fc_objects.specs.Extents.{sectors_in}
 use Rattle.fc_objects.specs.Written.{IsPartWritten}
 use Rattle.fc_changes.proofs.BasicLemmas.{clash}
-use Rattle.fc_oldchanges.specs.Owed.{IsWritten, holding}
-use Rattle.fc_oldchanges.proofs.PlaceLemmas.{row_or_none}
+use Rattle.fc_changes.specs.old.Owed.{IsWritten, holding}
+use Rattle.fc_changes.proofs.lemmas.old.PlaceLemmas.{row_or_none}
 use Rattle.fc_tree.specs.declared.node.Body.{Body}
 use Rattle.fc_tree.specs.declared.node.Body.TheVariants as bodies
 use Rattle.fc_tree.specs.declared.node.Node.{Node}

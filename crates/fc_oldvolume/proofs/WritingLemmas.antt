@@ -19,7 +19,7 @@ use Rattle.fc_objects.specs.Extents.{sectors_in}
 use Rattle.fc_objects.specs.Written.{AreApart, IsPartWritten}
 use Rattle.fc_objects.proofs.BlockLemmas.{row_bytes}
 use Rattle.fc_oldmap.specs.OldMap.{OldMapContent, map_units, with_holes}
-use Rattle.fc_oldchanges.specs.Owed.{IsWritten, holding}
+use Rattle.fc_changes.specs.old.Owed.{IsWritten, holding}
 use Rattle.fc_oldvolume.specs.Writing.{ChangesFront, IsFrontWritten, IsMapWritten}
 use Rattle.fc_tree.proofs.ReadingLemmas.{all_on_disk as all_low}
 use Rattle.fc_writing.proofs.FrontLemmas.{row_apart, row_is}

@@ -13,8 +13,8 @@ use Rattle.fc_image.specs.Layout.{Layout}
 use Rattle.fc_image.specs.Opening.{Opened}
 use Rattle.fc_image.specs.Stays.{OpensAs}
 use Rattle.fc_tree.specs.Parts.{ArePartsOf, Parts}
-use Rattle.fc_oldchanges.specs.Owed.{IsWritten, MapStays}
-use Rattle.fc_oldlaws.specs.takeover.Places.{AreSpared, MayBeWritten}
+use Rattle.fc_changes.specs.old.Owed.{IsWritten, MapStays}
+use Rattle.fc_laws.specs.old.takeover.Places.{AreSpared, MayBeWritten}
 use Rattle.fc_holdings.specs.declared.error.CommandError.{CommandError}
 use Rattle.fc_holdings.specs.declared.error.CommandError.TheVariants.{DiskFault}
 use Rattle.fc_holdings.specs.Answers.{UnlessFault}

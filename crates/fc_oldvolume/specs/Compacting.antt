@@ -24,7 +24,7 @@ use Rattle.fc_tree.specs.declared.node.Node.{Node}
 use Rattle.fc_tree.specs.Counts.{address_in}
 use Rattle.fc_oldlaws.specs.moves.After.{Slide, entry_after, readdressed}
 use Rattle.fc_oldmap.specs.OldMap.{OldMapContent}
-use Rattle.fc_oldchanges.specs.Owed.{IsWritten}
+use Rattle.fc_changes.specs.old.Owed.{IsWritten}
 use Rattle.fc_record.specs.declared.Kind.{Kind}
 use Rattle.fc_tree.specs.Parts.{ArePartsOf, Parts}
 use Rattle.fc_alloc.specs.declared.owner.Owner.{Owner}

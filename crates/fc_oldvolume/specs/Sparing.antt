@@ -11,7 +11,7 @@ use Rattle.fc_image.specs.Opening.{Opened}
 use Rattle.fc_image.specs.Stays.{OpensAs}
 use Rattle.fc_image.specs.Walk.{Object}
 use Rattle.fc_tree.specs.Parts.{ArePartsOf, Parts}
-use Rattle.fc_oldchanges.specs.Owed.{MapStays}
+use Rattle.fc_changes.specs.old.Owed.{MapStays}
 
 -- If the object of a path has no sectors, no sector of the map is another than before, if the disk tells its bytes.
 abbrev pub SparesMap : {D : Type 0} → Ghosts D → Path → Parts → D → D → Type 0

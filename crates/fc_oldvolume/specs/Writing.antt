@@ -3,7 +3,7 @@ use Rattle.std.specs.Prelude.{◌≡◌, ◌≤◌, ◌-◌, ◌*◌, ◌++◌, 
 use Rattle.fc_device.specs.Sectors.{sector_at}
 use Rattle.fc_bytes.specs.Words.{bytes_at}
 use Rattle.fc_oldmap.specs.OldMap.{OldMapContent, with_holes}
-use Rattle.fc_oldchanges.specs.Owed.{IsWritten}
+use Rattle.fc_changes.specs.old.Owed.{IsWritten}
 
 -- No sector changes but the first ones, of this count.
 pub record ChangesFront (size count : ℕ) (was image : List ℕ) : Type 0 where

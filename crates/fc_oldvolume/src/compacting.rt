@@ -13,7 +13,7 @@ ghost use Rattle.fc_oldlaws.specs.moves.After.{start_after};
 ghost use Rattle.fc_oldlaws.specs.moves.Nodes.{AreMoved};
 ghost use Rattle.fc_oldlaws.specs.moves.Writes.{AreDirectoriesPlaced, MarkChanges};
 ghost use Rattle.fc_space.specs.Space.{layout_of};
-ghost use Rattle.fc_oldchanges.specs.Owed.{IsWritten};
+ghost use Rattle.fc_changes.specs.old.Owed.{IsWritten};
 ghost use Rattle.fc_squash.specs.Places.{ChangesRoom, Leaves};
 ghost use Rattle.fc_squash.specs.Sliding.{TellsAsBefore, TimeGoesOn};
 ghost use Rattle.fc_squash.specs.Squashing.{AreBodies, KeepsBodies, SquashedBy};

@@ -2,7 +2,7 @@
 ghost use Rattle.std.specs.Prelude.{◌≡◌, ◌≤◌, ◌*◌, ◌++◌, [], IsTrue, IsFalse, OnOk, drop, length, take};
 ghost use Rattle.std.specs.Option.{ForSome};
 ghost use Rattle.fc_device.specs.Calls.{FailsByFault, SameForm, StopsAndExitsLeave};
-ghost use Rattle.fc_oldchanges.specs.Owed.{IsWritten};
+ghost use Rattle.fc_changes.specs.old.Owed.{IsWritten};
 ghost use Rattle.fc_oldmap.specs.OldMap.{with_holes};
 ghost use Rattle.fc_oldvolume.specs.Writing.{ChangesFront, IsFrontWritten, IsMapWritten};
 

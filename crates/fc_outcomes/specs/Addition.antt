@@ -19,10 +19,10 @@ use Rattle.fc_changes.specs.Changed.{IsFileAt, IsInNewSpace, MakesFile}
 use Rattle.fc_changes.specs.Owed.{IsMapAfter}
 use Rattle.fc_laws.specs.agree.Agreed.{parts_with}
 use Rattle.fc_laws.specs.takeover.Places.{MayBeWritten}
-use Rattle.fc_oldchanges.specs.Changed.{IsFileAt as IsOldFileAt, IsFirstFitted}
-use Rattle.fc_oldchanges.specs.Owed.{IsMapAfter as IsOldMapAfter, holding}
-use Rattle.fc_oldlaws.specs.agree.Laws.{parts_with as old_parts_with}
-use Rattle.fc_oldlaws.specs.takeover.Places.{AreSpared, MayBeWritten as OldMayBeWritten}
+use Rattle.fc_changes.specs.old.Changed.{IsFileAt as IsOldFileAt, IsFirstFitted}
+use Rattle.fc_changes.specs.old.Owed.{IsMapAfter as IsOldMapAfter, holding}
+use Rattle.fc_laws.specs.old.agree.Laws.{parts_with as old_parts_with}
+use Rattle.fc_laws.specs.old.takeover.Places.{AreSpared, MayBeWritten as OldMayBeWritten}
 use Rattle.fc_edits.specs.Addition.{Addition, NewAddition, OldAddition, holes_with_it, over_it}
 use Rattle.fc_outcomes.specs.NewImage.{Outcome}
 use Rattle.fc_outcomes.specs.Puts.{ArePutOut}

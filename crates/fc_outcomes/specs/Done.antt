@@ -11,7 +11,7 @@ use Rattle.fc_image.specs.Opening.{reserved_in}
 use Rattle.fc_image.specs.TreeEdits.{IsMove, IsObjectEdit}
 use Rattle.fc_tree.specs.Parts.{ArePartsOf}
 use Rattle.fc_image.specs.Opening.{Opened}
-use Rattle.fc_oldchanges.specs.Owed.{holding}
+use Rattle.fc_changes.specs.old.Owed.{holding}
 use Rattle.fc_laws.specs.nodes.Edits.{Nodes}
 use Rattle.fc_edits.specs.Edit.{Amended, Edit, listings_after, objects}
 use Rattle.fc_edits.specs.Places.{Stays}

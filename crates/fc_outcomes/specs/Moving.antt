@@ -17,9 +17,9 @@ use Rattle.fc_laws.specs.nodes.Edits.{Nodes}
 use Rattle.fc_laws.specs.nodes.Laws.{IsHeld}
 use Rattle.fc_laws.specs.agree.Agreed.{parts_with}
 use Rattle.fc_laws.specs.takeover.Places.{MayBeWritten}
-use Rattle.fc_oldchanges.specs.Owed.{IsMapAfter as IsOldMapAfter}
-use Rattle.fc_oldlaws.specs.agree.Laws.{parts_with as old_parts_with}
-use Rattle.fc_oldlaws.specs.takeover.Places.{AreSpared, MayBeWritten as OldMayBeWritten}
+use Rattle.fc_changes.specs.old.Owed.{IsMapAfter as IsOldMapAfter}
+use Rattle.fc_laws.specs.old.agree.Laws.{parts_with as old_parts_with}
+use Rattle.fc_laws.specs.old.takeover.Places.{AreSpared, MayBeWritten as OldMayBeWritten}
 use Rattle.fc_edits.specs.Edit.{Amended}
 use Rattle.fc_edits.specs.Moving.{Moving, NewMoving, OldMoving, edit, moved, new_path}
 use Rattle.fc_edits.specs.Transfer.{IsRenaming, IsTransfer, Renaming, Transfer, renaming_of, transfer_of}

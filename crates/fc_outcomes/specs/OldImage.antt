@@ -15,8 +15,8 @@ use Rattle.fc_image.specs.effects.Effect.{copies_file}
 use Rattle.fc_image.specs.effects.Placed.{Placed}
 use Rattle.fc_image.specs.effects.Short.{old_holes_after}
 use Rattle.fc_image.specs.effects.Steady.{NamedEntrySteady, NamedStays, NewDirectory, OutsideSteady}
-use Rattle.fc_oldchanges.specs.Owed.{IsMapAfter, holding}
-use Rattle.fc_oldlaws.specs.agree.Laws.{parts_with}
+use Rattle.fc_changes.specs.old.Owed.{IsMapAfter, holding}
+use Rattle.fc_laws.specs.old.agree.Laws.{parts_with}
 use Rattle.fc_edits.specs.Edit.{listings_after, objects}
 use Rattle.fc_edits.specs.OldPlaces.{OldPlaces, with_holes}
 use Rattle.fc_edits.specs.PartsEdit.{OldPartsEdit}

@@ -14,9 +14,9 @@ use Rattle.fc_image.specs.effects.Steady.{AreWritten, IsRewritten, with_made}
 use Rattle.fc_changes.specs.Owed.{IsMapAfter}
 use Rattle.fc_laws.specs.agree.Agreed.{parts_with}
 use Rattle.fc_laws.specs.takeover.Places.{MayBeWritten}
-use Rattle.fc_oldchanges.specs.Owed.{IsMapAfter as IsOldMapAfter}
-use Rattle.fc_oldlaws.specs.agree.Laws.{parts_with as old_parts_with}
-use Rattle.fc_oldlaws.specs.takeover.Places.{AreSpared, MayBeWritten as OldMayBeWritten}
+use Rattle.fc_changes.specs.old.Owed.{IsMapAfter as IsOldMapAfter}
+use Rattle.fc_laws.specs.old.agree.Laws.{parts_with as old_parts_with}
+use Rattle.fc_laws.specs.old.takeover.Places.{AreSpared, MayBeWritten as OldMayBeWritten}
 use Rattle.fc_edits.specs.Rewording.{NewRewording, OldRewording, Rewording}
 use Rattle.fc_outcomes.specs.NewImage.{Outcome}
 use Rattle.fc_outcomes.specs.Puts.{ArePutOut}

@@ -11,7 +11,7 @@ use Rattle.fc_holdings.specs.declared.error.CommandError.TheVariants.{Refused, N
 use Rattle.fc_holdings.specs.declared.holdings.Holdings.{Holdings}
 use Rattle.fc_holdings.specs.Answers.{UnlessFault}
 use Rattle.fc_holdings.specs.Holdings as held
-use Rattle.fc_course.specs.Promises.{ChangeKeeps, HasChanged, WritesPlacesOf}
+use Rattle.fc_commands.specs.Promises.{ChangeKeeps, HasChanged, WritesPlacesOf}
 use Rattle.fc_commands.specs.Answers.{AnswersOver}
 use Rattle.fc_commands.specs.Judgments.{CommandLeaves}
 use Rattle.fc_volume.specs.Changing.{IsAsked}

@@ -10,7 +10,7 @@ use Rattle.fc_holdings.specs.declared.error.CommandError.{CommandError}
 use Rattle.fc_holdings.specs.declared.error.CommandError.TheVariants.{DiskFault}
 use Rattle.fc_holdings.specs.Answers.{UnlessFault}
 use Rattle.fc_holdings.specs.Holdings.{IsSameKind}
-use Rattle.fc_course.specs.Promises.{HasChanged, WritesPlacesOf}
+use Rattle.fc_commands.specs.Promises.{HasChanged, WritesPlacesOf}
 use Rattle.fc_commands.specs.Answers.{AnswersOver}
 use Rattle.fc_commands.specs.Judgments.{CommandLeaves}
 use Rattle.fc_volume.specs.Volume.{StandsFor, Volume, parts_of}

@@ -2,8 +2,8 @@
 ghost use Rattle.std.specs.Prelude.{◌≡◌, ◌<◌, ℕ, Some, None, Ok, Err, length, IfErr, IfOk, IsErr};
 ghost use Rattle.fc_image.specs.Layout.{Layout};
 ghost use Rattle.fc_image.specs.effects.Short.{old_need};
-ghost use Rattle.fc_oldchanges.specs.Owed.{holding};
-ghost use Rattle.fc_oldlaws.specs.agree.Spaces.{CanGive};
+ghost use Rattle.fc_changes.specs.old.Owed.{holding};
+ghost use Rattle.fc_laws.specs.old.agree.Spaces.{CanGive};
 ghost use Rattle.fc_oldmap.specs.Holes.{after_take, hole_limit, take_answer};
 ghost use Rattle.fc_oldmap.specs.OldMap.{OldMapContent};
 ghost use Rattle.fc_space.specs.Space.{layout_of};
@@ -157,7 +157,7 @@ fn take_bytes(alloc: Global, held: &Held, map: &OldMap, wants: &Wants) -> Result
             map: None,
         });
     }
-    fc_oldlaws::agree::spaces();
+    fc_laws::old::agree::spaces();
     let bytes = u64::from(wants.bytes);
     let (address, now) = match take_from(map, bytes) {
         Ok(taken) => taken,

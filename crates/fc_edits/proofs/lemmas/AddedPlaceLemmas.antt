@@ -31,16 +31,16 @@ use Rattle.fc_changes.proofs.MadeLemmas.{file_low_small}
 use Rattle.fc_changes.proofs.OutsideLemmas.{low_owned}
 use Rattle.fc_changes.proofs.PlacedLemmas.{id_is, is_shared, unused}
 use Rattle.fc_changes.proofs.SpaceLemmas.{no_runs, not_given, still_owned}
-use Rattle.fc_oldchanges.proofs.MadeLemmas.{need_some}
-use Rattle.fc_oldchanges.proofs.PlaceLemmas.{row_or_none}
-use Rattle.fc_oldchanges.proofs.SpaceLemmas.{AreGiven, AreSpaced, IsNewPlace, given, new_place as old_new_place, not_given as not_in_given, nowhere, taken}
+use Rattle.fc_changes.proofs.lemmas.old.MadeLemmas.{need_some}
+use Rattle.fc_changes.proofs.lemmas.old.PlaceLemmas.{row_or_none}
+use Rattle.fc_changes.proofs.lemmas.old.SpaceLemmas.{AreGiven, AreSpaced, IsNewPlace, given, new_place as old_new_place, not_given as not_in_given, nowhere, taken}
 use Rattle.fc_laws.specs.nodes.Laws.{IsHeld}
 use Rattle.fc_laws.specs.agree.Agreed.{IsMapChange}
 use Rattle.fc_laws.proofs.lemmas.nodes.ListLemmas.{in_first}
-use Rattle.fc_oldlaws.proofs.lemmas.agree.BeforeLemmas.{sound}
+use Rattle.fc_laws.proofs.lemmas.old.agree.BeforeLemmas.{sound}
 use Rattle.fc_laws.proofs.lemmas.agree.BeforeLemmas.{new_facts, object_lies}
 use Rattle.fc_laws.proofs.lemmas.agree.NewPlaceLemmas.{IsFreePlace, file_place, new_place}
-use Rattle.fc_oldlaws.proofs.lemmas.agree.DirectoryLemmas.{spaced_parts}
+use Rattle.fc_laws.proofs.lemmas.old.agree.DirectoryLemmas.{spaced_parts}
 use Rattle.fc_edits.specs.Addition.{Addition, NewAddition, OldAddition, edit, holes_with_it, leaves, over_it}
 use Rattle.fc_edits.specs.Edit.{joining, leaving, objects}
 use Rattle.fc_edits.specs.Placing.{Placing, takings_of}

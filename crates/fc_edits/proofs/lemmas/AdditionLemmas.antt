@@ -19,7 +19,7 @@ use Rattle.fc_laws.specs.nodes.Laws.{IsHeld}
 use Rattle.fc_laws.specs.agree.Agreed.{CanSay}
 use Rattle.fc_laws.proofs.lemmas.nodes.ListLemmas.{in_first}
 use Rattle.fc_laws.proofs.lemmas.agree.BeforeLemmas.{sound as new_sound}
-use Rattle.fc_oldlaws.proofs.lemmas.agree.BeforeLemmas.{sound}
+use Rattle.fc_laws.proofs.lemmas.old.agree.BeforeLemmas.{sound}
 use Rattle.fc_edits.specs.Growing.{CanSayNew}
 use Rattle.fc_edits.specs.Edit.{Amended, AreEdited, IsAmended, IsEdit, numbers, objects, owners_in, owners_joined, owners_left}
 use Rattle.fc_edits.specs.NewNodes.{AreDistinct, HasNumbers, nodes_after}

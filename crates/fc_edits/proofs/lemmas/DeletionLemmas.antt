@@ -29,10 +29,10 @@ use Rattle.fc_laws.proofs.lemmas.nodes.ListLemmas.{cut_at, in_first, map_remove}
 use Rattle.fc_laws.proofs.lemmas.agree.BeforeLemmas.{sound as new_sound}
 use Rattle.fc_laws.proofs.lemmas.agree.CutLemmas.{cut_law}
 use Rattle.fc_laws.proofs.lemmas.agree.RemovedLemmas.{gone_listed}
-use Rattle.fc_oldchanges.proofs.SpaceLemmas.{AreGiven, AreSpaced, given, right_before}
-use Rattle.fc_oldlaws.specs.agree.Laws.{AgreeOn}
-use Rattle.fc_oldlaws.proofs.lemmas.agree.BeforeLemmas.{sound}
-use Rattle.fc_oldlaws.proofs.lemmas.agree.DirectoryLemmas.{spaced_parts}
+use Rattle.fc_changes.proofs.lemmas.old.SpaceLemmas.{AreGiven, AreSpaced, given, right_before}
+use Rattle.fc_laws.specs.old.agree.Laws.{AgreeOn}
+use Rattle.fc_laws.proofs.lemmas.old.agree.BeforeLemmas.{sound}
+use Rattle.fc_laws.proofs.lemmas.old.agree.DirectoryLemmas.{spaced_parts}
 use Rattle.fc_edits.specs.Edit.{Amended, AreEdited, IsAmended, IsEdit, owners_joined, owners_left}
 use Rattle.fc_edits.specs.NewNodes.{HasNumbers}
 use Rattle.fc_edits.specs.NewPlaces.{GivesBack, IsSpaceChange, NewPlaces}

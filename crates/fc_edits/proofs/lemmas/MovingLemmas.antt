@@ -11,7 +11,7 @@ use Rattle.fc_tree.proofs.MemberLemmas.{no_element}
 use Rattle.fc_laws.specs.nodes.Edits.{Nodes}
 use Rattle.fc_laws.specs.nodes.Laws.{IsHeld}
 use Rattle.fc_laws.proofs.lemmas.agree.BeforeLemmas.{sound as new_sound}
-use Rattle.fc_oldlaws.proofs.lemmas.agree.BeforeLemmas.{sound}
+use Rattle.fc_laws.proofs.lemmas.old.agree.BeforeLemmas.{sound}
 use Rattle.fc_edits.specs.Places.{CanSayAll}
 use Rattle.fc_edits.specs.NewNodes.{nodes_after}
 use Rattle.fc_edits.specs.Edit.{Amended, AreEdited, IsEdit, joined_in, left_in, numbers}

@@ -15,14 +15,14 @@ use Rattle.fc_image.proofs.HolesLemmas.{apart_at, apart_from}
 use Rattle.fc_image.proofs.OldEditLemmas.{old_places_law}
 use Rattle.fc_tree.specs.declared.node.Node.{Node}
 use Rattle.fc_changes.proofs.BasicLemmas.{clash}
-use Rattle.fc_oldchanges.specs.Owed.{holding}
-use Rattle.fc_oldchanges.proofs.PlaceLemmas.{apart_again}
+use Rattle.fc_changes.specs.old.Owed.{holding}
+use Rattle.fc_changes.proofs.lemmas.old.PlaceLemmas.{apart_again}
 use Rattle.fc_laws.specs.nodes.Edits.{Nodes}
 use Rattle.fc_laws.specs.nodes.Laws.{IsHeld}
 use Rattle.fc_laws.proofs.lemmas.agree.WalkedLemmas as on_any
-use Rattle.fc_oldlaws.specs.agree.Laws.{AgreeOn}
-use Rattle.fc_oldlaws.proofs.lemmas.agree.BeforeLemmas.{sound}
-use Rattle.fc_oldlaws.proofs.lemmas.agree.RoomLemmas.{room}
+use Rattle.fc_laws.specs.old.agree.Laws.{AgreeOn}
+use Rattle.fc_laws.proofs.lemmas.old.agree.BeforeLemmas.{sound}
+use Rattle.fc_laws.proofs.lemmas.old.agree.RoomLemmas.{room}
 use Rattle.fc_edits.specs.Edit.{Edit, IsEdit}
 use Rattle.fc_edits.specs.OldPlaces.{OldLiesAgain, OldPlaces, OldPlacesLaw, with_holes}
 use Rattle.fc_edits.specs.Places.{Stays, WalkFits}

@@ -20,7 +20,7 @@ use Rattle.fc_laws.proofs.lemmas.nodes.FitsLemmas.{kid_lower}
 use Rattle.fc_laws.proofs.lemmas.nodes.ListLemmas.{in_first, map_fixed}
 use Rattle.fc_laws.proofs.lemmas.nodes.OtherLemmas.{unlike}
 use Rattle.fc_laws.proofs.lemmas.agree.BeforeLemmas.{sound as new_sound}
-use Rattle.fc_oldlaws.proofs.lemmas.agree.BeforeLemmas.{sound}
+use Rattle.fc_laws.proofs.lemmas.old.agree.BeforeLemmas.{sound}
 use Rattle.fc_edits.specs.Edit.{Amended, IsAmended, IsEdit, KeepsEntry, owners_joined, owners_left}
 use Rattle.fc_edits.specs.PartsEdit.{NewPartsEdit, OldPartsEdit}
 use Rattle.fc_edits.specs.Places.{CanSayAll}

@@ -30,7 +30,7 @@ use Rattle.fc_laws.specs.agree.Agreed.{AgreeOn}
 use Rattle.fc_laws.proofs.lemmas.nodes.ListLemmas.{cut_at}
 use Rattle.fc_laws.proofs.lemmas.agree.BeforeLemmas.{object_lies}
 use Rattle.fc_laws.proofs.lemmas.agree.WalkedLemmas as on_any
-use Rattle.fc_oldlaws.specs.agree.Laws.{AgreeOn as OldAgreeOn}
+use Rattle.fc_laws.specs.old.agree.Laws.{AgreeOn as OldAgreeOn}
 use Rattle.fc_edits.specs.Edit.{Edit, joining, leaving, objects}
 use Rattle.fc_edits.specs.NewPlaces.{ApartInOne, GivesBack, HasPlaceOf, IsSpaceChange, LiesAgain, NewPlaces}
 use Rattle.fc_edits.specs.OldPlaces.{OldLiesAgain, OldPlaces, with_holes}

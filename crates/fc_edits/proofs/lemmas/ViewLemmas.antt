@@ -33,12 +33,12 @@ use Rattle.fc_tree.proofs.FindLemmas.{object_of_number}
 use Rattle.fc_tree.proofs.HeldLemmas.{nodes_law}
 use Rattle.fc_tree.proofs.MemberLemmas.{contains_here, from_map, in_filter}
 use Rattle.fc_tree.proofs.WalkedLemmas.{directories_listed, listed_directory, listing_found, same_some, sound_law}
-use Rattle.fc_oldchanges.proofs.BeforeLemmas.{Walked, opened_as, parts}
+use Rattle.fc_changes.proofs.lemmas.old.BeforeLemmas.{Walked, opened_as, parts}
 use Rattle.fc_laws.specs.nodes.Edits.{Nodes}
 use Rattle.fc_laws.specs.agree.Agreed.{AgreeOn, CanSay, parts_with}
 use Rattle.fc_laws.proofs.lemmas.agree.WalkedLemmas as on_any
 use Rattle.fc_laws.proofs.lemmas.takeover.KindLemmas.{new_kind}
-use Rattle.fc_oldlaws.specs.agree.Laws.{AgreeOn as OldAgreeOn, parts_with as old_parts_with}
+use Rattle.fc_laws.specs.old.agree.Laws.{AgreeOn as OldAgreeOn, parts_with as old_parts_with}
 use Rattle.fc_edits.specs.Views.{ViewLaw}
 use Rattle.fc_image.proofs.EntriesLemmas.{later as contains_later}
 

@@ -13,3 +13,4 @@ pub mod CopiedLemmas
 pub mod CutLemmas
 pub mod MapLemmas
 pub mod SayLemmas
+pub mod TwinLemmas

@@ -1,7 +1,6 @@
 pub mod StartLemmas
 pub mod PlaceLemmas
 pub mod WalkLemmas
-pub mod FormLemmas
 pub mod ListedLemmas
 pub mod BytesLemmas
 pub mod SaysLemmas

@@ -16,7 +16,7 @@ use Rattle.fc_image.specs.declared.effects.Owned.{Owned}
 use Rattle.fc_image.specs.effects.Moves.{Squashed}
 use Rattle.fc_image.specs.effects.Settled.{has_same_places}
 use Rattle.fc_squash.specs.Squashing.{AreBodies, KeepsBodies}
-use Rattle.fc_oldchanges.specs.Owed.{holding}
+use Rattle.fc_changes.specs.old.Owed.{holding}
 
 -- ---- addresses
 

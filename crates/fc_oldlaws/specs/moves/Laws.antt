@@ -16,7 +16,7 @@ use Rattle.fc_tree.specs.Nodes.{HoldObjects}
 use Rattle.fc_tree.specs.Parts.{ArePartsOf}
 use Rattle.fc_image.specs.Sound.{AreSound}
 use Rattle.fc_laws.specs.nodes.Edits.{Nodes}
-use Rattle.fc_oldlaws.specs.agree.Laws.{AgreeOn, parts_with}
+use Rattle.fc_laws.specs.old.agree.Laws.{AgreeOn, parts_with}
 use Rattle.fc_oldmap.specs.Holes.{AreHoles}
 use Rattle.fc_oldmap.specs.OldMap.{OldMapContent, map_units}
 use Rattle.fc_image.specs.declared.effects.Owned.{Owned}

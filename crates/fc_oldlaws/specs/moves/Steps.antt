@@ -9,7 +9,7 @@ use Rattle.fc_image.specs.Opening.{Opened}
 use Rattle.fc_image.specs.Report.{holder_address}
 use Rattle.fc_image.specs.effects.Moves.{SquashedBytes}
 use Rattle.fc_image.specs.effects.Steady.{AreWritten}
-use Rattle.fc_oldchanges.specs.Owed.{IsBefore, IsMapAfter, IsWritten}
+use Rattle.fc_changes.specs.old.Owed.{IsBefore, IsMapAfter, IsWritten}
 use Rattle.fc_oldlaws.specs.moves.After.{IsSlide, Slide, form_of, is_steady, listing_after, listings_after, move_of, object_after, space_after}
 
 -- Something changes in the directory.

@@ -5,7 +5,7 @@ ghost use Rattle.fc_device.specs.Calls.{FailsByFault, SameForm};
 ghost use Rattle.fc_dirs.specs.Small.{tail_of};
 ghost use Rattle.fc_image.specs.Layout.{Layout, disc_sectors};
 ghost use Rattle.fc_oldlaws.specs.moves.Writes.{AreDirectoriesPlaced};
-ghost use Rattle.fc_oldchanges.specs.Owed.{IsWritten};
+ghost use Rattle.fc_changes.specs.old.Owed.{IsWritten};
 ghost use Rattle.fc_squash.specs.Places.{ChangesRow, Leaves};
 ghost use Rattle.fc_squash.specs.Sliding.{TellsAsBefore, TimeGoesOn};
 ghost use Rattle.fc_tree.specs.Nodes.{nodes_of};

@@ -27,16 +27,16 @@ use Rattle.fc_changes.specs.Owed.{GoesAlone}
 use Rattle.fc_changes.proofs.DirectoriesLemmas.{plain_delete}
 use Rattle.fc_changes.proofs.ReadsLemmas.{LiesIn, lies_in}
 use Rattle.fc_changes.proofs.SpaceLemmas.{untaken_is}
-use Rattle.fc_oldchanges.proofs.GrowthLemmas.{given_alone}
+use Rattle.fc_changes.proofs.lemmas.old.GrowthLemmas.{given_alone}
 use Rattle.fc_laws.specs.nodes.Edits.{Nodes}
 use Rattle.fc_laws.specs.nodes.Laws.{IsHeld}
 use Rattle.fc_laws.specs.agree.Agreed.{parts_with}
 use Rattle.fc_laws.specs.takeover.Places.{MayBeWritten}
 use Rattle.fc_laws.proofs.lemmas.takeover.ApartLemmas.{places_law}
-use Rattle.fc_oldchanges.specs.Owed.{IsBefore, holding}
-use Rattle.fc_oldlaws.specs.takeover.Places.{AreSpared, MayBeWritten as OldMayBeWritten}
-use Rattle.fc_oldlaws.proofs.lemmas.takeover.ApartLemmas.{places_law as old_places_law}
-use Rattle.fc_oldlaws.specs.agree.Laws.{parts_with as old_parts_with}
+use Rattle.fc_changes.specs.old.Owed.{IsBefore, holding}
+use Rattle.fc_laws.specs.old.takeover.Places.{AreSpared, MayBeWritten as OldMayBeWritten}
+use Rattle.fc_laws.proofs.lemmas.old.takeover.ApartLemmas.{places_law as old_places_law}
+use Rattle.fc_laws.specs.old.agree.Laws.{parts_with as old_parts_with}
 use Rattle.fc_edits.specs.Edit.{Amended, AreEdited, listings_after, now}
 use Rattle.fc_edits.specs.Deletion.{Deletion, IsDeletion, NewDeletion, OldDeletion, amended, edit, holes_with_it}
 use Rattle.fc_edits.specs.NodesEdit.{NodesEdit}

@@ -17,10 +17,10 @@ use Rattle.fc_changes.proofs.ReadsLemmas.{lies_in}
 use Rattle.fc_laws.specs.nodes.Edits.{Nodes}
 use Rattle.fc_laws.specs.takeover.Places.{IsNewObject, MayBeWritten}
 use Rattle.fc_laws.proofs.lemmas.takeover.ApartLemmas.{places_law}
-use Rattle.fc_oldchanges.specs.Changed.{IsFileAt as IsOldFileAt, IsFirstFitted}
-use Rattle.fc_oldchanges.specs.Owed.{IsBefore}
-use Rattle.fc_oldlaws.specs.takeover.Places.{AreSpared, MayBeWritten as OldMayBeWritten}
-use Rattle.fc_oldlaws.proofs.lemmas.takeover.ApartLemmas.{places_law as old_places_law}
+use Rattle.fc_changes.specs.old.Changed.{IsFileAt as IsOldFileAt, IsFirstFitted}
+use Rattle.fc_changes.specs.old.Owed.{IsBefore}
+use Rattle.fc_laws.specs.old.takeover.Places.{AreSpared, MayBeWritten as OldMayBeWritten}
+use Rattle.fc_laws.proofs.lemmas.old.takeover.ApartLemmas.{places_law as old_places_law}
 use Rattle.fc_edits.specs.Addition.{Addition, IsAddition, NewAddition, OldAddition, over_it}
 use Rattle.fc_edits.proofs.lemmas.AdditionLemmas as memory
 use Rattle.fc_edits.proofs.lemmas.AgreeLemmas as ag

@@ -12,13 +12,13 @@ use Rattle.fc_image.specs.effects.Placed.{GrowthPlacedIn, OldObjectPlaced, made_
 use Rattle.fc_image.specs.effects.Short.{Growth}
 use Rattle.fc_tree.proofs.MemberLemmas.{contains_here}
 use Rattle.fc_tree.proofs.WalkedLemmas.{listed_directory}
-use Rattle.fc_oldchanges.proofs.GrowthLemmas.{given_alone}
+use Rattle.fc_changes.proofs.lemmas.old.GrowthLemmas.{given_alone}
 use Rattle.fc_laws.specs.takeover.Places.{MayBeWritten}
 use Rattle.fc_laws.proofs.lemmas.takeover.ApartLemmas.{places_law}
-use Rattle.fc_oldchanges.specs.Owed.{IsBefore}
-use Rattle.fc_oldlaws.specs.agree.Laws.{parts_with}
-use Rattle.fc_oldlaws.specs.takeover.Places.{AreSpared, MayBeWritten as OldMayBeWritten}
-use Rattle.fc_oldlaws.proofs.lemmas.takeover.ApartLemmas.{places_law as old_places_law}
+use Rattle.fc_changes.specs.old.Owed.{IsBefore}
+use Rattle.fc_laws.specs.old.agree.Laws.{parts_with}
+use Rattle.fc_laws.specs.old.takeover.Places.{AreSpared, MayBeWritten as OldMayBeWritten}
+use Rattle.fc_laws.proofs.lemmas.old.takeover.ApartLemmas.{places_law as old_places_law}
 use Rattle.fc_edits.specs.Edit.{Amended}
 use Rattle.fc_edits.specs.Moving.{NewMoving, OldMoving, edit, moved, new_path}
 use Rattle.fc_edits.specs.PartsEdit.{OldPartsEdit, PartsEdit, old_parts}

@@ -21,8 +21,8 @@ use Rattle.fc_image.specs.effects.Steady.{NewDirectory}
 use Rattle.fc_image.proofs.CommandLemmas.{command_law}
 use Rattle.fc_tree.proofs.MemberLemmas.{contains_here}
 use Rattle.fc_laws.specs.nodes.Laws.{IsHeld}
-use Rattle.fc_oldchanges.specs.Changed.{IsFileAt, IsFirstFitted}
-use Rattle.fc_oldchanges.proofs.GrowthLemmas.{no_growth}
+use Rattle.fc_changes.specs.old.Changed.{IsFileAt, IsFirstFitted}
+use Rattle.fc_changes.proofs.lemmas.old.GrowthLemmas.{no_growth}
 use Rattle.fc_edits.specs.Addition.{ComesAlone, OldAddition, edit, holes_with_it, leaves, over_it}
 use Rattle.fc_edits.specs.Edit.{listings_after, objects}
 use Rattle.fc_edits.specs.OldPlaces.{with_holes}

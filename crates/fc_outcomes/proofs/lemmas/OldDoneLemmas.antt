@@ -10,7 +10,7 @@ use Rattle.fc_image.specs.Stays.{OpensAs}
 use Rattle.fc_image.specs.OldEdits.{IsOldMapEdit}
 use Rattle.fc_image.specs.TreeEdits.{IsMove, IsObjectEdit}
 use Rattle.fc_image.proofs.OldEditLemmas.{old_map_edit_law}
-use Rattle.fc_oldchanges.specs.Owed.{holding}
+use Rattle.fc_changes.specs.old.Owed.{holding}
 use Rattle.fc_edits.specs.Edit.{Edit, listings_after, objects}
 use Rattle.fc_edits.proofs.lemmas.AgreeLemmas as ag
 use Rattle.fc_edits.specs.OldPlaces.{with_holes}

@@ -23,12 +23,12 @@ use Rattle.fc_image.proofs.OldMapLemmas.{old_map_law}
 use Rattle.fc_image.proofs.TreeLemmas.{tree_edit_law}
 use Rattle.fc_changes.proofs.BasicLemmas.{clash}
 use Rattle.fc_changes.proofs.OutsideLemmas.{same_behind}
-use Rattle.fc_oldchanges.specs.Owed.{holding}
-use Rattle.fc_oldchanges.proofs.BeforeLemmas.{object_lies, parts}
-use Rattle.fc_oldchanges.proofs.HoleLemmas.{below_end, units_in}
-use Rattle.fc_oldchanges.proofs.MapLemmas.{IsOldDisc, fits_now, found_now, old_disc}
-use Rattle.fc_oldchanges.proofs.PlaceLemmas.{in_disc}
-use Rattle.fc_oldlaws.specs.agree.Laws.{parts_with}
+use Rattle.fc_changes.specs.old.Owed.{holding}
+use Rattle.fc_changes.proofs.lemmas.old.BeforeLemmas.{object_lies, parts}
+use Rattle.fc_changes.proofs.lemmas.old.HoleLemmas.{below_end, units_in}
+use Rattle.fc_changes.proofs.lemmas.old.MapLemmas.{IsOldDisc, fits_now, found_now, old_disc}
+use Rattle.fc_changes.proofs.lemmas.old.PlaceLemmas.{in_disc}
+use Rattle.fc_laws.specs.old.agree.Laws.{parts_with}
 use Rattle.fc_edits.specs.Edit.{objects}
 use Rattle.fc_edits.specs.OldPlaces.{OldLiesAgain, with_holes}
 use Rattle.fc_edits.specs.PartsEdit.{PartsEdit, old_parts}
@@ -46,7 +46,7 @@ use Rattle.fc_outcomes.proofs.lemmas.SteadyLemmas.{directories_steady}
 use Rattle.std.proofs.lemmas.Bool.{false_from_ne_true as unless, not-true as not_true}
 use Rattle.fc_record.proofs.KindLemmas.{and_first, and_second}
 use Rattle.fc_changes.proofs.PlacedLemmas.{is_in_flat as among_flat}
-use Rattle.fc_oldlaws.proofs.lemmas.takeover.ApartLemmas.{in_sectors}
+use Rattle.fc_laws.proofs.lemmas.old.takeover.ApartLemmas.{in_sectors}
 
 -- ---- numbers
 

@@ -29,12 +29,12 @@ use Rattle.fc_tree.proofs.MemberLemmas.{contains_here, no_element}
 use Rattle.fc_tree.proofs.WalkedLemmas.{child_path, listed_directory, same_some}
 use Rattle.fc_changes.proofs.ReadsLemmas.{LiesIn, lies_in}
 use Rattle.fc_changes.proofs.SpaceLemmas.{untaken_is}
-use Rattle.fc_oldchanges.proofs.GrowthLemmas.{given_alone}
+use Rattle.fc_changes.proofs.lemmas.old.GrowthLemmas.{given_alone}
 use Rattle.fc_laws.specs.nodes.Edits.{Nodes}
 use Rattle.fc_laws.specs.nodes.Laws.{IsHeld}
 use Rattle.fc_laws.specs.agree.Agreed.{parts_with}
 use Rattle.fc_laws.proofs.lemmas.nodes.FitsLemmas.{one_number}
-use Rattle.fc_oldlaws.specs.agree.Laws.{parts_with as old_parts_with}
+use Rattle.fc_laws.specs.old.agree.Laws.{parts_with as old_parts_with}
 use Rattle.fc_edits.specs.Edit.{Amended, AreEdited, listings_after, now}
 use Rattle.fc_edits.specs.NodesEdit.{NodesEdit}
 use Rattle.fc_edits.specs.PartsEdit.{NewPartsEdit, PartsEdit, old_parts}

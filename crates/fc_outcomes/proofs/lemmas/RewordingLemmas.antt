@@ -14,9 +14,9 @@ use Rattle.fc_laws.specs.nodes.Edits.{Nodes}
 use Rattle.fc_laws.specs.nodes.Laws.{IsHeld}
 use Rattle.fc_laws.specs.takeover.Places.{MayBeWritten}
 use Rattle.fc_laws.proofs.lemmas.takeover.ApartLemmas.{places_law}
-use Rattle.fc_oldchanges.specs.Owed.{IsBefore}
-use Rattle.fc_oldlaws.specs.takeover.Places.{AreSpared, MayBeWritten as OldMayBeWritten}
-use Rattle.fc_oldlaws.proofs.lemmas.takeover.ApartLemmas.{places_law as old_places_law}
+use Rattle.fc_changes.specs.old.Owed.{IsBefore}
+use Rattle.fc_laws.specs.old.takeover.Places.{AreSpared, MayBeWritten as OldMayBeWritten}
+use Rattle.fc_laws.proofs.lemmas.old.takeover.ApartLemmas.{places_law as old_places_law}
 use Rattle.fc_edits.specs.Rewording.{IsReworded, NewRewording, OldRewording, Rewording}
 use Rattle.fc_edits.proofs.lemmas.AgreeLemmas as ag
 use Rattle.fc_edits.proofs.lemmas.NewAgreeLemmas as na

@@ -4,7 +4,7 @@ ghost use Rattle.fc_model.specs.Command.{Command};
 ghost use Rattle.fc_volume.specs.Changing.{IsAsked};
 ghost use Rattle.fc_volume.specs.Volume.{StandsFor, parts_of};
 ghost use Rattle.fc_image.specs.Layout.{dir_form};
-ghost use Rattle.fc_course.specs.Jobs.{FitAttributes};
+ghost use Rattle.fc_commands.specs.Promises.{FitAttributes};
 
 use crate::{CommandError, Volume, is_fit_after};
 use fc_device::Disk;

@@ -31,14 +31,7 @@ impl Volume {
         requires stands { StandsFor D.Disk self.old disk.old }
         ensures { IsAsked D.Disk (Command.Rename from.now to.now) self.old self.new disk.old disk.new result }
     {
-        let answer = fc_commands::rename(
-            alloc,
-            disk,
-            &mut self.holdings,
-            self.read_only,
-            from,
-            to,
-        );
+        let answer = fc_commands::rename(alloc, disk, &mut self.holdings, self.read_only, from, to);
         self.fit = is_fit_after(&answer);
         answer
     }

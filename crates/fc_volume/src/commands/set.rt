@@ -31,14 +31,7 @@ impl Volume {
         requires access { words.access < 8 }
         ensures { IsAsked D.Disk (Command.Set path.now words.load words.exec words.access) self.old self.new disk.old disk.new result }
     {
-        let answer = fc_commands::set(
-            alloc,
-            disk,
-            &mut self.holdings,
-            self.read_only,
-            path,
-            words,
-        );
+        let answer = fc_commands::set(alloc, disk, &mut self.holdings, self.read_only, path, words);
         self.fit = is_fit_after(&answer);
         answer
     }

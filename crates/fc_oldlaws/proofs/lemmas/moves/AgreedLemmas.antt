@@ -21,15 +21,15 @@ use Rattle.fc_tree.specs.Agree.{Agree, HasForm, IsDirectory, reader_of_nodes}
 use Rattle.fc_tree.specs.Parts.{AreOwners}
 use Rattle.fc_tree.proofs.WalkedLemmas.{place_of, sound_law}
 use Rattle.fc_laws.specs.nodes.Edits.{Nodes}
-use Rattle.fc_oldlaws.specs.agree.Laws.{AgreeOn, parts_with}
+use Rattle.fc_laws.specs.old.agree.Laws.{AgreeOn, parts_with}
 use Rattle.fc_laws.proofs.lemmas.agree.WalkedLemmas.{sound}
-use Rattle.fc_oldlaws.proofs.lemmas.agree.RoomLemmas.{room}
+use Rattle.fc_laws.proofs.lemmas.old.agree.RoomLemmas.{room}
 use Rattle.fc_oldlaws.specs.moves.After.{IsSlide, Slide, form_of, listing_after, listings_after, move_of, space_after}
 use Rattle.fc_oldlaws.specs.moves.Laws.{AgreedLaw, BehindLaw, TakenOverLaw}
 use Rattle.fc_oldlaws.specs.moves.Nodes.{AreMoved, AreRemade, node_after}
 use Rattle.fc_oldlaws.specs.moves.Steps.{opened_after}
 use Rattle.fc_oldlaws.proofs.lemmas.moves.CompactedLemmas.{compacted_law}
-use Rattle.fc_oldlaws.proofs.lemmas.moves.FormLemmas.{not_long}
+use Rattle.fc_laws.proofs.lemmas.old.agree.FormLemmas.{not_long}
 use Rattle.fc_oldlaws.proofs.lemmas.moves.NodesLemmas.{moved_follow, objects_moved, owners_moved}
 use Rattle.fc_oldlaws.proofs.lemmas.moves.PlaceLemmas.{Start, had, holes_behind, root_address}
 use Rattle.fc_oldlaws.proofs.lemmas.moves.SayableLemmas.{form_after, moved_low, other_low, say_after, small_by_form}

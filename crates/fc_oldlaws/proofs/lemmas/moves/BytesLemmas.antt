@@ -23,9 +23,9 @@ use Rattle.fc_image.specs.declared.effects.Owned.{Owned}
 use Rattle.fc_image.specs.effects.Moves.{SameBodies, is_in_body, is_in_hole}
 use Rattle.fc_squash.proofs.ByteLemmas.{in_sectors}
 use Rattle.fc_changes.proofs.BasicLemmas.{cases_cons, clash, nothing_in}
-use Rattle.fc_oldchanges.proofs.BeforeLemmas.{Walked, listed_in, parts}
-use Rattle.fc_oldchanges.proofs.ChangeLemmas.{opened}
-use Rattle.fc_oldchanges.proofs.PlaceLemmas.{pair_apart}
+use Rattle.fc_changes.proofs.lemmas.old.BeforeLemmas.{Walked, listed_in, parts}
+use Rattle.fc_changes.proofs.lemmas.old.ChangeLemmas.{opened}
+use Rattle.fc_changes.proofs.lemmas.old.PlaceLemmas.{pair_apart}
 use Rattle.fc_oldlaws.specs.moves.After.{Slide, object_after, space_after}
 use Rattle.fc_oldlaws.specs.moves.Steps.{IsChanged, IsCompactedInSteps}
 use Rattle.fc_oldlaws.proofs.lemmas.moves.StartLemmas.{of_body, one_element}

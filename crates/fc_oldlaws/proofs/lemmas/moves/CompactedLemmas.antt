@@ -27,7 +27,7 @@ use Rattle.fc_image.specs.effects.Settled.{CompactedBytes, CompactedDir, Compact
 use Rattle.fc_image.specs.effects.Steady.{AreWritten}
 use Rattle.fc_squash.proofs.LawLemmas.{settled_space}
 use Rattle.fc_changes.proofs.BasicLemmas.{clash}
-use Rattle.fc_oldchanges.proofs.BeforeLemmas.{held_by, opened_as, sound}
+use Rattle.fc_changes.proofs.lemmas.old.BeforeLemmas.{held_by, opened_as, sound}
 use Rattle.fc_oldlaws.specs.moves.After.{content_after, dir_after, entry_after, form_of, is_steady, listing_after, listings_after, move_of, readdressed, space_after}
 use Rattle.fc_oldlaws.specs.moves.Laws.{CompactedLaw}
 use Rattle.fc_oldlaws.specs.moves.Steps.{IsCompactedInSteps, opened_after}

@@ -16,8 +16,8 @@ use Rattle.fc_image.specs.Stays.{OpensAs}
 use Rattle.fc_image.proofs.RoomLemmas.{old_room}
 use Rattle.fc_image.proofs.WalkLemmas.{open_as-spelled}
 use Rattle.fc_changes.proofs.BasicLemmas.{clash, first_in, next_in}
-use Rattle.fc_oldchanges.specs.Owed.{IsMapAfter}
-use Rattle.fc_oldchanges.proofs.MapLemmas.{IsOldDisc, fits_now, found_now, front_same, old_disc}
+use Rattle.fc_changes.specs.old.Owed.{IsMapAfter}
+use Rattle.fc_changes.proofs.lemmas.old.MapLemmas.{IsOldDisc, fits_now, found_now, front_same, old_disc}
 use Rattle.fc_oldlaws.specs.moves.After.{listings_after, space_after}
 use Rattle.fc_oldlaws.specs.moves.Steps.{opened_after}
 use Rattle.fc_oldlaws.proofs.lemmas.moves.PlaceLemmas.{holes_behind}

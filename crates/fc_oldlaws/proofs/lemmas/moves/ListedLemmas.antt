@@ -1,7 +1,6 @@
 -- What is listed are directories, and where a path leads afterwards.
-use Rattle.std.proofs.Common.{◌≡◌, inl, inr, Bool, true, false, cond, List, [], ◌∷◌, map, refl, ap, subst, ◌∙◌, Some}
-use Rattle.std.specs.Prelude.{Contains, filter, find}
-use Rattle.std.specs.Option.{option_map}
+use Rattle.std.proofs.Common.{◌≡◌, inl, inr, Bool, true, false, cond, List, [], ◌∷◌, refl, ap, subst}
+use Rattle.std.specs.Prelude.{Contains, filter}
 use Rattle.std.proofs.lemmas.List.Sorted.{Contains-permutation}
 use Rattle.fc_dirs.specs.declared.Entry.{Entry}
 use Rattle.fc_image.specs.Walk.{Listing, Object, is_directory_object}
@@ -18,15 +17,6 @@ passed {X} t (z ∷ xs) x at = by (t z) refl at (passed t xs x)
     by : (b : Bool) → t z ≡ b → Contains (cond b (z ∷ filter t xs) (filter t xs)) x → (Contains (filter t xs) x → t x ≡ true) → t x ≡ true
     by true e c more = elim (cases_cons z (filter t xs) x c) [ inl is ↦ subst (λ (k : X). t k ≡ true) is e | inr later ↦ more later ]
     by false e c more = more c
-
--- the first changed element that passes a test
-pub find_changed : {X : Type 0} (t : X → Bool) (f : X → X) → ((x : X) → t (f x) ≡ t x) → (xs : List X) → find t (map f xs) ≡ option_map f (find t xs)
-find_changed t f same [] = refl
-find_changed {X} t f same (x ∷ xs) = ap (λ (b : Bool). cond b (Some (f x)) (find t (map f xs))) (same x) ∙ by (t x) (find_changed t f same xs)
-  where
-    by : (b : Bool) → find t (map f xs) ≡ option_map f (find t xs) → cond b (Some (f x)) (find t (map f xs)) ≡ option_map f (cond b (Some x) (find t xs))
-    by true more = refl
-    by false more = more
 
 pub is_listed_directory : (e : Start) (l : Listing) → Contains e.listings l → is_directory_object l.object ≡ true
 is_listed_directory e l at =

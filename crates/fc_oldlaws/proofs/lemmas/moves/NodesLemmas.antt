@@ -38,7 +38,7 @@ use Rattle.fc_laws.proofs.lemmas.nodes.KeptLemmas.{way_kept}
 use Rattle.fc_laws.proofs.lemmas.nodes.ShapeLemmas.{held_as, held_by, said, says_at, some_mapped}
 use Rattle.fc_laws.proofs.lemmas.nodes.WaysLemmas.{AreApart}
 use Rattle.fc_changes.proofs.BasicLemmas.{clash, first_in, next_in}
-use Rattle.fc_oldchanges.proofs.PlaceLemmas.{row_or_none}
+use Rattle.fc_changes.proofs.lemmas.old.PlaceLemmas.{row_or_none}
 use Rattle.fc_oldlaws.specs.moves.After.{Slide, address_after, content_after, entry_after, form_of, listing_after, listings_after, move_of, object_after, space_after}
 use Rattle.fc_oldlaws.specs.moves.Nodes.{AreMoved, AreRemade, body_after, node_after, node_owner, remade}
 use Rattle.fc_oldlaws.proofs.lemmas.moves.ListedLemmas.{passed}

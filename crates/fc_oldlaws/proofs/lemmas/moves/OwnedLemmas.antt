@@ -18,7 +18,7 @@ use Rattle.fc_tree.proofs.SoundLemmas.{root_object}
 use Rattle.fc_tree.proofs.WalkedLemmas.{root, root_path, same_some}
 use Rattle.fc_laws.specs.nodes.Edits.{Nodes}
 use Rattle.fc_laws.proofs.lemmas.nodes.FitsLemmas.{one_number}
-use Rattle.fc_oldlaws.proofs.lemmas.agree.GivenLemmas.{space_law}
+use Rattle.fc_laws.proofs.lemmas.old.agree.GivenLemmas.{space_law}
 use Rattle.fc_image.specs.declared.effects.Owned.{Owned}
 use Rattle.fc_oldlaws.specs.moves.After.{AreOwned, IsOwnedAs}
 use Rattle.fc_oldlaws.specs.moves.Laws.{SlidingLaw}

@@ -29,7 +29,7 @@ use Rattle.fc_image.specs.declared.effects.Owned.{Owned}
 use Rattle.fc_image.specs.effects.Moves.{is_in_body, is_in_hole}
 use Rattle.fc_squash.specs.Squashing.{place}
 use Rattle.fc_changes.proofs.BasicLemmas.{any_in, cases_cons, clash, first_in, in_any, in_flat, next_in, nothing_in}
-use Rattle.fc_oldchanges.proofs.PlaceLemmas.{IsRow, pair_apart, row_or_none}
+use Rattle.fc_changes.proofs.lemmas.old.PlaceLemmas.{IsRow, pair_apart, row_or_none}
 use Rattle.fc_oldlaws.specs.moves.After.{IsOwnedAs, IsSlide, Slide, move_of, object_after, space_after, start_after}
 use Rattle.fc_oldlaws.proofs.lemmas.moves.StartLemmas.{body, by_number, found_at, in_body, in_order, not_found, of_body, one_element, rises}
 use Rattle.fc_changes.proofs.ChangeLemmas.{ceil_some}

@@ -29,12 +29,12 @@ use Rattle.fc_image.specs.declared.effects.Owned.{Owned}
 use Rattle.fc_squash.specs.Squashing.{place, places}
 use Rattle.fc_squash.proofs.StandLemmas.{apart_all}
 use Rattle.fc_squash.proofs.StepLemmas.{every_from}
-use Rattle.fc_oldlaws.specs.agree.Laws.{AgreeOn}
-use Rattle.fc_oldlaws.specs.agree.Spaces.{CanGive}
+use Rattle.fc_laws.specs.old.agree.Laws.{AgreeOn}
+use Rattle.fc_laws.specs.old.agree.Spaces.{CanGive}
 use Rattle.fc_laws.proofs.lemmas.agree.WalkedLemmas.{had, object_lies, sound}
-use Rattle.fc_oldlaws.proofs.lemmas.agree.GivenLemmas.{space_law}
+use Rattle.fc_laws.proofs.lemmas.old.agree.GivenLemmas.{space_law}
 use Rattle.fc_changes.proofs.BasicLemmas.{cases_cons, clash, first_in, in_flat, next_in, nothing_in}
-use Rattle.fc_oldchanges.proofs.PlaceLemmas.{IsRow, row_or_none}
+use Rattle.fc_changes.proofs.lemmas.old.PlaceLemmas.{IsRow, row_or_none}
 use Rattle.fc_oldlaws.specs.moves.After.{AreOwned}
 use Rattle.fc_oldlaws.specs.moves.Laws.{ReadyLaw}
 use Rattle.fc_oldlaws.specs.moves.Nodes.{AreReady, AreSliding, Slides, sliding_at, sliding_below, units_in}

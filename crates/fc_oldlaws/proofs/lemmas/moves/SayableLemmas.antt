@@ -1,16 +1,13 @@
 -- Directories with other addresses can be said by bytes, as they could before.
-use Rattle.std.proofs.Common.{◌≡◌, ◌<◌, ℕ, zero, suc, ◌^◌, Bool, true, false, cond, List, [], ◌∷◌, length, map, take, refl, sym, ap, ap₂, subst, ◌∙◌, arith, Option, Some, None, slice_get}
-use Rattle.std.specs.Prelude.{Contains, find, is_some, ◌==◌}
-use Rattle.std.specs.List.{AllByRecursion, range_with_len}
-use Rattle.std.specs.Option.{option_map, option_map_or}
+use Rattle.std.proofs.Common.{◌≡◌, ◌<◌, ℕ, ◌^◌, Bool, true, false, cond, List, [], ◌∷◌, map, refl, sym, ap, subst, ◌∙◌, arith}
+use Rattle.std.specs.Prelude.{Contains, ◌==◌}
+use Rattle.std.specs.List.{AllByRecursion}
 use Rattle.std.proofs.lemmas.Bool.{eqb-false}
 use Rattle.std.proofs.lemmas.List.{length-map}
-use Rattle.fc_names.specs.Names.{is_same_name}
 use Rattle.fc_names.specs.declared.name.NameForm.{NameForm}
 use Rattle.fc_names.specs.declared.name.NameForm.TheVariants as forms
 use Rattle.fc_dirs.specs.declared.Entry.{Entry}
 use Rattle.fc_dirs.specs.declared.SmallForm.{SmallForm}
-use Rattle.fc_dirs.specs.Entries.{first_twin, has_name, is_twin}
 use Rattle.fc_dirs.specs.Small.{FitsSmall, IsSmall, SmallDir, next_sequence}
 use Rattle.fc_dirs.specs.Directory.{Directory}
 use Rattle.fc_image.specs.Walk.{object_size}
@@ -19,7 +16,7 @@ use Rattle.fc_image.specs.declared.effects.Owned.{Owned}
 use Rattle.fc_image.specs.effects.Settled.{has_same_places}
 use Rattle.fc_changes.proofs.BasicLemmas.{first_in, next_in}
 use Rattle.fc_oldlaws.specs.moves.After.{content_after, dir_after, entry_after, readdressed, start_after}
-use Rattle.fc_oldlaws.proofs.lemmas.moves.ListedLemmas.{find_changed}
+use Rattle.fc_laws.proofs.lemmas.agree.TwinLemmas.{twins_same}
 
 -- ---- addresses
 
@@ -44,44 +41,6 @@ other_low (o ∷ was) (p ∷ now) limit address all other = by (o.start == addre
         → cond b p.start (start_after was now address) < limit
     by true more h = all p (first_in p now)
     by false more h = more h
-
--- ---- names
-
-take_mapped : (f : Entry → Entry) (n : ℕ) (es : List Entry) → take n (map f es) ≡ map f (take n es)
-take_mapped f zero es = refl
-take_mapped f (suc n) [] = refl
-take_mapped f (suc n) (e ∷ es) = ap (λ (xs : List Entry). f e ∷ xs) (take_mapped f n es)
-
-get_mapped : (f : Entry → Entry) (n : ℕ) (es : List Entry) → slice_get (map f es) n ≡ option_map f (slice_get es n)
-get_mapped f n [] = refl
-get_mapped f zero (e ∷ es) = refl
-get_mapped f (suc n) (e ∷ es) = get_mapped f n es
-
-some_mapped : (f : Entry → Entry) (o : Option Entry) → is_some (option_map f o) ≡ is_some o
-some_mapped f None = refl
-some_mapped f (Some e) = refl
-
-named : (f : Entry → Entry) → ((e : Entry) → (f e).name ≡ e.name) → (es : List Entry) (name : List ℕ) → has_name (map f es) name ≡ has_name es name
-named f same es name =
-    ap is_some (find_changed (λ (e : Entry). is_same_name name e.name) f (λ e. ap (is_same_name name) (same e)) es)
-    ∙ some_mapped f (find (λ (e : Entry). is_same_name name e.name) es)
-
-twin_same : (f : Entry → Entry) → ((e : Entry) → (f e).name ≡ e.name) → (es : List Entry) (i : ℕ) → is_twin (map f es) i ≡ is_twin es i
-twin_same f same es i =
-    ap₂ (λ (xs : List Entry) (o : Option Entry). option_map_or (λ (e : Entry). has_name xs e.name) o false) (take_mapped f i es) (get_mapped f i es) ∙ by (slice_get es i)
-  where
-    by : (o : Option Entry) → option_map_or (λ (e : Entry). has_name (map f (take i es)) e.name) (option_map f o) false ≡ option_map_or (λ (e : Entry). has_name (take i es) e.name) o false
-    by None = refl
-    by (Some e) = ap (has_name (map f (take i es))) (same e) ∙ named f same (take i es) e.name
-
-find_alike : (p q : ℕ → Bool) → ((n : ℕ) → p n ≡ q n) → (xs : List ℕ) → find p xs ≡ find q xs
-find_alike p q same [] = refl
-find_alike p q same (x ∷ xs) = ap₂ (λ (b : Bool) (o : Option ℕ). cond b (Some x) o) (same x) (find_alike p q same xs)
-
-pub twins_same : (f : Entry → Entry) → ((e : Entry) → (f e).name ≡ e.name) → (es : List Entry) → first_twin (map f es) ≡ first_twin es
-twins_same f same es =
-    ap (λ (n : ℕ). find (is_twin (map f es)) (range_with_len 0 n)) (length-map es f)
-    ∙ find_alike (is_twin (map f es)) (is_twin es) (twin_same f same es) (range_with_len 0 (length es))
 
 -- ---- directories
 

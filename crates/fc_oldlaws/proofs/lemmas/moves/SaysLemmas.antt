@@ -20,7 +20,7 @@ use Rattle.fc_changes.proofs.BasicLemmas.{clash}
 use Rattle.fc_changes.proofs.ReadsLemmas.{reads_back}
 use Rattle.fc_oldlaws.specs.moves.After.{content_after, dir_after, entry_after, form_of, is_steady, listing_after, listings_after, move_of, parent_after, readdressed, sequence_after}
 use Rattle.fc_oldlaws.specs.moves.Steps.{IsChanged}
-use Rattle.fc_oldlaws.proofs.lemmas.moves.FormLemmas.{no_big, not_long}
+use Rattle.fc_laws.proofs.lemmas.old.agree.FormLemmas.{no_big, not_long}
 use Rattle.fc_oldlaws.proofs.lemmas.moves.PlaceLemmas.{says}
 use Rattle.fc_oldlaws.proofs.lemmas.moves.BytesLemmas.{Steps, bytes_carried, bytes_late, listed, start, z, z'}
 use Rattle.fc_record.proofs.KindLemmas.{and_first, and_second}

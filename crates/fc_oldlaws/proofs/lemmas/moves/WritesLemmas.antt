@@ -37,14 +37,14 @@ use Rattle.fc_tree.proofs.HeldLemmas.{holder_law}
 use Rattle.fc_tree.proofs.SoundLemmas.{listing_of}
 use Rattle.fc_tree.proofs.WalkedLemmas.{listed_directory, same_some}
 use Rattle.fc_laws.specs.nodes.Edits.{Nodes}
-use Rattle.fc_oldchanges.proofs.PlaceLemmas.{IsRow, row_or_none}
-use Rattle.fc_oldlaws.specs.agree.Laws.{parts_with}
+use Rattle.fc_changes.proofs.lemmas.old.PlaceLemmas.{IsRow, row_or_none}
+use Rattle.fc_laws.specs.old.agree.Laws.{parts_with}
 use Rattle.fc_oldlaws.specs.moves.After.{Slide, address_after, content_after, dir_after, entry_after, form_of, is_steady, listing_after, move_of, object_after, readdressed, space_after}
 use Rattle.fc_oldlaws.specs.moves.Laws.{DirectoriesLaw, RewrittenLaw}
 use Rattle.fc_oldlaws.specs.moves.Nodes.{AreMoved, body_after, node_after}
 use Rattle.fc_oldlaws.specs.moves.Steps.{AreRewritten, IsChanged}
 use Rattle.fc_oldlaws.specs.moves.Writes.{AreDirectoriesPlaced, AreDirectoriesWritten, IsDirAt, MarkChanges, count_of, row_of}
-use Rattle.fc_oldlaws.proofs.lemmas.moves.FormLemmas.{not_long}
+use Rattle.fc_laws.proofs.lemmas.old.agree.FormLemmas.{not_long}
 use Rattle.fc_oldlaws.proofs.lemmas.moves.NodesLemmas.{above}
 use Rattle.fc_oldlaws.proofs.lemmas.moves.PlaceLemmas.{same_object}
 use Rattle.fc_tree.proofs.EndLemmas.{no_twin as apart_names}

@@ -1,7 +1,7 @@
 use Rattle.std.proofs.Common.{[]}
 use Rattle.fc_space.specs.Space.{layout_of}
 use Rattle.fc_tree.specs.Nodes.{bound_of, nodes_of}
-use Rattle.fc_oldchanges.specs.Owed.{IsWritten}
+use Rattle.fc_changes.specs.old.Owed.{IsWritten}
 use Rattle.fc_squash.proofs.RoomLemmas.{leaves_then}
 use Rattle.fc_oldvolume.proofs.ChangeLemmas.{old_layout, written_more, written_then}
 use Rattle.fc_oldvolume.proofs.NumbersLemmas.{all_marked, all_moved}

@@ -3,7 +3,7 @@ use Rattle.std.specs.Prelude.{IsSome, Ok}
 use Rattle.fc_image.specs.Layout.{Layout, sectors_at}
 use Rattle.fc_image.specs.effects.Short.{old_need}
 use Rattle.fc_oldmap.specs.Holes.{after_take, take_answer}
-use Rattle.fc_oldchanges.specs.Owed.{holding}
+use Rattle.fc_changes.specs.old.Owed.{holding}
 use Rattle.fc_objects.specs.Extents.{sectors_in}
 use Rattle.fc_change.proofs.OldTakingLemmas.{fits_at, is_taken, no_lack, nothing_taken, some_bytes}
 use Rattle.fc_change.proofs.placing.old.take_bytes.Goals as goal

@@ -2,7 +2,7 @@ use Rattle.std.proofs.Common.{◌∙◌, sym, ap, subst, arith, true, false}
 use Rattle.fc_device.proofs.DiskLaws.{laws, form_same, form_then}
 use Rattle.fc_device.proofs.StopLemmas.{goes_on, started}
 use Rattle.fc_device.specs.Calls.{SameForm}
-use Rattle.fc_oldchanges.specs.Owed.{IsWritten}
+use Rattle.fc_changes.specs.old.Owed.{IsWritten}
 use Rattle.fc_squash.specs.Places.{Leaves}
 use Rattle.fc_squash.proofs.RoomLemmas.{leaves_same, leaves_then}
 use Rattle.fc_squash.specs.Sliding.{TimeGoesOn}

@@ -1,6 +1,6 @@
 use Rattle.std.proofs.Common.{◌≡◌, ◌≤◌, ℕ, List, false}
 use Rattle.fc_device.specs.Calls.{SameForm}
-use Rattle.fc_oldchanges.specs.Owed.{IsWritten}
+use Rattle.fc_changes.specs.old.Owed.{IsWritten}
 use Rattle.fc_squash.specs.Places.{Leaves}
 use Rattle.fc_squash.specs.Sliding.{TellsAsBefore, TimeGoesOn}
 use Rattle.fc_tree.specs.Nodes.{nodes_of}

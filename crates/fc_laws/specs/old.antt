@@ -1,0 +1,2 @@
+pub mod agree
+pub mod takeover

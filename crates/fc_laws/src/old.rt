@@ -1,0 +1,4 @@
+// Laws of volumes with old maps.
+
+pub mod agree;
+pub mod takeover;

@@ -1,4 +1,0 @@
-pub mod BeforeLemmas
-pub mod RoomLemmas
-pub mod DirectoryLemmas
-pub mod GivenLemmas

@@ -1,5 +1,0 @@
-use Rattle.fc_oldlaws.proofs.lemmas.takeover.ApartLemmas.{places_law}
-use Rattle.fc_oldlaws.proofs.takeover.places.Goals as goal
-
-pub returns : goal.returns
-returns c = places_law
