@@ -34,7 +34,8 @@ use Rattle.fc_oldlaws.specs.moves.Steps.{IsCompactedInSteps, opened_after}
 use Rattle.fc_oldlaws.proofs.lemmas.moves.StartLemmas.{by_number}
 use Rattle.fc_oldlaws.proofs.lemmas.moves.PlaceLemmas.{Case, case_of, empty_size, had}
 use Rattle.fc_oldlaws.proofs.lemmas.moves.WalkLemmas.{objects_after}
-use Rattle.fc_oldlaws.proofs.lemmas.moves.ListedLemmas.{find_changed, is_listed_directory}
+use Rattle.fc_oldlaws.proofs.lemmas.moves.ListedLemmas.{is_listed_directory}
+use Rattle.fc_laws.proofs.lemmas.agree.TwinLemmas.{find_changed}
 use Rattle.fc_oldlaws.proofs.lemmas.moves.BytesLemmas.{Steps, all, start, to, v, z, z'}
 use Rattle.fc_oldlaws.proofs.lemmas.moves.SaysLemmas.{changed_bytes, is_small, steady_bytes}
 use Rattle.fc_oldlaws.proofs.lemmas.moves.ImageLemmas.{map_after, opens, tree_stays}
