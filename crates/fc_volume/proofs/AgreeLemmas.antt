@@ -3,7 +3,7 @@ use Rattle.std.proofs.Common.{◌≡◌, ◌≤◌, ℕ, Bool, true, false, cond
 use Rattle.std.specs.Prelude.{Ok, Contains, IsPermutation, filter, ◌==◌, ◌||◌, ◌&&◌, nat_le, nat_lt}
 use Rattle.std.specs.Ordering.{nat_cmp}
 use Rattle.std.specs.FinMap.{FinMap}
-use Rattle.std.proofs.lemmas.Bool.{eqb-true, false_from_ne_true as unless}
+use Rattle.std.proofs.lemmas.Bool.{and_right, eqb-true, false_from_ne_true as unless}
 use Rattle.std.proofs.lemmas.List.{length-map}
 use Rattle.fc_record.specs.declared.Kind.{Kind}
 use Rattle.fc_names.specs.Names.{Path, is_same_path}
@@ -29,7 +29,6 @@ use Rattle.fc_tree.specs.Parts.{AreOwners, owner_of}
 use Rattle.fc_volume.specs.Compacting.{IsCompacted}
 use Rattle.fc_volume.proofs.CarryLemmas.{carried, carries, fixed_stays, no_fewer, stays_two}
 use Rattle.fc_volume.proofs.MisplacedLemmas.{id_owned}
-use Rattle.fc_changes.proofs.BasicLemmas.{and_false as never}
 use Rattle.fc_image.proofs.MapEditLemmas.{at_zones}
 use Rattle.fc_laws.proofs.lemmas.agree.BeforeLemmas.{new_shape}
 
@@ -44,7 +43,7 @@ pub movable_same : (owners : List Owner) (objects : List Object) → AreOwnersOf
 movable_same owners objects own id = ap (λ b. b && nat_le 3 id) (sym (own id)) ∙ by (id == 2) refl
   where
     by : (b : Bool) → (id == 2) ≡ b → ((b || is_id_owned owners id) && nat_le 3 id) ≡ (is_id_owned owners id && nat_le 3 id)
-    by true e = let low : nat_le 3 id ≡ false = ap (nat_le 3) (eqb-true id 2 e) in low ∙ sym (never (is_id_owned owners id)) ∙ ap (λ b. is_id_owned owners id && b) (sym low)
+    by true e = let low : nat_le 3 id ≡ false = ap (nat_le 3) (eqb-true id 2 e) in low ∙ sym (and_right (is_id_owned owners id) (nat_le 3 id) low)
     by false e = refl
 
 -- ---- objects that are carried

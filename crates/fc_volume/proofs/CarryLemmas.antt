@@ -1,5 +1,5 @@
 -- Where sectors come to lie when a map is compacted.
-use Rattle.std.proofs.Common.{◌≡◌, ◌<◌, ◌≤◌, ◌⊎◌, inl, inr, ℕ, ◌+◌, ◌*◌, ◌/◌, ◌%◌, Bool, true, false, cond, List, [], ◌∷◌, ◌++◌, length, map, Option, Some, None, refl, sym, ap, ap₂, subst, ◌∙◌, arith}
+use Rattle.std.proofs.Common.{◌≡◌, ◌<◌, ◌≤◌, ◌⊎◌, inl, inr, ℕ, ◌+◌, ◌*◌, ◌/◌, ◌%◌, Bool, true, false, cond, List, [], ◌∷◌, ◌++◌, length, Option, Some, None, refl, sym, ap, ap₂, subst, ◌∙◌, arith}
 use Rattle.std.specs.Prelude.{Ok, Err, Contains, filter, ◌==◌, ◌||◌}
 use Rattle.std.specs.List.{find}
 use Rattle.std.proofs.lemmas.Bool.{eqb-true, eq-eqb}
@@ -16,7 +16,6 @@ use Rattle.fc_newmap.specs.Map.{Map, ZoneRun, all_runs, bits_in, has_id, hole_ru
 use Rattle.fc_newmap.specs.NewMap.{IsNewMap}
 use Rattle.fc_newmap.specs.RunsLaw.{IsGeometry, HasZones, HoldsSector}
 use Rattle.fc_newmap.proofs.CoverLemmas.{id_Distinct, run_there}
-use Rattle.fc_newmap.proofs.GeometryLemmas.{geometry_of_valid}
 use Rattle.fc_newmap.proofs.HeldLemmas.{geometry_facts}
 use Rattle.fc_newmap.proofs.PlaceLemmas.{contains_cases, contains_none, held_in, holder_of, id_run_in, in_back, in_filter, in_id_runs, in_range, range_in}
 use Rattle.fc_newmap.proofs.RunsLemmas.{runs_apart, sectors_add}

@@ -11,12 +11,12 @@ use Rattle.fc_holdings.specs.declared.error.CommandError.TheVariants.{Refused, N
 use Rattle.fc_holdings.specs.declared.holdings.Holdings.{Holdings}
 use Rattle.fc_holdings.specs.Answers.{UnlessFault}
 use Rattle.fc_holdings.specs.Holdings as held
-use Rattle.fc_commands.specs.Promises.{ChangeKeeps, HasChanged, WritesPlacesOf}
+use Rattle.fc_commands.specs.Promises.{ChangeKeeps, HasChanged, SameMap, WritesPlacesOf}
 use Rattle.fc_commands.specs.Answers.{AnswersOver}
 use Rattle.fc_commands.specs.Judgments.{CommandLeaves}
 use Rattle.fc_volume.specs.Changing.{IsAsked}
 use Rattle.fc_volume.specs.Fitness.{fit_after}
-use Rattle.fc_volume.specs.Volume.{StandsFor, Volume}
+use Rattle.fc_volume.specs.Volume.{StandsFor, Volume, parts_of}
 
 abbrev pub volume_of : Holdings → (read_only fit : Bool) → Volume
 volume_of h read_only fit = record { space = h.places; copies = h.copies; tree = h.tree; owners = h.owners; read_only = read_only; fit = fit }
@@ -48,6 +48,9 @@ unchanged h h' read_only fit fit' old new (Err error) is fits same = λ other.
 module _ (was : Volume) (h : Holdings) (read_only fit : Bool) (view : volume_of h read_only fit ≡ was) where
   pub stands : {D : Type 0} (d : Ghosts D) (disk : D) → StandsFor d was disk → held.Stands d h disk
   stands d disk s = subst (λ (v : Volume). StandsFor d v disk) (sym view) s
+
+  pub same_map : {D : Type 0} (d : Ghosts D) (old new : D) → StopsAndExitsLeave d old new (SameMap (held.parts_of h).layout) → StopsAndExitsLeave d old new (SameMap (parts_of was).layout)
+  same_map d old new kept = subst (λ (v : Volume). StopsAndExitsLeave d old new (SameMap (parts_of v).layout)) view kept
 
   pub asked : {D : Type 0} (d : Ghosts D) (law : Laws d) (c : Command) (h' : Holdings) (old new : D) (result : Result (Unit {0}) CommandError) (fit' : Bool) → fit' ≡ fit_after result → IsTrue was.fit
       → AnswersOver read_only c (held.parts_of h) result → OnOk result (HasChanged d c (held.parts_of h) (held.parts_of h') old new)

@@ -1,6 +1,6 @@
 -- What compaction does to an image, where its map is compacted.
 use Rattle.std.proofs.Common.{◌≡◌, ◌<◌, ◌≤◌, ℕ, zero, suc, ◌+◌, ◌-◌, ◌*◌, ◌/◌, Bool, true, false, cond, List, [], ◌∷◌, ◌++◌, length, take, drop, refl, sym, ap, ap₂, subst, ◌∙◌, arith, drop_of_length-le}
-use Rattle.std.specs.Prelude.{Result, Ok, Option, Some, None, All, filter, not, ◌==◌, ◌||◌}
+use Rattle.std.specs.Prelude.{All, filter, not, ◌==◌, ◌||◌}
 use Rattle.std.proofs.Math.Nat.{div-mul-le_self, le-div_iff_mul-le}
 use Rattle.std.proofs.lemmas.Bool.{eq-eqb, eqb-true, false_from_ne_true as unless}
 use Rattle.std.proofs.lemmas.Nat.{mul-le}
@@ -15,17 +15,16 @@ use Rattle.fc_record.specs.Kinds.{disc_size}
 use Rattle.fc_record.specs.Record.{base, geometry}
 use Rattle.fc_zone.specs.declared.RunKind.{RunKind}
 use Rattle.fc_zone.specs.declared.RunKind.TheVariants as kinds
-use Rattle.fc_oldmap.specs.OldMap.{OldMapContent, free_space, hole_fault}
+use Rattle.fc_oldmap.specs.OldMap.{free_space, hole_fault}
 use Rattle.fc_newmap.specs.Map.{Map, ZoneRun, all_runs, map_sectors, sector_of, sectors_of}
 use Rattle.fc_newmap.proofs.CoverLemmas.{run_on_disc}
 use Rattle.fc_newmap.proofs.PlaceLemmas.{filter_in, held_in, holder_of, in_back, in_filter, range_in}
 use Rattle.fc_alloc.specs.declared.owner.Owner.{Owner}
 use Rattle.fc_model.specs.Command.{Command}
-use Rattle.fc_image.specs.declared.ImageFault.{ImageFault}
 use Rattle.fc_image.specs.Layout.{Layout, is_among, map_place}
 use Rattle.fc_image.specs.Walk.{Object}
 use Rattle.fc_image.specs.Objects.{is_lost, objects_of}
-use Rattle.fc_image.specs.Opening.{MapAndRoot, Opened, boot_place, holes_or, is_hole_or_movable, reserved_in}
+use Rattle.fc_image.specs.Opening.{Opened, boot_place, is_hole_or_movable, reserved_in}
 use Rattle.fc_image.specs.Moves.{KeepsObjects, SameMapLaw, StaysBy, with_map}
 use Rattle.fc_image.specs.Stays.{FixedBytesStay, FixedStay, IsNewKind, OpensAs, fixed_sectors, is_fixed, is_fixed_run}
 use Rattle.fc_image.proofs.FreeLemmas.{parts_of}

@@ -2,7 +2,7 @@ mod MapsLemmas
 mod OneZoneLemmas
 mod MapsOldLemmas
 mod MisplacedLemmas
-pub mod OwnersLemmas
+mod OwnersLemmas
 mod MountLemmas
 mod OpenReadsLemmas
 mod ReadingLemmas
@@ -11,8 +11,10 @@ mod CatLemmas
 mod FreeLemmas
 mod CarryLemmas
 mod AgreeLemmas
-pub mod RepairedLemmas
+mod RepairedLemmas
 mod CompactedLemmas
+pub mod VersionLemmas
 pub mod StandsLemmas
-pub mod PieceLemmas
+mod KeepLemmas
+mod PieceLemmas
 mod CommandLemmas

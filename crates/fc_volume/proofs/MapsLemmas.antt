@@ -1,8 +1,10 @@
 -- Maps as they are read: the bytes in which two records differ, the zones of the copy that counts, and old maps.
 use Rattle.std.proofs.Common.{◌≡◌, ◌<◌, ◌≤◌, ◌∷◌, ◌+◌, ◌*◌, ◌/◌, ◌⊎◌, inl, inr, ℕ, Bool, true, false, List, [], length, take, drop, drop_of_length-le, get_or, refl, sym, ap, subst, ◌∙◌, arith}
-use Rattle.std.specs.Prelude.{Option, Some, None, Result, Ok, Err, is_none, slice_index_or}
+use Rattle.std.specs.Prelude.{Option, Some, None, Result, Ok, Err, IfOk, is_none, slice_index_or}
+use Rattle.std.specs.Option.{ForSome}
 use Rattle.std.specs.List.{find, zip}
 use Rattle.std.proofs.lemmas.List.{drop_more}
+use Rattle.fc_device.specs.declared.disk.Disk.{Ghosts}
 use Rattle.fc_device.specs.Sectors.{sector_at}
 use Rattle.fc_record.specs.declared.DiscRecord.{DiscRecord}
 use Rattle.fc_record.specs.declared.Geometry.{Geometry}
@@ -19,18 +21,20 @@ use Rattle.std.proofs.Math.Nat.{le-div_iff_mul-le, div-mul-le_self}
 use Rattle.fc_newmap.proofs.GeometryLemmas.{facts_of_valid, geometry_of_valid}
 use Rattle.fc_newmap.proofs.HeldLemmas.{geometry_facts, place_fits, sector_is}
 use Rattle.fc_image.specs.declared.ImageFault.{ImageFault}
-use Rattle.fc_image.specs.Layout.{Layout}
+use Rattle.fc_image.specs.Layout.{Layout, disc_sectors, sector_bytes}
 use Rattle.fc_image.specs.Walk.{◌>>=◌}
 use Rattle.fc_image.specs.Opening.{MapAndRoot, agreement, copy_or, difference, new_layout, zones_or}
 use Rattle.fc_copies.specs.declared.Which.{Which}
 use Rattle.fc_copies.specs.Copies.{chosen, copy_of}
+use Rattle.fc_space.specs.Space.{layout_of}
 use Rattle.fc_volume.specs.declared.lines.MountError.{MountError}
+use Rattle.fc_volume.specs.declared.maps.MapFound.{MapFound}
 use Rattle.fc_writing.specs.declared.copies.Copies.{Copies}
 use Rattle.fc_writing.specs.declared.copies.Copies.TheVariants.{Chosen}
 use Rattle.fc_volume.specs.Answers.{IsFaultOf}
-use Rattle.fc_volume.specs.Maps.{zone_fault, zones_layout}
+use Rattle.fc_volume.specs.Maps.{FitsDisk, zone_fault, zones_layout}
 use Rattle.fc_writing.specs.Copies.{CountsAs}
-use Rattle.fc_holdings.specs.Holdings.{CopiesAre, TellsVersion}
+use Rattle.fc_holdings.specs.Holdings.{CopiesAre, HoldsMap, TellsVersion}
 use Rattle.fc_image.proofs.RecordLemmas.{agreed_valid}
 
 -- a search stands at a place
@@ -137,6 +141,12 @@ module _ (r : DiscRecord) (zones : List (List ℕ)) (sector : List ℕ) (first :
       own_right own e ∙ loaded_not own wrong (first_fault (geometry r) (zip (zone_numbers (geometry r)) zones)) (record { geometry = geometry r; zones = zones }) l
 
 -- ---- on the disk
+
+pub fits_disk : {D : Type 0} (d : Ghosts D) (disk : D) (result : Result MapFound MountError) → IfOk result (λ found. sector_bytes (layout_of found.space) ≡ d.sector_size disk)
+    → IfOk result (λ found. disc_sectors (layout_of found.space) ≤ d.sectors disk) → IfOk result (λ found. HoldsMap (layout_of found.space) (d.sectors disk))
+    → IfOk result (λ found. TellsVersion (layout_of found.space)) → IfOk result (λ found. ForSome (d.bytes disk) (CopiesAre found.copies (layout_of found.space))) → IfOk result (λ found. FitsDisk d found disk)
+fits_disk d disk (Ok found) size room map_room version copies = record { size = size; room = room; map_room = map_room; version = version; copies = copies }
+fits_disk d disk (Err error) size room map_room version copies = tt
 
 pub new_room : (r : DiscRecord) (long size sectors : ℕ) → IsRecord r → size ≡ (geometry r).sector → sectors ≡ long / size → r.size ≤ long
     → ((geometry r).map_sector + 2 * (geometry r).zones ≤ sectors) × ((geometry r).disc_bits * (geometry r).bit_bytes / (geometry r).sector ≤ sectors)

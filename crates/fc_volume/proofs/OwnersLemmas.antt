@@ -37,7 +37,7 @@ use Rattle.fc_tree.proofs.StepLemmas.{get_there as element_at}
 
 -- ---- sectors of objects
 
-pub part_long : (n : ℕ) (xs ys : List ℕ) → first_part n xs ≡ Some ys → length ys ≡ n
+part_long : (n : ℕ) (xs ys : List ℕ) → first_part n xs ≡ Some ys → length ys ≡ n
 part_long n xs ys e = by (nat_le n (length xs)) refl e
   where
     by : (b : Bool) → nat_le n (length xs) ≡ b → cond b (Some (take n xs)) None ≡ Some ys → length ys ≡ n
@@ -56,14 +56,14 @@ some_long (Layout.New m) address bytes sectors e = by (is_object_id m (id_of add
     by true is = part_long (div_ceil bytes m.geometry.sector) (drop (low_start m (low_of address)) (id_sectors m (id_of address))) sectors is
     by false is = absurd (cc)
 
-pub no_bytes : (s : ℕ) → div_ceil 0 s ≡ 0
+no_bytes : (s : ℕ) → div_ceil 0 s ≡ 0
 no_bytes s = let d = zero-div s in let m = zero_mod s in omega arith
   where
     zero_mod : (k : ℕ) → 0 % k ≡ 0
     zero_mod zero = refl
     zero_mod (suc k) = ap (λ n. n % suc k) (let e : 0 ≡ 0 * suc k + 0 = omega arith in e) ∙ mod-mul-add 0 (suc k) 0 (omega arith)
 
-pub sectors_long : (layout : Layout) (address bytes : ℕ) (sectors : List ℕ) → sectors_at layout address bytes ≡ Some sectors → length sectors ≡ div_ceil bytes (sector_bytes layout)
+sectors_long : (layout : Layout) (address bytes : ℕ) (sectors : List ℕ) → sectors_at layout address bytes ≡ Some sectors → length sectors ≡ div_ceil bytes (sector_bytes layout)
 unfolding sectors_at
 sectors_long layout address bytes sectors e = by (bytes == 0) refl e
   where

@@ -1,20 +1,18 @@
 -- Where files lie, and their bytes, piece by piece.
-use Rattle.std.proofs.Common.{◌≡◌, ◌<◌, ◌≤◌, ℕ, ◌+◌, ◌*◌, ◌/◌, ◌%◌, true, false, List, [], ◌∷◌, ◌++◌, length, take, drop, Option, Some, None, sym, ap, subst, ◌∙◌, arith, inl, inr}
-use Rattle.std.specs.Prelude.{All, option_map}
+use Rattle.std.proofs.Common.{◌≡◌, ◌<◌, ◌≤◌, ℕ, ◌+◌, ◌*◌, ◌/◌, ◌%◌, true, false, List, [], ◌++◌, length, take, drop, Option, Some, None, sym, ap, subst, ◌∙◌, arith, inl, inr}
+use Rattle.std.specs.Prelude.{option_map}
 use Rattle.std.specs.List.{flat_map}
 use Rattle.std.specs.Option.{option_map_or, unwrap_or}
 use Rattle.std.specs.FinMap.{get}
 use Rattle.std.proofs.Math.Nat.{div-mul-le_self}
 use Rattle.std.proofs.lemmas.Nat.{div-add-mod', mul-le}
 use Rattle.std.proofs.lemmas.List.{take_at}
-use Rattle.std.proofs.lemmas.List.Elements.{All-cons, All-nil}
 use Rattle.fc_device.specs.declared.disk.Extent.{Extent}
 use Rattle.fc_device.specs.Sectors.{IsSectorSize, sector_at}
 use Rattle.fc_objects.specs.Extents.{sectors_in}
 use Rattle.fc_record.specs.declared.Kind.{Kind}
 use Rattle.fc_names.specs.Names.{is_directory}
 use Rattle.fc_dirs.specs.declared.Entry.{Entry}
-use Rattle.fc_newmap.proofs.PlaceLemmas.{in_back}
 use Rattle.fc_image.specs.Layout.{Layout, bytes_in, disc_sectors, is_among, sector_bytes, sectors_at}
 use Rattle.fc_image.specs.Walk.{is_directory_object}
 use Rattle.fc_image.specs.Opening.{reserved_in}
@@ -25,7 +23,7 @@ use Rattle.fc_tree.specs.Nodes.{nodes_of}
 use Rattle.fc_tree.specs.Agree.{Agree, reader_of_nodes}
 use Rattle.fc_image.specs.Sound.{AreSound}
 use Rattle.fc_tree.proofs.FindLemmas.{object_of_number}
-use Rattle.fc_tree.proofs.LengthLemmas.{first_among, sector_long}
+use Rattle.fc_tree.proofs.LengthLemmas.{sector_long}
 use Rattle.fc_tree.proofs.WalkedLemmas.{same_some}
 use Rattle.fc_volume.specs.declared.lines.FileRef.{FileRef}
 use Rattle.fc_volume.specs.Answers.{IsPlace, IsRef, file_bytes, ref_bytes}

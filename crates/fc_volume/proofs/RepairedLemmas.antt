@@ -1,5 +1,5 @@
 -- An image whose copies are made equal, before its map is compacted.
-use Rattle.std.proofs.Common.{◌≡◌, ◌<◌, ◌≤◌, ◌⊎◌, inl, inr, ℕ, ◌+◌, ◌*◌, false, List, refl, ap, subst, ◌∙◌}
+use Rattle.std.proofs.Common.{◌≡◌, ◌<◌, ◌≤◌, ◌⊎◌, inl, inr, ℕ, ◌+◌, ◌*◌, false, List, refl, subst, ◌∙◌}
 use Rattle.std.specs.Prelude.{Some}
 use Rattle.std.specs.Option.{ForSome}
 use Rattle.std.proofs.lemmas.Bool.{cases_lt}
@@ -8,63 +8,31 @@ use Rattle.fc_device.specs.Calls.{StopsAndExitsLeave}
 use Rattle.fc_device.specs.Stops.{Keeps}
 use Rattle.fc_device.proofs.DiskLaws.{Laws}
 use Rattle.fc_device.proofs.StopLemmas.{keeps_then, weaker}
-use Rattle.fc_record.specs.declared.Geometry.{Geometry}
 use Rattle.fc_newmap.specs.Map.{Map, map_sectors}
 use Rattle.fc_newmap.proofs.PlaceLemmas.{in_range}
-use Rattle.fc_copies.specs.declared.Which.{Which}
-use Rattle.fc_copies.specs.declared.Which.TheVariants.{One}
-use Rattle.fc_copies.specs.Copies.{ChangesCopies, Chooses, CommitLeaves, HoldsCopies, RepairLeaves, copy_of, is_sound}
-use Rattle.fc_copies.proofs.ReadingLemmas.{chooses_one}
+use Rattle.fc_copies.specs.Copies.{ChangesCopies, CommitLeaves, HoldsCopies}
 use Rattle.fc_alloc.specs.declared.owner.Owner.{Owner}
-use Rattle.fc_image.specs.Layout.{Layout, is_among}
+use Rattle.fc_image.specs.Layout.{is_among}
 use Rattle.fc_image.specs.Objects.{objects_of}
 use Rattle.fc_image.specs.Moves.{CanMerge, CommitLaw, KeepsObjects, KeepsObjectsLaw, WithMapLaw}
 use Rattle.fc_image.specs.Stays.{OpensAs}
 use Rattle.fc_image.proofs.MoveLemmas.{open_by}
 use Rattle.fc_compact.specs.Ready.{IsReady}
 use Rattle.fc_compact.specs.Compaction.{ChangesLoose}
-use Rattle.fc_volume.specs.Compacting.{CanCompact, KeepsDisc, KeepsMap}
-use Rattle.fc_writing.specs.Copies.{CountsAs}
-use Rattle.fc_volume.specs.Volume.{HasCopies}
 use Rattle.fc_writing.specs.declared.copies.Copies.{Copies}
-use Rattle.fc_copies.proofs.CommitLemmas.{same_frame}
+use Rattle.fc_writing.specs.Copies.{HasCopies, KeepsMap}
+use Rattle.fc_volume.specs.Compacting.{CanCompact, KeepsDisc}
 
 -- ---- disks
 
 -- R leads only if Q leads too, from what is known.
-pub keeps_told : {D : Type 0} {d : Ghosts D} (law : Laws d) {R Q : List ℕ → List ℕ → Type 0} {old new : D} → Keeps d.moment d.left_since d.bytes old new R
+keeps_told : {D : Type 0} {d : Ghosts D} (law : Laws d) {R Q : List ℕ → List ℕ → Type 0} {old new : D} → Keeps d.moment d.left_since d.bytes old new R
     → ((was image : List ℕ) → d.bytes old ≡ Some was → R was image → Q was image) → Keeps d.moment d.left_since d.bytes old new Q
 keeps_told {d = d} law {Q = Q} {old = old} keeps less = record {
   stops = weaker law (λ image. ForSome (d.bytes old) (λ was. Q was image)) keeps.stops (λ image led was told. less was image told (led was told));
   exit = λ was told. let there = keeps.exit was told in (there.0, there.1, less was there.0 told there.2);
   told = keeps.told;
 }
-
--- ---- copies
-
--- equal copies are kept as they are
-pub equal_kept : (m : Map) (image : List ℕ) → HoldsCopies m.geometry m.zones image → KeepsMap m image image
-equal_kept m image holds = record {
-  frame = same_frame m.geometry image;
-  content = record {
-    which = One;
-    chosen_one = chooses_one m.geometry image (ap is_sound holds.first ∙ holds.sound);
-    content = holds.first;
-  };
-}
-
--- what a repair leaves has the map's zones
-pub repaired : (m : Map) (g : Geometry) (which : Which) (was image : List ℕ) → g ≡ m.geometry → RepairLeaves g was which image → CountsAs m which was → KeepsMap m was image
-repaired m g which was image same left counts = record {
-  frame = subst (λ (h : Geometry). ChangesCopies h was image) same left.frame;
-  content = subst (λ (zs : List (List ℕ)). Chooses m.geometry zs image) counts.content
-      (subst (λ (h : Geometry). Chooses h (copy_of h which was) image) same left.content);
-}
-
-pub repaired_copies : (m : Map) (g : Geometry) (which : Which) (was image : List ℕ) → g ≡ m.geometry → HoldsCopies g (copy_of g which was) image → CountsAs m which was → HoldsCopies m.geometry m.zones image
-repaired_copies m g which was image same holds counts =
-    subst (λ (zs : List (List ℕ)). HoldsCopies m.geometry zs image) counts.content
-    (subst (λ (h : Geometry). HoldsCopies h (copy_of h which was) image) same holds)
 
 -- ---- the image
 
@@ -82,7 +50,7 @@ module _ (commits : CommitLaw) (keeps : KeepsObjectsLaw) (maps : WithMapLaw) (m 
     sectors = λ k. refl;
   }
 
-  pub keeps_objects : KeepsObjects m.geometry was image
+  keeps_objects : KeepsObjects m.geometry was image
   keeps_objects = keeps.commit was image ready.kind ready.of_record ready.view m m ready.new_kind ready.opens ready.layout (inr can) leaves
 
   pub ready_after : HoldsCopies m.geometry m.zones image → IsReady m owners image
@@ -100,7 +68,7 @@ module _ (commits : CommitLaw) (keeps : KeepsObjectsLaw) (maps : WithMapLaw) (m 
 
 -- ---- what changes
 
-pub map_loose : (m : Map) (owners : List Owner) (was image : List ℕ) → ChangesCopies m.geometry was image → ChangesLoose m owners was image
+map_loose : (m : Map) (owners : List Owner) (was image : List ℕ) → ChangesCopies m.geometry was image → ChangesLoose m owners was image
 map_loose m owners was image frame = record {
   same_length = frame.same_length;
   outside = λ s out firm. frame.outside s (sides s out);
@@ -118,7 +86,7 @@ map_loose m owners was image frame = record {
 pub loose_same : (m : Map) (owners : List Owner) (image : List ℕ) → ChangesLoose m owners image image
 loose_same m owners image = record { same_length = refl; outside = λ s out firm. refl }
 
-pub loose_then : (m : Map) (owners : List Owner) (a b c : List ℕ) → ChangesLoose m owners a b → ChangesLoose m owners b c → ChangesLoose m owners a c
+loose_then : (m : Map) (owners : List Owner) (a b c : List ℕ) → ChangesLoose m owners a b → ChangesLoose m owners b c → ChangesLoose m owners a c
 loose_then m owners a b c first second = record {
   same_length = second.same_length ∙ first.same_length;
   outside = λ s out firm. second.outside s out firm ∙ first.outside s out firm;
@@ -127,7 +95,7 @@ loose_then m owners a b c first second = record {
 -- ---- crashes and exits
 
 pub matched : {D : Type 0} {d : Ghosts D} (law : Laws d) (commits : CommitLaw) (keeps : KeepsObjectsLaw) (maps : WithMapLaw) (m : Map) (copies : Copies) (owners : List Owner) {old new : D}
-    → ForSome (d.bytes old) (CanCompact m copies owners) → StopsAndExitsLeave d old new (λ was image. HasCopies copies (Layout.New m) was → KeepsMap m was image) → KeepsDisc d m owners old new
+    → ForSome (d.bytes old) (CanCompact m copies owners) → StopsAndExitsLeave d old new (λ was image. HasCopies copies m was → KeepsMap m was image) → KeepsDisc d m owners old new
 matched law commits keeps maps m copies owners ready kept = record {
   objects = keeps_told law kept (λ was image told left. keeps_objects commits keeps maps m copies owners was image (ready was told) (left (ready was told).copies_are));
   frame = keeps_told law kept (λ was image told left. map_loose m owners was image (left (ready was told).copies_are).frame);

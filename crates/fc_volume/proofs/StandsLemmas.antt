@@ -1,6 +1,6 @@
 -- A volume that is compacted stands for its disk.
 use Rattle.std.proofs.Common.{◌≡◌, ◌≤◌, ◌+◌, ◌*◌, ◌/◌, ℕ, List, refl, sym, ap, subst, ◌∙◌}
-use Rattle.std.specs.Prelude.{Option, Some}
+use Rattle.std.specs.Prelude.{Some}
 use Rattle.std.specs.Option.{ForSome}
 use Rattle.std.specs.Ordering.{nat_cmp}
 use Rattle.std.specs.FinMap.{FinMap}
@@ -14,7 +14,7 @@ use Rattle.fc_image.specs.Walk.{reader_of}
 use Rattle.fc_image.specs.Objects.{objects_of}
 use Rattle.fc_image.specs.Opening.{Opened}
 use Rattle.fc_image.specs.Moves.{KeepsObjects, SameMapLaw, with_map}
-use Rattle.fc_image.specs.Stays.{HasEqualCopies, IsNewLayout, OpensAs}
+use Rattle.fc_image.specs.Stays.{IsNewLayout, OpensAs}
 use Rattle.fc_image.proofs.MoveLemmas.{open_by}
 use Rattle.fc_image.specs.effects.Effect.{Compacts}
 use Rattle.fc_compact.specs.Ready.{AreOwnersOf}
@@ -26,9 +26,9 @@ use Rattle.fc_tree.specs.Nodes.{nodes_of}
 use Rattle.fc_tree.specs.Parts.{AreOwners, ArePartsOf, Parts}
 use Rattle.fc_writing.specs.declared.copies.Copies.{Copies}
 use Rattle.fc_writing.specs.declared.copies.Copies.TheVariants.{Equal}
-use Rattle.fc_volume.specs.Compacting.{CanCompact, CompactsParts, IsDone, KeepsDisc}
-use Rattle.fc_holdings.specs.Holdings.{HoldsMap}
-use Rattle.fc_volume.specs.Volume.{HasCopies, StandsFor, Volume, parts_of}
+use Rattle.fc_volume.specs.Compacting.{CanCompact, HasCompacted, IsDone, KeepsDisc}
+use Rattle.fc_holdings.specs.Holdings.{CopiesAre, HoldsMap, TellsVersion}
+use Rattle.fc_volume.specs.Volume.{StandsFor, Volume, parts_of}
 use Rattle.fc_volume.proofs.AgreeLemmas.{agree_after, own_same, parts_after}
 use Rattle.fc_volume.proofs.CompactedLemmas.{compacts, new_kind}
 use Rattle.fc_objects.proofs.CopyLemmas.{one_told as some_same}
@@ -52,7 +52,7 @@ can_compact d v disk m stands layout image told =
       new_kind = new.1;
       opens = s.2;
       layout = at;
-      copies_are = subst (λ (l : Layout). HasCopies v.copies l image) layout (stands.copies image told);
+      copies_are = subst (λ (l : Layout). CopiesAre v.copies l image) layout (stands.copies image told);
       owned = own_same v.owners (nodes_of v.tree) s.1.layout (objects_of s.1.listings) s.3.owners;
     }
 
@@ -101,9 +101,10 @@ module _ {D : Type 0} {d : Ghosts D} (law : ByOwnersLaw) (one_map : SameMapLaw) 
         let held = parts_after kind m m' nodes v.owners view.listings (reader_of was (Layout.New m)) o.root o.size done.map own o.walked parts.nodes owned in
         subst (λ (p : Parts). ArePartsOf p (with_map m' view)) now_are (record { layout = refl; nodes = held.0; owners = held.1 })
 
-  pub compacts_parts : ForSome (d.bytes old) (λ image. ForSome (d.bytes new) (CompactsParts (parts_of v) (parts_of v') image))
-  compacts_parts was told_was image told kind view opens parts =
-      (with_map m' view, view_compacts was image told_was told kind view opens parts, view_parts was image told_was told kind view opens parts)
+  pub has_compacted : HasCompacted d (parts_of v) (parts_of v') old new
+  has_compacted was told_was =
+      let there = exits.objects.exit was told_was in
+      (there.0, there.1, λ kind view opens parts. (with_map m' view, view_compacts was there.0 told_was there.1 kind view opens parts, view_parts was there.0 told_was there.1 kind view opens parts))
 
   pub stands_after : StandsFor d v' new
   stands_after = record {
@@ -116,12 +117,13 @@ module _ {D : Type 0} {d : Ghosts D} (law : ByOwnersLaw) (one_map : SameMapLaw) 
         (subst (λ (l : Layout). HoldsMap l (d.sectors old)) (sym layout')
         (subst (λ (g : Geometry). g.map_sector + 2 * g.zones ≤ d.sectors old) (sym done.map.geometry)
         (subst (λ (l : Layout). HoldsMap l (d.sectors old)) layout stands.map_room)));
+    version = subst TellsVersion (sym layout') (done.map.version ∙ subst TellsVersion layout stands.version ∙ ap (λ (g : Geometry). g.version) (sym done.map.geometry));
     agree = agrees;
     image = λ image told.
         (let was = exits.objects.told image told in
         let s = stands.image was.0 was.1 in
         (s.0, with_map m' s.1, (view_compacts was.0 image was.1 told s.0 s.1 s.2 s.3).opens.opens, view_parts was.0 image was.1 told s.0 s.1 s.2 s.3));
     copies = λ image told.
-        subst (λ (k : Copies). HasCopies k (layout_of v'.space) image) (sym copies)
-        (subst (λ (l : Layout). HasEqualCopies image l) (sym layout') (done.ready image told).copies);
+        subst (λ (k : Copies). CopiesAre k (layout_of v'.space) image) (sym copies)
+        (subst (λ (l : Layout). CopiesAre Equal l image) (sym layout') (done.ready image told).copies);
   }

@@ -1,6 +1,5 @@
 -- How many read calls a disc takes when it is opened.
 use Rattle.std.specs.Prelude.{ℕ, ◌+◌, ◌*◌, List, length, nat_lt, if◌then◌else◌, Option, Some, None, Result, Ok, Err}
-use Rattle.fc_record.specs.declared.Geometry.{Geometry}
 use Rattle.fc_record.specs.Record.{geometry}
 use Rattle.fc_record.specs.Kinds.{disc_size, front_reads, kind_of}
 use Rattle.fc_record.specs.declared.Kind.{Kind}
@@ -8,7 +7,6 @@ use Rattle.fc_record.specs.declared.Kind.TheVariants.{Boot, OneZone, DiscD, Disc
 use Rattle.fc_copies.specs.declared.Which.{Which}
 use Rattle.fc_copies.specs.declared.Which.TheVariants.{One, Two}
 use Rattle.fc_copies.specs.Copies.{chosen}
-use Rattle.fc_image.specs.declared.ImageFault.{ImageFault}
 use Rattle.fc_image.specs.Layout.{Layout}
 use Rattle.fc_image.specs.Opening.{MapAndRoot, map_and_root, reserved_in}
 use Rattle.fc_image.specs.Walk.{reader_of}

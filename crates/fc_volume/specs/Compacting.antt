@@ -5,7 +5,8 @@ use Rattle.fc_device.specs.declared.disk.Disk.{Ghosts}
 use Rattle.fc_device.specs.Calls.{StopsAndExitsLeave}
 use Rattle.fc_record.specs.declared.DiscRecord.{DiscRecord}
 use Rattle.fc_record.specs.declared.Kind.{Kind}
-use Rattle.fc_newmap.specs.Map.{Map, id_runs}
+use Rattle.fc_record.specs.Kinds.{map_record}
+use Rattle.fc_newmap.specs.Map.{Map, id_runs, sector_of}
 use Rattle.fc_newmap.specs.NewMap.{IsNewMap}
 use Rattle.fc_alloc.specs.declared.owner.Owner.{Owner}
 use Rattle.fc_image.specs.Layout.{Layout}
@@ -42,6 +43,7 @@ pub record IsCompacted (m m' : Map) (owners : List Owner) : Type 0 where
   pub compacted : CompactedBy m m' owners
   pub fixed : (id : ℕ) → is_movable_by owners id ≡ false → id_runs m' id ≡ id_runs m id
   pub zones : (z : ℕ) → z < m.geometry.zones → ZoneStays m m' z
+  pub version : (map_record (sector_of m' 0)).version ≡ (map_record (sector_of m 0)).version
 
 -- Every crash and every exit keeps all objects, and changes only the map, holes and what may move.
 pub record KeepsDisc {D : Type 0} (d : Ghosts D) (m : Map) (owners : List Owner) (old new : D) : Type 0 where

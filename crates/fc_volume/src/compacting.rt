@@ -15,6 +15,7 @@ ghost use Rattle.fc_volume.specs.Volume.{StandsFor, parts_of};
 
 use crate::{CommandError, Copies, Volume};
 use fc_alloc::Owners;
+use fc_bytes::are_bytes;
 use fc_compact::compact;
 use fc_device::{Disk, DiskFault};
 use fc_names::Refusal;
@@ -46,10 +47,11 @@ fn compact_map<D: Disk>(
     fc_image::keeps_objects();
     fc_image::maps();
     map.is_map();
+    are_bytes(map.bytes(0));
     match_copies(disk, map, copies)?;
-    let compacted = compact(disk, map, owners);
-    map.is_map();
-    compacted
+    compact(disk, map, owners)?;
+    are_bytes(map.bytes(0));
+    Ok(())
 }
 
 // The map of a disc with a new map: makes its copies equal and compacts it. It has no index afterwards.

@@ -18,7 +18,7 @@ ghost use Rattle.fc_image.specs.Opening.{agreement, byte_compared, copy_or, diff
 ghost use Rattle.fc_space.specs.Space.{layout_of};
 ghost use Rattle.fc_volume.specs.Answers.{IsFaultOf};
 ghost use Rattle.fc_volume.specs.Calls.{chosen_reads, copies_reads, copy_reads, layout_reads, map_reads};
-ghost use Rattle.fc_volume.specs.Maps.{Finds, HasOldMap, found_of, zone_fault, zones_layout};
+ghost use Rattle.fc_volume.specs.Maps.{Finds, FitsDisk, HasOldMap, found_of, zone_fault, zones_layout};
 ghost use Rattle.fc_holdings.specs.Holdings.{CopiesAre, HoldsMap, TellsVersion};
 
 use crate::{Copies, MountError};
@@ -163,11 +163,7 @@ fn read_new<D: Disk>(alloc: Global, disk: &mut D, r: &DiscRecord) -> Result<MapF
     requires size { D.sector_size disk.old ≡ (geometry r.now).sector }
     requires long { r.now.size ≤ D.image_length disk.old }
     ensures found { IfOk result (λ found. ForSome (D.bytes disk.old) (λ image. new_layout image r.now ≡ Ok (found_of found))) }
-    ensures copies { IfOk result (λ found. ForSome (D.bytes disk.old) (CopiesAre found.copies (layout_of found.space))) }
-    ensures version { IfOk result (λ found. TellsVersion (layout_of found.space)) }
-    ensures size { IfOk result (λ found. sector_bytes (layout_of found.space) ≡ D.sector_size disk.old) }
-    ensures room { IfOk result (λ found. disc_sectors (layout_of found.space) ≤ D.sectors disk.old) }
-    ensures map_room { IfOk result (λ found. HoldsMap (layout_of found.space) (D.sectors disk.old)) }
+    ensures stands { IfOk result (λ found. FitsDisk D.Disk found disk.old) }
     ensures fault { IfErr result (λ e. ForSome (D.bytes disk.old) (λ image. IsFaultOf (new_layout image r.now) e)) }
     ensures reads { OnlyReads D.Disk disk.old disk.new }
     ensures few { IfOk result (λ found. D.read_calls disk.new ≤ D.read_calls disk.old + layout_reads (layout_of found.space) found.copies) }
@@ -292,11 +288,7 @@ pub fn read_map<D: Disk>(
     requires fits { ForSome (D.bytes disk.old) (λ image. IsTrue (fits_kind image kind.now)) }
     requires held { ForSome (D.bytes disk.old) (λ image. HasMapOf image kind.now front.now) }
     ensures found { IfOk result (λ found. ForSome (D.bytes disk.old) (λ image. map_and_root image kind.now ≡ Ok (found_of found))) }
-    ensures copies { IfOk result (λ found. ForSome (D.bytes disk.old) (CopiesAre found.copies (layout_of found.space))) }
-    ensures version { IfOk result (λ found. TellsVersion (layout_of found.space)) }
-    ensures size { IfOk result (λ found. sector_bytes (layout_of found.space) ≡ D.sector_size disk.old) }
-    ensures room { IfOk result (λ found. disc_sectors (layout_of found.space) ≤ D.sectors disk.old) }
-    ensures map_room { IfOk result (λ found. HoldsMap (layout_of found.space) (D.sectors disk.old)) }
+    ensures stands { IfOk result (λ found. FitsDisk D.Disk found disk.old) }
     ensures fault { IfErr result (λ e. ForSome (D.bytes disk.old) (λ image. IsFaultOf (map_and_root image kind.now) e)) }
     ensures reads { OnlyReads D.Disk disk.old disk.new }
     ensures few { IfOk result (λ found. D.read_calls disk.new ≤ D.read_calls disk.old + map_reads kind.now (layout_of found.space) found.copies) }

@@ -1,10 +1,12 @@
 // Conversion's `mark`: other attributes for one object.
 ghost use Rattle.std.specs.Prelude.{IsFalse, IsTrue};
+ghost use Rattle.fc_device.specs.Calls.{StopsAndExitsLeave};
 ghost use Rattle.fc_model.specs.Command.{Command};
-ghost use Rattle.fc_volume.specs.Changing.{IsAsked};
-ghost use Rattle.fc_volume.specs.Volume.{StandsFor, parts_of};
 ghost use Rattle.fc_image.specs.Layout.{dir_form};
 ghost use Rattle.fc_commands.specs.Promises.{FitAttributes};
+ghost use Rattle.fc_commands.specs.Promises.{SameMap};
+ghost use Rattle.fc_volume.specs.Changing.{IsAsked};
+ghost use Rattle.fc_volume.specs.Volume.{StandsFor, parts_of};
 
 use crate::{CommandError, Volume, is_fit_after};
 use fc_device::Disk;
@@ -29,7 +31,8 @@ impl Volume {
         requires fit { IsTrue self.old.fit }
         requires stands { StandsFor D.Disk self.old disk.old }
         requires form { FitAttributes (dir_form (parts_of self.old).layout) attrs }
-        ensures { IsAsked D.Disk (Command.Mark path.now attrs) self.old self.new disk.old disk.new result }
+        ensures asked { IsAsked D.Disk (Command.Mark path.now attrs) self.old self.new disk.old disk.new result }
+        ensures map { StopsAndExitsLeave D.Disk disk.old disk.new (SameMap (parts_of self.old).layout) }
     {
         let answer = fc_commands::mark(
             alloc,

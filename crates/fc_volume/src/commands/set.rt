@@ -1,8 +1,10 @@
 // `set`: other words and access bits for one object.
 ghost use Rattle.std.specs.Prelude.{◌<◌, IsFalse, IsTrue};
+ghost use Rattle.fc_device.specs.Calls.{StopsAndExitsLeave};
 ghost use Rattle.fc_model.specs.Command.{Command};
+ghost use Rattle.fc_commands.specs.Promises.{SameMap};
 ghost use Rattle.fc_volume.specs.Changing.{IsAsked};
-ghost use Rattle.fc_volume.specs.Volume.{StandsFor};
+ghost use Rattle.fc_volume.specs.Volume.{StandsFor, parts_of};
 
 use crate::{CommandError, Volume, is_fit_after};
 use fc_change::ObjectWords;
@@ -29,7 +31,8 @@ impl Volume {
         requires fit { IsTrue self.old.fit }
         requires stands { StandsFor D.Disk self.old disk.old }
         requires access { words.access < 8 }
-        ensures { IsAsked D.Disk (Command.Set path.now words.load words.exec words.access) self.old self.new disk.old disk.new result }
+        ensures asked { IsAsked D.Disk (Command.Set path.now words.load words.exec words.access) self.old self.new disk.old disk.new result }
+        ensures map { StopsAndExitsLeave D.Disk disk.old disk.new (SameMap (parts_of self.old).layout) }
     {
         let answer = fc_commands::set(alloc, disk, &mut self.holdings, self.read_only, path, words);
         self.fit = is_fit_after(&answer);

@@ -11,7 +11,7 @@ use Rattle.fc_volume.proofs.maps.map_in.Goals as goal
 pub slice_bounds-own_record-end : goal.slice_bounds-own_record-end
 slice_bounds-own_record-end c =
     let fits = first_zone_fits (geometry c.args.r.now) c.args.copy.zones.items (of_record c.args.r.now c.requires.«record») c.requires.whole in
-    sym (length-take-le c.geometry-g.result.sector c.deref.result.now (omega (arith, c.deref.ensures.value, fits.0, ap (λ (g : Geometry). g.sector) c.geometry-g.ensures, ap length c.deref.ensures.value)))
+    sym (length-take-le c.geometry-g.result.sector c.deref.result.now (omega (arith, fits.0, ap (λ (g : Geometry). g.sector) c.geometry-g.ensures, ap length c.deref.ensures.value)))
 
 pub own_record-requires : goal.own_record-requires
 own_record-requires c =

@@ -26,21 +26,20 @@ returns-clause-found g c = λ image told.
     let copy = rw c.geometry-g.ensures at (c.in_ok-copy.ensures.copy image told) in
     new_is image c.args.r.now c.in_ok-copy.copy.which (zones_in (geometry c.args.r.now) c.in_ok-copy.copy.zones.items) copy.0 copy.1 ∙ c.in_ok-map_in.ensures.found
 
-pub returns-clause-copies : goal.returns-clause-copies
-returns-clause-copies g c = λ image told.
-    let copy = rw c.geometry-g.ensures at (c.in_ok-copy.ensures.copy image told) in
-    counted c.in_ok-map_in.field-0.copies (layout_of c.in_ok-map_in.field-0.space) c.in_ok-copy.copy.which _ image c.in_ok-map_in.ensures.copies c.in_ok-map_in.ensures.map
-    (record { counts = copy.0; content = sym copy.1 })
-
-pub returns-clause-room : goal.returns-clause-room
-returns-clause-room g c =
+pub returns-clause-stands : goal.returns-clause-stands
+returns-clause-stands g c =
+    let found = c.in_ok-map_in.field-0 in
+    let map = c.in_ok-map_in.ensures in
     let room = new_room c.args.r.now _ _ _ c.requires.«record» c.requires.size (g.met.D.Disk.whole_sectors c.args.disk.now) c.requires.long in
-    omega (arith, room.1, c.in_ok-map_in.ensures.geometry.1)
-
-pub returns-clause-map_room : goal.returns-clause-map_room
-returns-clause-map_room g c =
-    let room = new_room c.args.r.now _ _ _ c.requires.«record» c.requires.size (g.met.D.Disk.whole_sectors c.args.disk.now) c.requires.long in
-    subst (λ (l : Layout). HoldsMap l (g.D.Disk.sectors c.args.disk.now)) (sym c.in_ok-map_in.ensures.map) room.0
+    record {
+      size = map.geometry.0 ∙ sym c.requires.size;
+      room = omega (arith, room.1, map.geometry.1);
+      map_room = subst (λ (l : Layout). HoldsMap l (g.D.Disk.sectors c.args.disk.now)) (sym map.map) room.0;
+      version = map.version;
+      copies = λ image told.
+          let copy = rw c.geometry-g.ensures at (c.in_ok-copy.ensures.copy image told) in
+          counted found.copies (layout_of found.space) c.in_ok-copy.copy.which _ image map.copies map.map (record { counts = copy.0; content = sym copy.1 });
+    }
 
 pub returns-clause-few : goal.returns-clause-few
 returns-clause-few g c =

@@ -65,13 +65,13 @@ returns-clause-stands g c =
     (λ v is.
     let space = is.1.0 in
     let room : disc_sectors (layout_of v.space) ≤ g.D.Disk.sectors c.shape.new.self =
-    subst (λ (s : Space). disc_sectors (layout_of s) ≤ g.D.Disk.sectors c.shape.new.self) (sym space) c.in_ok-found.ensures.room in
+    subst (λ (s : Space). disc_sectors (layout_of s) ≤ g.D.Disk.sectors c.shape.new.self) (sym space) c.in_ok-found.ensures.stands.room in
     record {
-      size = reads.form.size_stays ∙ sym c.in_ok-found.ensures.size ∙ sym (ap (λ (s : Space). sector_bytes (layout_of s)) space);
+      size = reads.form.size_stays ∙ sym c.in_ok-found.ensures.stands.size ∙ sym (ap (λ (s : Space). sector_bytes (layout_of s)) space);
       room = subst (λ (n : ℕ). disc_sectors (layout_of v.space) ≤ n) (sym reads.form.sectors_stay) room;
       map_room = subst (λ (n : ℕ). HoldsMap (layout_of v.space) n) (sym reads.form.sectors_stay)
-          (subst (λ (s : Space). HoldsMap (layout_of s) (g.D.Disk.sectors c.shape.new.self)) (sym space) c.in_ok-found.ensures.map_room);
-      version = subst (λ (s : Space). TellsVersion (layout_of s)) (sym space) c.in_ok-found.ensures.version;
+          (subst (λ (s : Space). HoldsMap (layout_of s) (g.D.Disk.sectors c.shape.new.self)) (sym space) c.in_ok-found.ensures.stands.map_room);
+      version = subst (λ (s : Space). TellsVersion (layout_of s)) (sym space) c.in_ok-found.ensures.stands.version;
       agree = (kind, agrees kind _ _ (parts_of v) _ is.0);
       image = λ image told.
           let shaped = sym reads.bytes ∙ told in
@@ -88,7 +88,7 @@ returns-clause-stands g c =
       copies = λ image told.
           let shaped = sym reads.bytes ∙ told in
           subst (λ (k : Copies). CopiesAre k (layout_of v.space) image) (sym is.1.1)
-          (subst (λ (s : Space). CopiesAre c.in_ok-found.found.copies (layout_of s) image) (sym space) (c.in_ok-found.ensures.copies image shaped));
+          (subst (λ (s : Space). CopiesAre c.in_ok-found.found.copies (layout_of s) image) (sym space) (c.in_ok-found.ensures.stands.copies image shaped));
     })
     (both_of c.volume_of.result _ _ c.volume_of.ensures.parts (both_of c.volume_of.result _ _ c.volume_of.ensures.space c.volume_of.ensures.copies))
 

@@ -1,7 +1,7 @@
 use Rattle.fc_device.proofs.DiskLaws.{laws}
 use Rattle.fc_model.specs.Command.{Command}
 use Rattle.fc_volume.proofs.CommandLemmas.{asked, stands}
-use Rattle.fc_volume.proofs.commands.save.Volume.create.Goals as goal
+use Rattle.fc_volume.proofs.volume.Volume.create.Goals as goal
 
 pub create-answer-requires-clause-stands : goal.create-answer-requires-clause-stands
 create-answer-requires-clause-stands g c = stands c.args.self.now c.self.inside.holdings c.self.inside.read_only c.self.inside.fit c.self.view_is g.D.Disk c.args.disk.now c.requires.stands
