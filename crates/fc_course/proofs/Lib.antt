@@ -32,6 +32,8 @@ pub mod ArrivalStageLemmas
 pub mod ArrivalEditLemmas
 pub mod ArrivalPartsLemmas
 pub mod FilledLemmas
+pub mod GivenLemmas
+pub mod GivenJobLemmas
 pub mod ArrivalReadyLemmas
 pub mod TwoPieceLemmas
 pub mod ArrivalPreparedLemmas

@@ -3,12 +3,14 @@
 #![tactic(auto)]
 
 mod course;
+mod given;
 mod laws;
 mod maps;
 mod stages;
 mod writing;
 
 pub use course::change;
+pub use given::{GivenError, change_from};
 pub use fc_holdings::{CommandError, Holdings};
 pub use laws::jobs;
 pub use maps::is_map;

@@ -4,6 +4,7 @@ use Rattle.fc_newmap.specs.Map.{Map}
 use Rattle.fc_oldmap.specs.OldMap.{OldMapContent}
 use Rattle.fc_writing.specs.declared.copies.Copies.{Copies}
 use Rattle.fc_writing.specs.declared.ready.Ready.{Ready}
+use Rattle.fc_writing.specs.declared.ready.Source.{Source}
 use Rattle.fc_writing.specs.declared.ready.Source.TheVariants as sources
 use Rattle.fc_writing.specs.Content.{HasContent, IsPart}
 use Rattle.fc_writing.specs.Copies.{HasCopies}
@@ -14,6 +15,12 @@ use Rattle.fc_writing.specs.Ready.{source_content}
 -- all of a change but the new object's bytes
 abbrev pub rest_of : Ready → Ready
 rest_of r = record r { source = sources.Nothing }
+
+-- The new object gets bytes that are given, or there is none.
+abbrev pub IsGivenSource : Source → Type 0
+IsGivenSource sources.Nothing = Unit {0}
+IsGivenSource (sources.Bytes place) = Unit {0}
+IsGivenSource (sources.Sectors t) = ⊥
 
 -- Some of the new object's sectors have their bytes, and no other has changed.
 abbrev pub IsBegun : ℕ → Ready → List ℕ → List ℕ → List ℕ → Type 0
