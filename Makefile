@@ -70,7 +70,7 @@ papers:
 	tools/run checks/bounds --write
 	tools/run checks/copies --write
 
-# Wrong bodies whose checks are too dear for the gate, or those of some crates, as by make edits EDITS=fc_growing
+# Wrong bodies whose checks are too dear for the gate, or those of some crates, as by make edits EDITS=fc_change
 edits:
 	tools/run checks/edits $(EDITS)
 
