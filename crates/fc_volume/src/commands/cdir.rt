@@ -13,8 +13,8 @@ impl Volume {
     /// Makes an empty directory. Nothing of the disk is pending. Copies of a new map that may differ are made equal first; then the new
     /// directory is written into space that was free, the map with its space, and the directory that holds it. If that has to grow, it
     /// is written to its new place, and then those around it whose entries or heads name its place; what it has left goes back at last.
-    /// A crash between two of these writes leaves lost space at worst. One inside a directory's, or an old map's, may tear it, and then
-    /// the disc isn't accepted.
+    /// A crash between two of these writes leaves lost space at worst, if no directory grows. While one grows, or inside a directory's
+    /// write, or an old map's, it may leave a disc that isn't accepted.
     ///
     /// Refused with the first reason that applies, and then nothing has changed; `NoMemory` leaves all as it was, too. `DiskFault` only
     /// if the disk's count of faults rose; the volume is unfit afterwards.

@@ -16,7 +16,8 @@ impl Volume {
     /// slack that other files of the directory leave, the map with their space, the directory, and the map with the space of the file
     /// that was there. If the directory has to grow by a new file, it is written to its new place, and then those around it whose
     /// entries or heads name its place; what it has left goes back at last. A crash between two of these writes leaves lost space at
-    /// worst. One inside a directory's, or an old map's, may tear it, and then the disc isn't accepted.
+    /// worst, if no directory grows. While one grows, or inside a directory's write, or an old map's, it may leave a disc that isn't
+    /// accepted.
     ///
     /// Refused with the first reason that applies, and then nothing has changed; `NoMemory` leaves all as it was, too. `DiskFault` only
     /// if the disk's count of faults rose; the volume is unfit afterwards.
