@@ -80,16 +80,6 @@ impl Room {
 }
 
 impl Draft {
-    /// The room for a name that is not there.
-    pub fn room_for(&self, name: &Name) -> Room
-        ensures { (gain : Gain) → GetsName (directory_in self.now) name.now gain → HasRoom (directory_in self.now) gain result }
-    {
-        match self {
-            Draft::Small(dir) => Room::in_small(dir),
-            Draft::Big(dir) => Room::in_big(dir, name),
-        }
-    }
-
     /// The room for a name in place of that of the entry at a place. A name that is spelled as before always fits.
     pub fn room_renamed(&self, at: usize, name: &Name) -> Room
         requires { at < length (entries_of (directory_in self.now)) }

@@ -23,7 +23,6 @@ pub mod AdditionLemmas
 pub mod ReplacedLemmas
 pub mod AdditionLawLemmas
 pub mod RewordingLemmas
-pub mod GrownCdirLemmas
 pub mod MovesLemmas
 pub mod MovingLemmas
 pub mod TransferLemmas

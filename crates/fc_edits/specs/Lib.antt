@@ -14,7 +14,6 @@ pub mod Rewording
 pub mod Moving
 pub mod Transfer
 pub mod Copying
-pub mod GrownCdir
 pub mod Growing
 pub mod GrownPlaces
 pub mod GrownAddition

@@ -7,7 +7,6 @@ ghost use Rattle.fc_edits.specs.Copying.{CopyingLaw};
 ghost use Rattle.fc_edits.specs.Deletion.{DeletionLaw};
 ghost use Rattle.fc_edits.specs.Growing.{GrowingLaw};
 ghost use Rattle.fc_edits.specs.GrownAddition.{GrownAdditionLaw};
-ghost use Rattle.fc_edits.specs.GrownCdir.{GrownCdirLaw};
 ghost use Rattle.fc_edits.specs.GrownCopying.{GrownCopyingLaw};
 ghost use Rattle.fc_edits.specs.GrownMoving.{GrownMovingLaw};
 ghost use Rattle.fc_edits.specs.GrownPlaces.{GrownPlacesLaw};
@@ -64,11 +63,6 @@ pub fn addition()
 /// `set` and `mark` are edits, on new maps and old ones.
 pub fn rewording()
     ensures { RewordingLaw }
-{}
-
-/// After `cdir` in a directory that grows the parts agree.
-pub fn cdir_grown()
-    ensures { GrownCdirLaw }
 {}
 
 /// `rename` is an edit if no file is copied, on new maps and old ones: an object moves with all that is below it.

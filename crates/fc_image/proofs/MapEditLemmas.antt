@@ -1,10 +1,10 @@
 -- Discs with new maps of which directories are edited.
 use Rattle.std.proofs.Common.{◌≡◌, ◌<◌, ◌≤◌, ◌⊎◌, inl, inr, ℕ, zero, suc, ◌-◌, ◌*◌, ◌/◌, Bool, true, false, cond, List, [], ◌∷◌, ◌++◌, length, map, drop, refl, sym, ap, subst, ◌∙◌, arith, Some, None, eq-eqb, length-append}
-use Rattle.std.specs.Prelude.{Result, Ok, Contains, IsPermutation, nat_le, nat_lt, ◌==◌, ◌||◌, ◌&&◌, not, filter}
+use Rattle.std.specs.Prelude.{Result, Ok, Contains, IsPermutation, nat_le, nat_lt, ◌==◌, ◌||◌, ◌&&◌, not}
 use Rattle.std.specs.List.{list_any}
 use Rattle.std.specs.Int.{div_ceil}
 use Rattle.std.proofs.lemmas.List.{length-map}
-use Rattle.std.proofs.lemmas.List.Sorted.{IsPermutation-refl, IsPermutation-trans, IsPermutation-sym, IsPermutation-cons, IsPermutation-middle, length_permutation, list_any-IsPermutation, IsPermutation-append_left, IsPermutation-map, IsPermutation-filter_both, Contains-permutation}
+use Rattle.std.proofs.lemmas.List.Sorted.{IsPermutation-refl, IsPermutation-trans, IsPermutation-sym, IsPermutation-cons, IsPermutation-middle, length_permutation, list_any-IsPermutation, Contains-permutation}
 use Rattle.fc_names.specs.Names.{Path}
 use Rattle.fc_record.specs.declared.DiscRecord.{DiscRecord}
 use Rattle.fc_record.specs.declared.Geometry.{Geometry}
@@ -22,7 +22,7 @@ use Rattle.fc_image.specs.Objects.{first_object, objects_of, is_movable, is_owne
 use Rattle.fc_image.specs.Opening.{Opened, reserved_in, agreement, difference}
 use Rattle.fc_image.specs.Stays.{IsNewKind, OpensAs, HasSectorsOf}
 use Rattle.fc_image.specs.Edits.{IsAt, AreChildren, IsListing, Apart, IsRoot, StayListed}
-use Rattle.fc_image.specs.Order.{listed, held, AreListings, directories}
+use Rattle.fc_image.specs.Order.{listed, held, AreListings}
 use Rattle.fc_image.specs.TreeEdits.{IsObjectEdit, IsMove}
 use Rattle.fc_image.specs.Commanded.{IsKept, IsMoved, moved_path, moved_name}
 use Rattle.fc_image.specs.EditedWalk.{IsImageEdit, IsWalkedAgain, moved_object}
@@ -189,19 +189,6 @@ file_stays m m' image image' o geometry same =
 -- an object that isn't a directory
 abbrev pub is_file : Object → Bool
 is_file o = not (is_directory_object o)
-
--- all objects are the listed directories and the files
-pub all_listed : (kind : Kind) (r own : DiscRecord) (image image' : List ℕ) (v : Opened) (m m' : Map) (root : Object) → IsMapEdit kind r own image image' v m m' root
-    → (l : Listing) (others : List Listing) → IsPermutation v.listings (l ∷ others)
-    → IsPermutation (root ∷ held v.listings) (l.object ∷ (listed others ++ filter is_file (held v.listings)))
-all_listed kind r own image image' v m m' root e l others found =
-    let old = (known kind r image v m root e.new_kind e.opens e.layout e.first).1 in
-    let files = filter is_file (held v.listings) in
-    IsPermutation-trans (root ∷ held v.listings) ((root ∷ directories (held v.listings)) ++ files) (l.object ∷ (listed others ++ files))
-    (IsPermutation-cons root (held v.listings) (directories (held v.listings) ++ files) (IsPermutation-filter_both is_directory_object is_file (λ p. refl) (held v.listings)))
-    (IsPermutation-append_left files (root ∷ directories (held v.listings)) (l.object ∷ listed others)
-    (IsPermutation-trans (root ∷ directories (held v.listings)) (listed v.listings) (l.object ∷ listed others)
-    (IsPermutation-sym (listed v.listings) (root ∷ directories (held v.listings)) old.all.all) (IsPermutation-map (λ (k : Listing). k.object) v.listings (l ∷ others) found)))
 
 -- ---- any edit
 

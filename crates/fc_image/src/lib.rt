@@ -19,11 +19,7 @@ ghost use Rattle.fc_image.specs.EditedWalk.{EditedApartLaw, EditedWalkLaw, Entri
 ghost use Rattle.fc_image.specs.EditedImage.{EditedImageLaw};
 ghost use Rattle.fc_image.specs.MapEdits.{MapEditLaw, PlacesLaw};
 ghost use Rattle.fc_image.specs.OldEdits.{OldPlacesLaw, OldMapEditLaw};
-ghost use Rattle.fc_image.specs.Written.{WrittenLaw};
-ghost use Rattle.fc_image.specs.InPlace.{InPlaceLaw};
-ghost use Rattle.fc_image.specs.Renames.{RenameLaw};
 ghost use Rattle.fc_image.specs.Rewords.{RewordLaw};
-ghost use Rattle.fc_image.specs.Answered.{AnsweredLaw};
 ghost use Rattle.fc_image.specs.Moves.{BootApartLaw, BootStaysLaw, CarriedLaw, CarryLaw, CommitLaw, HoleStepLaw, KeepsObjectsLaw, LooksLaw, MergeLaw, MoveLaw, SameMapLaw, ThenLaw, WholeLaw, WithMapLaw, ZoneFitsLaw};
 ghost use Rattle.fc_image.specs.OldMaps.{OldMapLaw};
 ghost use Rattle.fc_image.specs.Stays.{FreeLaw, HoleWriteLaw, HolesLaw, StoredLaw};
@@ -283,29 +279,9 @@ pub fn old_map_edits()
     ensures { OldMapEditLaw }
 {}
 
-/// Which objects keep their bytes after a write to other sectors.
-pub fn written()
-    ensures { WrittenLaw }
-{}
-
-/// Edits of one directory that is written to its old place.
-pub fn in_place()
-    ensures { InPlaceLaw }
-{}
-
-/// Renames of files and of directories with their contents.
-pub fn renames()
-    ensures { RenameLaw }
-{}
-
 /// New words and attributes for one object.
 pub fn rewords()
     ensures { RewordLaw }
-{}
-
-/// After each command that changes a new map the image opens, with the tree of the model.
-pub fn answered()
-    ensures { AnsweredLaw }
 {}
 
 /// What an opened image with an old map says of its holes and objects.

@@ -1,5 +1,4 @@
 pub mod OpenedLemmas
-pub mod StepsLemmas
 pub mod KeptLemmas
 pub mod PutLemmas
 pub mod UnwrittenLemmas

@@ -1,9 +1,9 @@
 -- What a writer puts into sectors, step by step and in the end, and what an edit needs of it.
-use Rattle.std.specs.Prelude.{◌≡◌, ◌<◌, ◌≤◌, ◌⊎◌, ◌*◌, ℕ, true, false, List, [], ◌∷◌, length, get_or, Contains, Some}
+use Rattle.std.specs.Prelude.{◌≡◌, ◌<◌, ◌≤◌, ◌⊎◌, ◌*◌, ℕ, true, false, List, length, get_or, Contains, Some}
 use Rattle.std.specs.List.{flat_map}
 use Rattle.fc_device.specs.Sectors.{sector_at}
 use Rattle.fc_dirs.specs.Directory.{Directory}
-use Rattle.fc_image.specs.Layout.{Layout, bytes_in, dir_form, is_among, is_apart, map_place, sector_bytes}
+use Rattle.fc_image.specs.Layout.{Layout, bytes_in, dir_form, is_among, map_place, sector_bytes}
 use Rattle.fc_image.specs.Walk.{Listing, Object, object_bytes, object_size}
 use Rattle.fc_image.specs.effects.Steady.{AreWritten}
 use Rattle.fc_objects.specs.Written.{HasParts, part_at}
@@ -19,29 +19,6 @@ use Rattle.fc_outcomes.specs.Written.{IsEditWritten, WritesForEdit}
 pub record Put : Type 0 where
   pub sectors : List ℕ
   pub bytes : List ℕ
-
--- One write: the sectors begin with these bytes, and no other sector has changed.
-pub record IsPut (size : ℕ) (p : Put) (image next : List ℕ) : Type 0 where
-  pub length_stays : length next ≡ length image
-  pub there : bytes_in size next p.sectors (length p.bytes) ≡ p.bytes
-  pub others : (s : ℕ) → is_among p.sectors s ≡ false → sector_at size next s ≡ sector_at size image s
-
--- writes one after another
-abbrev pub ArePut : ℕ → List Put → List ℕ → List ℕ → Type 0
-ArePut size [] image image' = image' ≡ image
-ArePut size (p ∷ ps) image image' = (next : List ℕ) × IsPut size p image next × ArePut size ps next image'
-
--- each is apart from those after it
-abbrev pub ApartPuts : List Put → Type 0
-ApartPuts [] = Unit {0}
-ApartPuts (p ∷ ps) = ((q : Put) → Contains ps q → is_apart q.sectors p.sectors ≡ true) × ApartPuts ps
-
--- What is written to sectors that are apart is there after the last write, and no other sector has changed.
-pub record StepsLaw : Type 0 where
-  pub length_stays : (size : ℕ) (ps : List Put) (image image' : List ℕ) → ArePut size ps image image' → length image' ≡ length image
-  pub others : (size : ℕ) (ps : List Put) (image image' : List ℕ) → ArePut size ps image image' → (s : ℕ) → ((p : Put) → Contains ps p → is_among p.sectors s ≡ false)
-      → sector_at size image' s ≡ sector_at size image s
-  pub there : (size : ℕ) (ps : List Put) (image image' : List ℕ) → ArePut size ps image image' → ApartPuts ps → (p : Put) → Contains ps p → bytes_in size image' p.sectors (length p.bytes) ≡ p.bytes
 
 -- ---- in the end
 

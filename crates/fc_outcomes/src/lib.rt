@@ -11,7 +11,7 @@ ghost use Rattle.fc_outcomes.specs.GrownMoving.{GrownMovingLaw};
 ghost use Rattle.fc_outcomes.specs.Moving.{MovingLaw};
 ghost use Rattle.fc_outcomes.specs.NewImage.{NewImageLaw};
 ghost use Rattle.fc_outcomes.specs.OldImage.{OldImageLaw};
-ghost use Rattle.fc_outcomes.specs.Puts.{PutsLaw, StepsLaw};
+ghost use Rattle.fc_outcomes.specs.Puts.{PutsLaw};
 ghost use Rattle.fc_outcomes.specs.Rewording.{RewordingLaw};
 ghost use Rattle.fc_outcomes.specs.Steady.{SteadyLaw};
 
@@ -25,11 +25,6 @@ pub fn done()
 /// What is written for an edit is nothing that stays.
 pub fn kept()
     ensures { KeptLaw }
-{}
-
-/// What is written step by step is there in the end.
-pub fn steps()
-    ensures { StepsLaw }
 {}
 
 /// What a writer leaves is what an edit needs.

@@ -1,6 +1,6 @@
 -- What is found among the nodes tells of the tree of the image: the refusal of a path, and the object of a node.
 use Rattle.std.proofs.Common.{◌≡◌, ℕ, Bool, true, false, List, [], ◌∷◌, ◌++◌, refl, sym, ap, subst, ◌∙◌, Option, Some, None, nat_cmp, if◌then◌else◌}
-use Rattle.std.specs.Prelude.{Contains, Result, Ok, Err}
+use Rattle.std.specs.Prelude.{Contains, Ok, Err}
 use Rattle.std.specs.Option.{option_map_or}
 use Rattle.std.specs.FinMap.{FinMap, get}
 use Rattle.fc_names.specs.declared.refusal.Refusal.{Refusal}
@@ -8,7 +8,6 @@ use Rattle.fc_names.specs.declared.refusal.Refusal.TheVariants as refusals
 use Rattle.fc_names.specs.Names.{Path, is_same_path}
 use Rattle.fc_model.specs.Tree.{Node as ModelNode, Body as ModelBody, is_directory_body}
 use Rattle.fc_model.specs.Answer.{found, found_below, node_or_absent, path_refusal, refusal_of}
-use Rattle.fc_dirs.specs.declared.DirFault.{DirFault}
 use Rattle.fc_dirs.specs.declared.DirFault.TheVariants as dirs
 use Rattle.fc_dirs.specs.Directory.{Directory}
 use Rattle.fc_image.specs.Layout.{Layout}
@@ -24,7 +23,7 @@ use Rattle.fc_tree.specs.Laws.{AreAlike}
 use Rattle.fc_image.specs.Sound.{AreSound}
 use Rattle.fc_tree.proofs.WalkedLemmas.{same_some, root, root_path, directories_listed, listing_found}
 use Rattle.fc_tree.proofs.MemberLemmas.{from_map, in_filter}
-use Rattle.fc_tree.proofs.SoundLemmas.{root_object, listing_of}
+use Rattle.fc_tree.proofs.SoundLemmas.{root_object}
 use Rattle.fc_tree.proofs.TreeLemmas.{node_of_object}
 use Rattle.fc_tree.proofs.FindLemmas.{find_law, below_some, below_none, directory_at, stepped, nothing_there}
 use Rattle.std.proofs.lemmas.Bool.{false_from_ne_true as unless}
@@ -81,20 +80,7 @@ pub body_content : (dir : Directory) → content_in (body_in dir) ≡ Ok dir
 body_content (Directory.Small dir) = refl
 body_content (Directory.Big dir) = refl
 
-same_ok : (a b : Directory) → (let r : Result Directory DirFault = Ok a in r) ≡ Ok b → a ≡ b
-same_ok a b e = cc
-
 module _ (layout : Layout) (listings : List Listing) (sound : AreSound layout listings) (o : Object) (among : Contains (objects_of listings) o) where
-  -- A node's body that is a directory is what the object's listing says.
-  pub listing_of_body : (dir : Directory) → body_of (listing_at listings o.path) ≡ body_in dir → (l : Listing) × Contains listings l × (l.object ≡ o) × (l.content ≡ dir)
-  listing_of_body dir h = by (listing_at listings o.path) refl h
-    where
-      by : (r : Option Listing) → listing_at listings o.path ≡ r → body_of r ≡ body_in dir → (l : Listing) × Contains listings l × (l.object ≡ o) × (l.content ≡ dir)
-      by None e g = let no : content_in (body_of None) ≡ Ok dir = ap content_in g ∙ body_content dir in absurd (cc)
-      by (Some l) e g =
-          let there = listing_of layout listings sound o l among e in
-          (l, there.0, there.1, same_ok l.content dir (sym (body_content l.content) ∙ ap content_in g ∙ body_content dir))
-
   -- A node's body that is a file is that of a file.
   pub file_of_body : body_of (listing_at listings o.path) ≡ bodies.File → is_directory_object o ≡ false
   file_of_body h = unless (is_directory_object o) (λ dir.

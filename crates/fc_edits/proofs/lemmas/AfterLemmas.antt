@@ -44,9 +44,6 @@ module _ (nodes : Nodes) (layout : Layout) (listings : List Listing) (e : Edit) 
   abbrev third : Nodes
   third = tell (map arriving e.into) second
 
-  abbrev intos : List ℕ
-  intos = map (λ (d : ℕ × Listing). d.0) e.into
-
   nums_are : nums (entering e) ≡ numbers (joining e)
   nums_are =
       let f : ℕ × (ℕ × Object) → ℕ = λ q. q.1.0 in

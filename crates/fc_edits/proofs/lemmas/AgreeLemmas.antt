@@ -138,10 +138,6 @@ module _ (pe : PartsEdit) where
 
   -- ---- what directories hold
 
-  listing_now : (k : Listing) (cs : List Object) → Contains (n_.stay ne) k
-      → ((o : Object) → Contains cs o → (o.path ≡ (e.turn k.object).path ++ o.entry.name ∷ []) × IsAt layout' o) → AreChildren layout' (e.turn k.object).path (map (λ (o : Object). o.entry) cs) cs
-  listing_now k cs at each = children_from layout' (e.turn k.object).path cs each
-
   kid_now : (k : Listing) (p : Object) → Contains (n_.stay ne) k → Contains k.children p → Contains kids p
       → ((e.turn p).path ≡ (e.turn k.object).path ++ (e.turn p).entry.name ∷ []) × IsAt layout' (e.turn p)
   kid_now k p at kid left =

@@ -52,12 +52,6 @@ module _ (nodes : Nodes) (layout : Layout) (listings : List Listing) (c : Moving
   pub dir_in : (a : Amended) → Contains c.dirs a → Contains listings a.was
   dir_in = m_.dir_in nodes layout listings c h ms
 
-  pub l_in : Contains listings c.l
-  l_in = m_.l_in nodes layout listings c h ms
-
-  pub own_in : (d : Listing × Directory) → Contains c.own d → Contains listings d.0
-  own_in = m_.own_in nodes layout listings c h ms
-
   abbrev pub home : (a : Amended) × Contains c.dirs a × Contains a.was.children c.o
   home = m_.home nodes layout listings c h ms
 
@@ -66,9 +60,6 @@ module _ (nodes : Nodes) (layout : Layout) (listings : List Listing) (c : Moving
 
   pub among : Contains (objects_of listings) c.o
   among = m_.among nodes layout listings c h ms
-
-  pub lower : c.number ≡ 0 → ⊥
-  lower = m_.lower nodes layout listings c h ms
 
   pub some : 0 < length c.o.path
   some = m_.some nodes layout listings c h ms

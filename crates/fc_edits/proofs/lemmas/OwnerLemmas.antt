@@ -22,7 +22,7 @@ use Rattle.fc_laws.proofs.lemmas.nodes.FitsLemmas.{fits, kid_lower, not_pushed}
 use Rattle.fc_laws.proofs.lemmas.nodes.ListLemmas.{cut_at, in_first}
 use Rattle.fc_laws.proofs.lemmas.nodes.OwnerLemmas.{KeepsOwner, among-append, among_one, among_permuted, found_objects, keeps_owner, owner_known, owners_among, owners_edited}
 use Rattle.fc_edits.specs.NodesEdit.{NodesEdit, NodesLaw}
-use Rattle.fc_edits.specs.Edit.{Amended, AreEdited, Edit, IsEdit, TopStays, TopTurns, joined_in, joining, leaving, left_in, listings_after, now, objects, owners_in, owners_joined, owners_left, still, turned}
+use Rattle.fc_edits.specs.Edit.{Amended, Edit, IsEdit, TopStays, TopTurns, joined_in, joining, leaving, left_in, listings_after, now, objects, owners_in, owners_joined, owners_left, still, turned}
 use Rattle.fc_edits.proofs.lemmas.NumberLemmas as n_
 use Rattle.fc_edits.proofs.lemmas.PathNumberLemmas as paths
 use Rattle.fc_edits.proofs.lemmas.FollowLemmas.{held_now, nodes_follow}
@@ -67,9 +67,6 @@ module _ (ne : NodesEdit) (layout' : Layout) where
 
   abbrev pub is : IsEdit nodes listings e
   is = ne.is_edit
-
-  abbrev pub ed : AreEdited nodes nodes' e
-  ed = ne.nodes_edited
 
   abbrev stay : List Listing
   stay = n_.stay ne

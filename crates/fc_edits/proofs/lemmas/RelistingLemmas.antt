@@ -3,14 +3,12 @@ use Rattle.std.proofs.Common.{ℕ, List, ◌++◌, map, sym, ap, ap₂, subst, �
 use Rattle.std.specs.Prelude.{IsPermutation}
 use Rattle.std.proofs.lemmas.List.{append_assoc}
 use Rattle.std.proofs.lemmas.List.Sorted.{IsPermutation-append_left, IsPermutation-map, IsPermutation-refl, IsPermutation-trans}
-use Rattle.fc_image.specs.Layout.{Layout}
 use Rattle.fc_image.specs.Walk.{Object, Listing}
 use Rattle.fc_image.specs.Order.{held, listed}
 use Rattle.fc_image.specs.EditedWalk.{IsRelisting}
 use Rattle.fc_laws.specs.nodes.Edits.{Nodes}
-use Rattle.fc_laws.specs.nodes.Laws.{IsHeld}
 use Rattle.fc_edits.specs.NodesEdit.{NodesEdit}
-use Rattle.fc_edits.specs.Edit.{Amended, AreEdited, Edit, IsEdit, joined_in, left_in, listings_after, now, objects, still, turned}
+use Rattle.fc_edits.specs.Edit.{Amended, Edit, IsEdit, joined_in, left_in, listings_after, now, objects, still, turned}
 use Rattle.fc_edits.proofs.lemmas.ListLemmas.{map_map}
 use Rattle.fc_edits.proofs.lemmas.NumberLemmas as n_
 use Rattle.fc_edits.proofs.lemmas.FollowLemmas.{held_stay_now, no_children}
@@ -22,26 +20,14 @@ module _ (ne : NodesEdit) where
   abbrev pub nodes : Nodes
   nodes = ne.nodes
 
-  abbrev pub nodes' : Nodes
-  nodes' = ne.nodes'
-
-  abbrev pub layout : Layout
-  layout = ne.layout
-
   abbrev pub listings : List Listing
   listings = ne.listings
 
   abbrev pub e : Edit
   e = ne.edit
 
-  abbrev pub h : IsHeld nodes layout listings
-  h = ne.held
-
   abbrev pub is : IsEdit nodes listings e
   is = ne.is_edit
-
-  abbrev pub ed : AreEdited nodes nodes' e
-  ed = ne.nodes_edited
 
   abbrev pub kept : List Object
   kept = objects e.moving ++ n_.kids ne

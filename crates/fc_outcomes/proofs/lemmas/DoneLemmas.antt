@@ -19,7 +19,6 @@ use Rattle.fc_image.specs.MapEdits.{OpensEdited}
 use Rattle.fc_image.specs.Commanded.{IsKept, IsMoved}
 use Rattle.fc_image.proofs.FreeLemmas.{object_same}
 use Rattle.fc_image.proofs.TreeLemmas.{tree_edit_law}
-use Rattle.fc_tree.specs.declared.node.Node.{Node}
 use Rattle.fc_tree.proofs.MemberLemmas.{contains_here, from_map}
 use Rattle.fc_tree.proofs.WalkedLemmas.{listed_directory, root_path}
 use Rattle.fc_laws.specs.nodes.Edits.{Nodes}
@@ -61,9 +60,6 @@ module _ (mem : PartsEdit) (image image' : List ℕ) (opens : OpensAs image mem.
 
   abbrev pub owners' : List Owner
   owners' = mem.owners'
-
-  abbrev pub root : Node
-  root = mem.root
 
   abbrev pub listings : List Listing
   listings = mem.listings

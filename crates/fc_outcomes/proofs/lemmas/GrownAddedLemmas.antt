@@ -13,7 +13,6 @@ use Rattle.fc_dirs.specs.Entries.{entry_named, has_name, with_entry}
 use Rattle.fc_image.specs.Layout.{Layout, bytes_in, dir_form}
 use Rattle.fc_image.specs.Walk.{Listing, Object, is_directory_object, object_bytes, object_size}
 use Rattle.fc_image.specs.Commanded.{IsKept}
-use Rattle.fc_image.specs.Opening.{Opened}
 use Rattle.fc_image.specs.effects.Steady.{replaced_entry, with_made}
 use Rattle.fc_image.proofs.LookupLemmas.{lookup_law}
 use Rattle.fc_tree.proofs.MemberLemmas.{contains_here, from_map, no_element}
@@ -25,14 +24,12 @@ use Rattle.fc_changes.proofs.ReadsLemmas.{LiesIn, lies_in, same_path_of}
 use Rattle.fc_laws.specs.nodes.Laws.{IsHeld}
 use Rattle.fc_edits.specs.Addition.{amended, edit, leaves}
 use Rattle.fc_edits.specs.Edit.{Amended, Edit, joining, leaving, numbers, objects}
-use Rattle.fc_edits.specs.Growing.{EditGrowing, Growing, Holder, Holds, IsHeldBy, amended_by, amended_first, at_place, grown_by, holding, told}
+use Rattle.fc_edits.specs.Growing.{EditGrowing, Growing, Holder, Holds, IsHeldBy, amended_by, amended_first, grown_by, holding, told}
 use Rattle.fc_edits.specs.GrownAddition.{NewGrownAddition, grown_edit}
 use Rattle.fc_edits.specs.GrownPlaces.{NewGrowing}
-use Rattle.fc_edits.specs.NodesEdit.{NodesEdit}
 use Rattle.fc_edits.specs.PartsEdit.{NewPartsEdit}
 use Rattle.fc_edits.specs.Placing.{takings_of}
 use Rattle.fc_edits.proofs.lemmas.AdditionLemmas as memory
-use Rattle.fc_edits.proofs.lemmas.AgreeLemmas as ag
 use Rattle.fc_edits.proofs.lemmas.AroundLemmas as ar
 use Rattle.fc_edits.proofs.lemmas.GrowingLawLemmas as law
 use Rattle.fc_edits.proofs.lemmas.GrowingLemmas.{its_path, its_turn, o_directory}
@@ -68,20 +65,11 @@ module _ (x : NewGrownAddition) (c : Command) (path : Path) (puts : List Put) (s
   abbrev o : Object
   o = x.c.o
 
-  abbrev pub anew : Object
-  anew = at_place x.growing x.growing.o
-
   abbrev pub h : IsHeld x.nodes (Layout.New x.m) x.listings
   h = place.held ng
 
-  abbrev pub ne : NodesEdit
-  ne = ag.ne (na.held_edit parts)
-
   pub form : dir_form (Layout.New x.m') ≡ dir_form (Layout.New x.m)
   form = (na.walk_fits parts).form
-
-  abbrev v : Opened
-  v = record { kind = x.kind; layout = Layout.New x.m; listings = x.listings }
 
   -- ---- the puts
 

@@ -216,9 +216,6 @@ module _ (x : NewGrownMoving) (from to : Path) (puts : List Put) (image image' :
 
   -- ---- directories that say something else
 
-  was_in : (a : Amended) → Contains e'.amended a → Contains x.listings a.was
-  was_in a at = n_.stay_in ne a.was (n_.was_in ne a at)
-
   steady_so : (a : Amended) → Contains e'.amended a → entries_of a.content ≡ entries_after v w command a.was → DirectorySteady image image' v w command a.was (now e' a)
   steady_so a at entries = record {
     entries = entries;

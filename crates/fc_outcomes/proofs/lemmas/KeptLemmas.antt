@@ -4,7 +4,6 @@ use Rattle.std.specs.Prelude.{Contains}
 use Rattle.std.proofs.lemmas.List.Elements.{Contains-append_right}
 use Rattle.fc_record.specs.declared.Kind.{Kind}
 use Rattle.fc_newmap.proofs.PlaceLemmas.{in_front}
-use Rattle.fc_alloc.specs.declared.owner.Owner.{Owner}
 use Rattle.fc_image.specs.Layout.{Layout, is_among, is_apart, map_place, sector_bytes}
 use Rattle.fc_image.specs.Walk.{Listing, Object}
 use Rattle.fc_image.specs.Objects.{objects_of}
@@ -51,15 +50,6 @@ module _ (mem : PartsEdit) (image image' written : List ℕ) (ww : WritesForEdit
 
   abbrev pub nodes : Nodes
   nodes = mem.nodes
-
-  abbrev pub nodes' : Nodes
-  nodes' = mem.nodes'
-
-  abbrev pub owners : List Owner
-  owners = mem.owners
-
-  abbrev pub owners' : List Owner
-  owners' = mem.owners'
 
   abbrev pub root : Node
   root = mem.root
