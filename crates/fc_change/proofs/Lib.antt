@@ -3,7 +3,7 @@ mod TurningLemmas
 mod DraftLemmas
 mod PieceLemmas
 pub mod PlanLemmas
-mod LeadsLemmas
+pub mod LeadsLemmas
 mod RoomLemmas
 mod ShortageLemmas
 mod GrownLemmas

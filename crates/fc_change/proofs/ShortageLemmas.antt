@@ -1,7 +1,8 @@
 -- The space that an object and a directory need, and how a command is refused for want of it.
 use Rattle.std.proofs.Common.{◌≡◌, ◌<◌, ◌≤◌, ◌+◌, ◌*◌, ℕ, Bool, true, false, cond, List, [], ◌∷◌, length, Option, Some, None, refl, sym, ap, ap₂, subst, ◌∙◌, ◌^◌, arith, inl, inr}
-use Rattle.std.specs.Prelude.{◌&&◌, nat_lt, not}
-use Rattle.std.proofs.lemmas.Bool.{lt-ltb, ltb-false}
+use Rattle.std.specs.Prelude.{◌&&◌, nat_le, nat_lt, not, Ok}
+use Rattle.std.proofs.lemmas.Bool.{le-ltb, leb-false, leb-true, lt-ltb, ltb-false}
+use Rattle.fc_names.specs.declared.refusal.Refusal.{Refusal}
 use Rattle.fc_names.specs.declared.refusal.Refusal.TheVariants as refusals
 use Rattle.fc_model.specs.Answer.{first_of, when}
 use Rattle.fc_newmap.specs.Map.{Map, bits_in, hole_runs}
@@ -16,7 +17,7 @@ use Rattle.fc_plan.proofs.Units.{units_some}
 use Rattle.fc_change.specs.declared.placing.growth.Growing.{Growing}
 use Rattle.fc_change.specs.declared.placing.growth.Growing.TheVariants as growings
 use Rattle.fc_change.specs.Planning.{HasSpace, HasSpaceFor, HasSpaceIf, IsLonger, IsObjectTaken, alone_in, len_moved}
-use Rattle.fc_change.specs.Shortage.{bits_for, ids_for, short_of}
+use Rattle.fc_change.specs.Shortage.{AnswersBits, bits_for, ids_for, short_of}
 use Rattle.fc_record.specs.declared.Geometry.{Geometry}
 use Rattle.fc_record.specs.Record.{id_limit}
 use Rattle.fc_newmap.specs.NewMap.{IsOfRecord}
@@ -40,6 +41,16 @@ min_few g of =
 
 pub id_few : (g : Geometry) (id : ℕ) → IsOfRecord g → id < id_limit g → id < 2 ^ 19
 id_few g id of low = let few = ids_few g of in let least : id_limit g ≤ 2 ^ g.idlen = omega arith in omega (arith, few, least, low)
+
+-- ---- nothing is needed
+
+none_lacks : (n : ℕ) → nat_lt n 0 ≡ false
+none_lacks n = le-ltb n 0 (omega arith)
+
+pub short_of_none : (m : Map) (bytes : ℕ) (alone : Bool) (len : ℕ) → bytes ≡ 0 → len ≡ 0 → short_of m bytes alone len ≡ None
+short_of_none m bytes alone len b l =
+    ap₂ (λ (x y : ℕ). short_of m x alone y) b l
+    ∙ ap₂ (λ (x y : Bool). first_of (when x refusals.IdsFull ∷ when y refusals.DiscFull ∷ [])) (none_lacks (length (new_ids m))) (none_lacks (bits_in (hole_runs m)))
 
 -- ---- enough
 
@@ -126,3 +137,13 @@ pub space_after : (m : Map) (is : IsNewMap m) (bytes : ℕ) (x : Growing) → sh
 space_after m is bytes growings.Nothing none longer old left all plan p = tt
 space_after m is bytes (growings.There q) none longer old left all plan p = tt
 space_after m is bytes (growings.Moves growth address alone) none longer old left all plan p = growth_space m is bytes alone growth.len none old left all longer plan p
+
+-- ---- what the holes have
+
+pub bits_suffice : (m : Map) (refusal : Option Refusal) (bits : ℕ) → AnswersBits m refusal (Ok bits) → nat_le bits (bits_in (hole_runs m)) ≡ true → refusal ≡ None
+bits_suffice m refusal bits is has =
+    is ∙ ap (λ (b : Bool). first_of (when b refusals.DiscFull ∷ [])) (le-ltb (bits_in (hole_runs m)) bits (leb-true bits (bits_in (hole_runs m)) has))
+
+pub bits_lack : (m : Map) (refusal : Option Refusal) (bits : ℕ) → AnswersBits m refusal (Ok bits) → nat_le bits (bits_in (hole_runs m)) ≡ false → refusal ≡ Some refusals.DiscFull
+bits_lack m refusal bits is lacks =
+    is ∙ ap (λ (b : Bool). first_of (when b refusals.DiscFull ∷ [])) (lt-ltb (bits_in (hole_runs m)) bits (leb-false bits (bits_in (hole_runs m)) lacks))

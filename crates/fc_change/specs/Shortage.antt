@@ -86,6 +86,11 @@ short_of m bytes alone len =
     first_of (when (nat_lt (length (new_ids m)) (ids_for object alone dir)) refusals.IdsFull
     ∷ when (nat_lt (bits_in (hole_runs m)) (bits_for m.geometry object dir)) refusals.DiscFull ∷ [])
 
+-- The identifiers are enough, and the holes must have these bits together; or it is refused.
+abbrev pub AnswersBits : Map → Option Refusal → Result ℕ Refusal → Type 0
+AnswersBits m refusal (Ok bits) = refusal ≡ first_of (when (nat_lt (bits_in (hole_runs m)) bits) refusals.DiscFull ∷ [])
+AnswersBits m refusal (Err r) = refusal ≡ Some r
+
 abbrev pub short_new : Map → Parts → Wants → Option Refusal
 short_new m h w = short_of m (bytes_left m h.owners w) (is_grown_alone h w.grows) (grown_bytes m h w.grows)
 

@@ -25,7 +25,7 @@ pub use held::Held;
 pub use job::{FileWords, Growth, Job, ObjectWords, Wants};
 pub use needs::wants;
 pub use owner::{entry_owner, object_bytes};
-pub use pieces::prepare;
+pub use pieces::{piece_of, place_of_node, prepare};
 pub use placing::{
     address_for, bytes_left, copied_from, extents_in, has_ids, object_place, place, placing_of,
     share_for, shared_id,

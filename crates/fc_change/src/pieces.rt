@@ -53,8 +53,8 @@ pub fn place_at(
     }
 }
 
-// The bytes of a draft, for some sectors.
-fn piece_of(alloc: Global, draft: &Draft, place: Vec<Extent>) -> Result<Piece, NoMemory>
+/// The bytes of a draft, for some sectors.
+pub fn piece_of(alloc: Global, draft: &Draft, place: Vec<Extent>) -> Result<Piece, NoMemory>
     ensures drafted { IfOk result (IsDrafted draft.now) }
     ensures place { IfOk result (λ piece. piece.place.items ≡ place.items) }
 {

@@ -6,14 +6,7 @@ use Rattle.std.proofs.lemmas.Bool.{and_from, eq-eqb}
 use Rattle.std.proofs.lemmas.List.Elements.{All-contains, All-from_recursion, Contains-append_cases, Contains-get_or}
 use Rattle.fc_record.specs.declared.Geometry.{Geometry}
 use Rattle.fc_record.specs.Record.{id_limit}
-use Rattle.fc_zone.specs.declared.RunKind.{RunKind}
-use Rattle.fc_zone.specs.declared.RunKind.TheVariants.{Hole, Id}
-use Rattle.fc_newmap.specs.Map.{Map, ZoneRun, all_runs, has_id, hole_runs, is_used}
-use Rattle.fc_model.specs.Command.{Command}
-use Rattle.fc_image.specs.Opening.{Opened}
-use Rattle.fc_image.specs.effects.Steady.{goes_back, has_id_that, runs_that}
-use Rattle.fc_plan.specs.Giving.{is_one_of}
-use Rattle.fc_plan.proofs.InOrder.{any_there}
+use Rattle.fc_newmap.specs.Map.{Map, ZoneRun, hole_runs, is_used}
 use Rattle.fc_newmap.specs.NewMap.{IsNewMap}
 use Rattle.fc_image.specs.effects.Placed.{IsFront, IsPlan, holes_left, left_behind, stands_at}
 use Rattle.fc_image.specs.effects.Sharing.{new_ids}
@@ -23,7 +16,7 @@ use Rattle.fc_plan.specs.Parts.{fronts}
 use Rattle.fc_plan.specs.Plan.{AreInOrder, EndsBefore}
 use Rattle.fc_plan.specs.declared.plan.Plan.{Plan}
 use Rattle.fc_plan.proofs.MapLemmas.{count_at, holes_apart}
-use Rattle.fc_plan.proofs.Composed.{found_some, same_filter}
+use Rattle.fc_plan.proofs.Composed.{found_some}
 use Rattle.fc_plan.proofs.Left.{count_at-positive, found, rest_of, same_hole}
 use Rattle.fc_plan.proofs.Order.{map_holes-free, same_place}
 use Rattle.fc_plan.proofs.Plans.{cut_of_plan}
@@ -151,14 +144,3 @@ two_plans m first second object dir rest is one two ids at =
           ];
       ids = λ same. (let less = rise 0 (suc at.0) dir.id (omega arith) (let low = at.1 in omega arith) in omega (arith, at.2));
     }
-
--- ---- what goes back
-
-pub given_back : (m : Map) (v w : Opened) (c : Command) (gone : List ℕ) → ((id : ℕ) → is_used m id ≡ true → is_one_of gone id ≡ goes_back v w c id) → runs_that (is_one_of gone) m ≡ runs_that (goes_back v w c) m
-given_back m v w c gone same =
-    same_filter (λ p. has_id_that (is_one_of gone) p.1.kind) (λ p. has_id_that (goes_back v w c) p.1.kind) (all_runs m) (λ p at. by p at p.1.kind refl)
-  where
-    by : (p : ZoneRun) → Contains (all_runs m) p → (kind : RunKind) → p.1.kind ≡ kind → has_id_that (is_one_of gone) p.1.kind ≡ has_id_that (goes_back v w c) p.1.kind
-    by p at Hole e = ap (has_id_that (is_one_of gone)) e ∙ sym (ap (has_id_that (goes_back v w c)) e)
-    by p at (Id k) e =
-        ap (has_id_that (is_one_of gone)) e ∙ same k (any_there (λ (q : ZoneRun). has_id k q.1.kind) (all_runs m) p at (ap (has_id k) e ∙ eq-eqb k k refl)) ∙ sym (ap (has_id_that (goes_back v w c)) e)

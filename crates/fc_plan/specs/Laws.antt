@@ -1,5 +1,5 @@
 -- Laws of taking space.
-use Rattle.std.specs.Prelude.{◌⊎◌, All, true, false, ◌<◌, ◌%◌, ◌≡◌, ◌≤◌, ◌^◌, ℕ, ◌+◌, ◌*◌, not, nat_lt, List, [], ◌∷◌, length, Contains, AllPairs, None}
+use Rattle.std.specs.Prelude.{◌⊎◌, All, false, ◌<◌, ◌%◌, ◌≡◌, ◌≤◌, ◌^◌, ℕ, ◌+◌, ◌*◌, not, nat_lt, List, [], ◌∷◌, length, Contains, AllPairs, None}
 use Rattle.std.specs.Option.{option_map_or}
 use Rattle.std.specs.List.Sorted.{IsPermutation}
 use Rattle.fc_record.specs.declared.Geometry.{Geometry}
@@ -12,9 +12,7 @@ use Rattle.fc_image.specs.Opening.{Opened}
 use Rattle.fc_image.specs.effects.Placed.{IsPlan, IsTaken, holes_left}
 use Rattle.fc_image.specs.effects.Sharing.{new_ids, units}
 use Rattle.fc_image.specs.effects.Short.{growth_units, is_alone, moved_growth, object_units, one_if, short}
-use Rattle.fc_image.specs.effects.Steady.{goes_back, runs_that}
 use Rattle.fc_plan.specs.Applied.{CanTakePlan}
-use Rattle.fc_plan.specs.Giving.{is_one_of}
 use Rattle.fc_plan.specs.Parts.{fronts}
 use Rattle.fc_plan.specs.Plan.{AreApart, AreParts}
 use Rattle.fc_plan.specs.declared.plan.Plan.{Plan}
@@ -78,12 +76,6 @@ pub record AreTwo (object dir : Plan) : Type 0 where
 abbrev pub TwoLaw : Type 0
 TwoLaw = (m : Map) (first second : ℕ) (object dir : Plan) (rest : List ℕ) → IsNewMap m → IsPlan m.geometry (hole_runs m) first (fronts object.parts.items)
     → IsPlan m.geometry (holes_left (hole_runs m) (fronts object.parts.items)) second (fronts dir.parts.items) → new_ids m ≡ object.id ∷ rest → Contains rest dir.id → AreTwo object dir
-
--- What `apply` gives back is what a command gives back, if the identifiers `gone` are those of the map's whose space it gives
--- back.
-abbrev pub BackLaw : Type 0
-BackLaw = (m : Map) (v w : Opened) (c : Command) (gone : List ℕ) → ((id : ℕ) → is_used m id ≡ true → is_one_of gone id ≡ goes_back v w c id)
-    → runs_that (is_one_of gone) m ≡ runs_that (goes_back v w c) m
 
 -- the new identifiers that a grown directory needs, when the object has its own
 abbrev pub growth_ids : Opened → Command → ℕ

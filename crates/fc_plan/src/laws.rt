@@ -1,6 +1,6 @@
 // What holds of takings whatever is called.
 
-ghost use Rattle.fc_plan.specs.Laws.{ApartLaw, BackLaw, CanLaw, CutLaw, LeftLaw, NewIdsLaw, NothingLaw, OrderLaw, SecondLaw, ShortLaw, TwoLaw, UnitsLaw};
+ghost use Rattle.fc_plan.specs.Laws.{ApartLaw, CanLaw, CutLaw, LeftLaw, NewIdsLaw, NothingLaw, OrderLaw, SecondLaw, ShortLaw, TwoLaw, UnitsLaw};
 
 /// The order of the parts does not matter.
 pub fn any_order()
@@ -45,11 +45,6 @@ pub fn plans_can_be_taken()
 /// The plans for an object and for a grown directory share neither bits nor an identifier.
 pub fn two_plans()
     ensures { TwoLaw }
-{}
-
-/// What `apply` gives back is what a command has to give back.
-pub fn given_back()
-    ensures { BackLaw }
 {}
 
 /// New identifiers rise, and fit a map's runs.

@@ -15,7 +15,7 @@ pub use applying::apply;
 pub use changing::changed_zones;
 pub use giving::give_back;
 pub use laws::{
-    any_order, apart_parts, cut_plans, given_back, new_ids_rise, nothing_taken, plans_can_be_taken,
+    any_order, apart_parts, cut_plans, new_ids_rise, nothing_taken, plans_can_be_taken,
     plans_exist, same_rest, second_taking, two_plans, whole_units,
 };
 pub use plan::{Part, Plan};

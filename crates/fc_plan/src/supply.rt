@@ -1,6 +1,6 @@
 // The space of a map that is not spoken for, from which the plans of one command are taken one after another.
 
-ghost use Rattle.std.specs.Prelude.{◌≡◌, ◌<◌, ◌+◌, ◌^◌, ◌∷◌, [], map, None, Some, IfOk, IsErrOf, OnErr};
+ghost use Rattle.std.specs.Prelude.{◌≡◌, ◌<◌, ◌+◌, ◌^◌, ◌∷◌, [], map, nat_le, None, Some, IfOk, IsErrOf, OnErr};
 ghost use Rattle.std.specs.Option.{option_map};
 ghost use Rattle.fc_newmap.specs.Map.{bits_in, hole_runs};
 ghost use Rattle.fc_newmap.specs.NewMap.{IsOfRecord};
@@ -14,7 +14,7 @@ ghost use Rattle.fc_plan.specs.declared.supply.PlanError.TheVariants as errors;
 
 use crate::fitting::first_fitting;
 use crate::plan::as_parts;
-use crate::planning::fewest;
+use crate::planning::{fewest, last_needed};
 use crate::{Part, Plan};
 use fc_device::NoMemory;
 use fc_newmap::{NewMap, Walk};
@@ -157,6 +157,16 @@ impl<'a> Supply<'a> {
             holes,
             next: 3,
         })
+    }
+
+    /// Whether all holes together have so many bits.
+    pub fn has_bits(&self, bits: u64) -> bool
+        ensures { result ≡ nat_le bits (bits_in self.now.holes) }
+    {
+        if bits == 0 {
+            return true;
+        }
+        last_needed(&self.holes, bits).is_some()
     }
 
     /// Plans parts for so many bytes, without an identifier: as few holes as can be, no rest shorter than a run may be.

@@ -7,19 +7,20 @@ ghost use Rattle.fc_image.specs.effects.Sharing.{units};
 ghost use Rattle.fc_newmap.specs.Walk.{IsInZone};
 ghost use Rattle.fc_objects.specs.Extents.{sectors_in};
 ghost use Rattle.fc_plan.specs.Parts.{front_at, fronts};
+ghost use Rattle.fc_plan.specs.Supply.{stock_of};
 ghost use Rattle.fc_space.specs.Space.{layout_of};
 ghost use Rattle.fc_change.specs.GrownSpace.{address_moved, place_of_plan};
 ghost use Rattle.fc_change.specs.Held.{parts_of};
 ghost use Rattle.fc_change.specs.Planning.{ArePlanned, HasBits, HasSpace, HasSpaceFor, HasSpaceIf, IsGrownTo, IsGrowthTaken, IsJudged, IsLonger, IsMovedTo, IsNewSpaceOf, IsObjectTaken, IsPlannedAfter, IsPlannedFrom, IsTakenFrom, alone_in, len_moved};
-ghost use Rattle.fc_change.specs.Shortage.{AnswersRefusal, short_of};
+ghost use Rattle.fc_change.specs.Shortage.{AnswersSpace, short_of};
 
 use crate::change::Regrowth;
 use crate::directories::address_after;
 use crate::held::Held;
 use crate::job::Growth;
 use crate::placing::room::{is_alone, room_for};
-use crate::placing::shortage::check_space;
-use crate::spaces::GrownPlace;
+use crate::placing::shortage::bits_needed;
+use crate::spaces::{GrownPlace, SpaceError};
 use fc_device::{Extent, NoMemory};
 use fc_names::Refusal;
 use fc_newmap::NewMap;
@@ -86,13 +87,6 @@ pub fn alone_in(growing: &Growing) -> bool
         Growing::There(_) => true,
         Growing::Nothing => true,
     }
-}
-
-/// Whether the map has the space for an object of so many bytes, and for the directory. Refused exactly as a command is.
-pub fn check(map: &NewMap, bytes: u32, growing: &Growing) -> Result<(), Refusal>
-    ensures { AnswersRefusal result (short_of map.now bytes (alone_in growing.now) (len_moved growing.now)) }
-{
-    check_space(map, bytes, alone_in(growing), len_moved(growing))
 }
 
 // ---- plans
@@ -182,17 +176,37 @@ fn plan_directory(
     }
 }
 
-/// Plans the space of an object of so many bytes, and that of the directory from what the object's left. There is enough of it, so that
-/// only memory may be short. If neither needs any, the map's holes aren't gone over.
+// Plans the space of an object of so many bytes, and that of the directory from what the object's left. There is enough of it, so that
+// only memory may be short.
+fn plan_from(
+    alloc: Global,
+    map: &NewMap,
+    supply: &mut Supply,
+    bytes: u32,
+    growing: &Growing,
+) -> Result<Plans, NoMemory>
+    requires all { supply.old ≡ stock_of map.now }
+    requires longer { IsLonger growing.now }
+    requires enough { short_of map.now bytes (alone_in growing.now) (len_moved growing.now) ≡ None }
+    ensures { IfOk result (ArePlanned map.now bytes growing.now) }
+{
+    map.is_map();
+    let object = plan_object(alloc, supply, bytes)?;
+    let dir = plan_directory(alloc, supply, growing)?;
+    Ok(Plans { object, dir })
+}
+
+/// Plans the space of an object of so many bytes, and that of the directory from what the object's left. Refused exactly as a command
+/// is that needs both. The map's holes are gone over once, and not at all if neither needs any.
 pub fn plan_both(
     alloc: Global,
     map: &NewMap,
     bytes: u32,
     growing: &Growing,
-) -> Result<Plans, NoMemory>
+) -> Result<Plans, SpaceError>
     requires longer { IsLonger growing.now }
-    requires enough { short_of map.now bytes (alone_in growing.now) (len_moved growing.now) ≡ None }
-    ensures { IfOk result (ArePlanned map.now bytes growing.now) }
+    ensures planned { IfOk result (ArePlanned map.now bytes growing.now) }
+    ensures refused { AnswersSpace result (short_of map.now bytes (alone_in growing.now) (len_moved growing.now)) }
 {
     if bytes == 0 && len_moved(growing) == 0 {
         return Ok(Plans {
@@ -200,11 +214,13 @@ pub fn plan_both(
             dir: None,
         });
     }
-    map.is_map();
+    let needed = bits_needed(map, bytes, alone_in(growing), len_moved(growing))?;
     let mut supply = Supply::new(alloc, map)?;
-    let object = plan_object(alloc, &mut supply, bytes)?;
-    let dir = plan_directory(alloc, &mut supply, growing)?;
-    Ok(Plans { object, dir })
+    if !supply.has_bits(needed) {
+        return Err(SpaceError::Refused(Refusal::DiscFull));
+    }
+    let plans = plan_from(alloc, map, &mut supply, bytes, growing)?;
+    Ok(plans)
 }
 
 // ---- where it lies

@@ -15,9 +15,7 @@ ghost use Rattle.fc_change.specs.Shortage.{AnswersSpace, bytes_left, short_new, 
 use crate::held::Held;
 use crate::job::Wants;
 use crate::pieces::{place_at, place_of_node};
-use crate::placing::growth::{
-    Growing, Plans, alone_in, check, extents_in, judge, place_grown, plan_both,
-};
+use crate::placing::growth::{Growing, Plans, alone_in, extents_in, judge, place_grown, plan_both};
 use crate::placing::leavings::gone_at_last;
 use crate::placing::steps::{give_step, root_of, take_step};
 use crate::spaces::{Place, SpaceError, Spaces};
@@ -208,7 +206,7 @@ fn spaces_for(
 
 /// Finds the space that a job wants of a new map, and what goes back. The object's comes first: slack that other files of its directory
 /// leave, else new space. A directory that has to grow does so where it lies, if it has room there, else in new space from what the
-/// object's left. The map's holes are gone over twice.
+/// object's left. The map's holes are gone over once.
 pub fn place_new(
     alloc: Global,
     held: &Held,
@@ -223,7 +221,6 @@ pub fn place_new(
     let share = share_for(alloc, map, held.owners, wants)?;
     let growing = judge(alloc, held, map, wants.grows)?;
     let bytes = bytes_left(&share, wants.bytes);
-    check(map, bytes, &growing)?;
     let plans = plan_both(alloc, map, bytes, &growing)?;
     Ok(spaces_for(alloc, held, map, wants, share, growing, plans)?)
 }

@@ -3,7 +3,7 @@ ghost use Rattle.std.specs.Prelude.{◌≡◌, ◌<◌, ◌≤◌, ◌^◌, leng
 ghost use Rattle.fc_image.specs.effects.Sharing.{new_ids, units};
 ghost use Rattle.fc_image.specs.effects.Short.{one_if};
 ghost use Rattle.fc_newmap.specs.NewMap.{IsOfRecord};
-ghost use Rattle.fc_change.specs.Shortage.{AnswersRefusal, bits_for, ids_for, short_of};
+ghost use Rattle.fc_change.specs.Shortage.{AnswersBits, bits_for, ids_for, short_of};
 
 use fc_names::Refusal;
 use fc_newmap::NewMap;
@@ -66,24 +66,18 @@ pub fn has_ids(map: &NewMap, count: u64) -> bool
     true
 }
 
-/// Whether a map has space for an object of so many bytes, and for a directory that gets `len` new ones and may be alone in
-/// its identifier; none of either is needed for 0. `IdsFull` if too few identifiers are left, else `DiscFull` if the holes
-/// together are too small, exactly as a command is refused that needs both. The map's holes are gone over once.
-pub fn check_space(map: &NewMap, bytes: u32, alone: bool, len: u32) -> Result<(), Refusal>
-    ensures { AnswersRefusal result (short_of map.now bytes alone len) }
+/// The bits that the holes of a map must have together for an object of so many bytes, and for a directory that gets `len` new ones
+/// and may be alone in its identifier; none of either is needed for 0. `IdsFull` if too few identifiers are left.
+pub fn bits_needed(map: &NewMap, bytes: u32, alone: bool, len: u32) -> Result<u64, Refusal>
+    ensures { AnswersBits map.now (short_of map.now bytes alone len) result }
 {
+    map.is_map();
     let g = map.geometry();
     let object = units(g, bytes);
     let dir = units(g, len);
-    if !has_ids(map, ids_for(object, alone, dir)) {
-        return Err(Refusal::IdsFull);
+    if has_ids(map, ids_for(object, alone, dir)) {
+        Ok(bits_for(g, object, dir))
+    } else {
+        Err(Refusal::IdsFull)
     }
-    let needed = bits_for(g, object, dir);
-    if needed == 0 {
-        return Ok(());
-    }
-    if map.free_bits() < needed {
-        return Err(Refusal::DiscFull);
-    }
-    Ok(())
 }

@@ -1,32 +1,15 @@
-use Rattle.std.proofs.Common.{sym, subst, ◌∙◌}
+use Rattle.std.proofs.Common.{◌≡◌, nat_le, true, false, sym, subst, ap, ◌∙◌}
+use Rattle.fc_newmap.specs.Map.{bits_in, hole_runs}
 use Rattle.fc_plan.specs.Supply.{Stock}
-use Rattle.fc_change.specs.Planning.{HasSpace}
-use Rattle.fc_change.proofs.GrownLemmas.{growth_planned, none_planned}
-use Rattle.fc_change.proofs.PlanLemmas.{object_own}
-use Rattle.fc_change.proofs.ShortageLemmas.{object_space, space_after}
+use Rattle.fc_change.proofs.GrownLemmas.{none_planned}
+use Rattle.fc_change.proofs.ShortageLemmas.{bits_lack, bits_suffice, short_of_none}
 use Rattle.fc_change.specs.Planning.{alone_in, len_moved}
+use Rattle.fc_change.specs.Shortage.{short_of}
 use Rattle.fc_change.proofs.placing.growth.plan_both.Goals as goal
 
-pub plan_object-requires : goal.plan_object-requires
-plan_object-requires c = λ some.
-    subst (λ (s : Stock). HasSpace s c.args.bytes) (sym c.in_ok-supply.ensures)
-    (object_space c.args.map.now c.is_map.ensures c.args.bytes (alone_in c.args.growing.now) (len_moved c.args.growing.now) c.requires.enough some)
+pub returns-then-len_moved-eq0-clause-planned : goal.returns-then-len_moved-eq0-clause-planned
+returns-then-len_moved-eq0-clause-planned c = record { object = c.if-bytes-eq0.true; dir = none_planned c.args.map.now c.args.growing.now c.requires.longer (sym c.len_moved.ensures ∙ c.if-len_moved-eq0.true) }
 
-pub plan_directory-requires : goal.plan_directory-requires
-plan_directory-requires c =
-    space_after c.args.map.now c.is_map.ensures c.args.bytes c.args.growing.now c.requires.enough c.requires.longer c.in_ok-supply.supply c.plan_object.new.supply c.in_ok-supply.ensures c.in_ok-object.object
-    c.in_ok-object.ensures
-
-pub returns-then-len_moved-eq0 : goal.returns-then-len_moved-eq0
-returns-then-len_moved-eq0 c = record { object = c.if-bytes-eq0.true; dir = none_planned c.args.map.now c.args.growing.now c.requires.longer (sym c.len_moved.ensures ∙ c.if-len_moved-eq0.true) }
-
-pub returns : goal.returns
-returns c =
-    let m = c.args.map.now in
-    let old = c.in_ok-supply.supply in
-    let left = c.plan_object.new.supply in
-    let all = c.in_ok-supply.ensures in
-    record {
-      object = object_own m c.is_map.ensures old left all c.args.bytes c.in_ok-object.object c.in_ok-object.ensures;
-      dir = growth_planned m c.is_map.ensures old left all c.args.bytes c.in_ok-object.object c.in_ok-object.ensures c.args.growing.now c.in_ok-dir.dir c.in_ok-dir.ensures;
-    }
+pub returns-then-len_moved-eq0-clause-refused : goal.returns-then-len_moved-eq0-clause-refused
+returns-then-len_moved-eq0-clause-refused c =
+    short_of_none c.args.map.now c.args.bytes (alone_in c.args.growing.now) (len_moved c.args.growing.now) c.if-bytes-eq0.true (sym c.len_moved.ensures ∙ c.if-len_moved-eq0.true)

@@ -13,4 +13,4 @@ returns-clause-refused c =
     let w = c.args.wants.now in
     let x = c.in_ok-growing.growing in
     sym (short_same m h w.grows x (bytes_left m h.owners w) c.in_ok-growing.ensures)
-    ∙ ap (λ (n : ℕ). short_of m n (alone_in x) (len_moved x)) (sym (c.bytes_left-bytes.ensures ∙ bytes_are m h.owners w c.in_ok-share.share c.in_ok-share.ensures)) ∙ c.in_ok-check.ensures
+    ∙ ap (λ (n : ℕ). short_of m n (alone_in x) (len_moved x)) (sym (c.bytes_left-bytes.ensures ∙ bytes_are m h.owners w c.in_ok-share.share c.in_ok-share.ensures)) ∙ c.in_ok-plans.ensures.refused
