@@ -26,7 +26,7 @@ use Rattle.fc_tree.proofs.WalkedLemmas.{place_of}
 use Rattle.fc_oldvolume.specs.declared.compacting.moves.Moves.{Moves}
 use Rattle.fc_oldlaws.specs.moves.Nodes.{AreMoved, body_after, node_after, node_owner, remade}
 use Rattle.fc_oldlaws.specs.moves.Writes.{MarkChanges}
-use Rattle.fc_oldvolume.specs.Compacting.{AreAddressed, AreLeft, AreReaddressed, IsLow, IsRemade, addressed, changes_at, entries_at, first_changed, is_changed, marks, readdressed_node, slide_of}
+use Rattle.fc_oldvolume.specs.Compacting.{AreAddressed, AreLeft, AreReaddressed, HasReaddressed, IsLow, IsRemade, addressed, changes_at, entries_at, first_changed, is_changed, marks, readdressed_node, slide_of}
 use Rattle.fc_oldvolume.specs.declared.compacting.directories.Spare.{Spare}
 
 -- ---- nodes that stay
@@ -254,15 +254,24 @@ module _ (s : Slide) (nodes mid now : Nodes) (spares : List Spare) (bound : ℕ)
 -- as a volume has them
 module _ (layout : Layout) (disc map : OldMapContent) (moves : Moves) (nodes mid now : Nodes) (spares : List Spare) (bound : ℕ) (is : layout ≡ Layout.Old disc) (past : (n : ℕ) → bound ≤ n → get nodes n ≡ None)
     (r : AreReaddressed (dir_form layout) (start_after moves.before.items moves.after.items) nodes mid spares bound) where
-  pub all_moved : (bound' : ℕ) → bound' ≡ bound → AreAddressed (dir_form layout) (start_after moves.before.items moves.after.items) mid now bound' → AreMoved (slide_of disc map moves) nodes now
+  all_moved : (bound' : ℕ) → bound' ≡ bound → AreAddressed (dir_form layout) (start_after moves.before.items moves.after.items) mid now bound' → AreMoved (slide_of disc map moves) nodes now
   all_moved bound' same a =
       both_moved (slide_of disc map moves) nodes mid now spares bound past (subst (λ (l : Layout). AreReaddressed (dir_form l) (start_after moves.before.items moves.after.items) nodes mid spares bound) is r)
       (subst (λ (k : ℕ). AreAddressed (form_of (slide_of disc map moves)) (move_of (slide_of disc map moves)) mid now k) same
       (subst (λ (l : Layout). AreAddressed (dir_form l) (start_after moves.before.items moves.after.items) mid now bound') is a))
 
-  pub all_marked : length spares ≡ bound → MarkChanges (slide_of disc map moves) nodes (marks spares)
+  all_marked : length spares ≡ bound → MarkChanges (slide_of disc map moves) nodes (marks spares)
   all_marked long =
       both_marked (slide_of disc map moves) nodes mid now spares bound past (subst (λ (l : Layout). AreReaddressed (dir_form l) (start_after moves.before.items moves.after.items) nodes mid spares bound) is r) long
+
+-- So the nodes are readdressed.
+pub readdressed_all : (layout : Layout) (map : OldMapContent) (moves : Moves) (nodes mid now : Nodes) (spares : List Spare) (bound : ℕ) → ((n : ℕ) → bound ≤ n → get nodes n ≡ None)
+    → AreReaddressed (dir_form layout) (start_after moves.before.items moves.after.items) nodes mid spares bound → length spares ≡ bound
+    → (bound' : ℕ) → bound' ≡ bound → AreAddressed (dir_form layout) (start_after moves.before.items moves.after.items) mid now bound' → HasReaddressed layout map moves nodes now spares
+readdressed_all layout map moves nodes mid now spares bound past r long bound' same a = record {
+  moved = λ disc is. all_moved layout disc map moves nodes mid now spares bound is past r bound' same a;
+  marked = λ disc is. all_marked layout disc map moves nodes mid now spares bound is past r long;
+}
 
 pub mark_is : (spares : List Spare) (n : ℕ) (x : Spare) (b : Bool) → n < length spares → x ≡ get_or spares n x → x.changed ≡ b → marks spares n ≡ b
 mark_is spares n x b less is c = ap (λ (o : Option Spare). option_map_or (λ (spare : Spare). spare.changed) o false) (slice_get_read spares (length spares) n x refl less is) ∙ c

@@ -22,7 +22,7 @@ use Rattle.fc_tree.specs.declared.node.Body.{Body}
 use Rattle.fc_tree.specs.declared.node.Body.TheVariants as bodies
 use Rattle.fc_tree.specs.declared.node.Node.{Node}
 use Rattle.fc_tree.specs.Counts.{address_in}
-use Rattle.fc_oldlaws.specs.moves.After.{Slide, entry_after, readdressed}
+use Rattle.fc_oldlaws.specs.moves.After.{Slide, entry_after, readdressed, start_after}
 use Rattle.fc_oldmap.specs.OldMap.{OldMapContent}
 use Rattle.fc_changes.specs.old.Owed.{IsWritten}
 use Rattle.fc_record.specs.declared.Kind.{Kind}
@@ -206,10 +206,24 @@ abbrev pub CompactsOnlyRoom : {D : Type 0} → Ghosts D → Parts → D → D �
 CompactsOnlyRoom d was old new = ForSome (d.bytes old) (λ image. (other : List ℕ) × (d.bytes new ≡ Some other)
     × ((kind : Kind) (view : Opened) (space : OldMapContent) → OpensAs image kind view → ArePartsOf was view → view.layout ≡ Layout.Old space → WritesOnlyRoom view space image other))
 
--- ---- all of it
-
 abbrev pub slide_of : OldMapContent → OldMapContent → Moves → Slide
 slide_of space space' moves = slide_by space space' moves.before.items moves.after.items
+
+-- ---- directories that are rewritten
+
+-- The copies of the nodes' entries are there, the objects are sorted by where they began, what moves fits the field of an address, and no directory is big.
+pub record CanRewrite (nodes : FinMap nat_cmp Node) (bound : ℕ) (ready : Ready) : Type 0 where
+  pub spares : AreSpares nodes bound ready.spares.items
+  pub sorted : AreSorted ready.moves.before.items
+  pub low : IsLow (start_after ready.moves.before.items ready.moves.after.items)
+  pub small : (n : ℕ) (node : Node) → get nodes n ≡ Some node → IsNotBig node.body
+
+-- The nodes are as the moves leave them, and of each it is told whether it says something else.
+pub record HasReaddressed (layout : Layout) (map : OldMapContent) (moves : Moves) (nodes nodes' : FinMap nat_cmp Node) (spares : List Spare) : Type 0 where
+  pub moved : (disc : OldMapContent) → layout ≡ Layout.Old disc → AreMoved (slide_of disc map moves) nodes nodes'
+  pub marked : (disc : OldMapContent) → layout ≡ Layout.Old disc → MarkChanges (slide_of disc map moves) nodes (marks spares)
+
+-- ---- all of it
 
 -- All is done in memory: the objects have slid, the nodes say so, and marked is each directory in which something changes.
 pub record HasSlidInMemory (space space' : OldMapContent) (was : List Owned) (moves : Moves) (nodes nodes' : FinMap nat_cmp Node) (changed : ℕ → Bool) : Type 0 where

@@ -8,13 +8,12 @@ ghost use Rattle.fc_image.specs.Layout.{Layout, disc_sectors};
 ghost use Rattle.fc_names.specs.declared.refusal.Refusal.{Refusal};
 ghost use Rattle.fc_laws.specs.nodes.Edits.{Nodes};
 ghost use Rattle.fc_oldmap.specs.OldMap.{OldMapContent};
-ghost use Rattle.fc_oldlaws.specs.moves.After.{start_after};
 ghost use Rattle.fc_oldlaws.specs.moves.Nodes.{AreMoved};
-ghost use Rattle.fc_oldlaws.specs.moves.Writes.{AreDirectoriesPlaced, MarkChanges};
+ghost use Rattle.fc_oldlaws.specs.moves.Writes.{AreDirectoriesPlaced};
 ghost use Rattle.fc_space.specs.Space.{layout_of};
 ghost use Rattle.fc_changes.specs.old.Owed.{IsWritten};
 ghost use Rattle.fc_squash.specs.Places.{ChangesRoom, Leaves};
-ghost use Rattle.fc_squash.specs.Sliding.{TellsAsBefore, TimeGoesOn};
+ghost use Rattle.fc_squash.specs.Sliding.{GoesOn, TellsAsBefore, TimeGoesOn};
 ghost use Rattle.fc_squash.specs.Squashing.{AreBodies, KeepsBodies, SquashedBy};
 ghost use Rattle.fc_tree.specs.Nodes.{bound_of, nodes_of};
 ghost use Rattle.fc_tree.specs.declared.node.Node.{Node};
@@ -22,7 +21,7 @@ ghost use Rattle.fc_volume.specs.Changing.{KeepsVolume};
 ghost use Rattle.fc_volume.specs.Compacting.{HasCompacted};
 ghost use Rattle.fc_volume.specs.Volume.{StandsFor, parts_of};
 ghost use Rattle.fc_oldvolume.specs.Changing.{IsOldLayout};
-ghost use Rattle.fc_oldvolume.specs.Compacting.{AreSorted, AreSpares, CompactsOnlyRoom, HasSlidInMemory, HasSlidOnDisk, HasSquashed, HaveDirectories, IsLow, IsNotBig, IsReadyToCompact, IsRoom, IsRewrittenBy, MoveLaws, marks, slide_by, slide_of};
+ghost use Rattle.fc_oldvolume.specs.Compacting.{CanRewrite, CompactsOnlyRoom, HasReaddressed, HasSlidInMemory, HasSlidOnDisk, HasSquashed, HaveDirectories, IsNotBig, IsReadyToCompact, IsRoom, IsRewrittenBy, MoveLaws, marks, slide_by, slide_of};
 ghost use Rattle.fc_oldvolume.specs.Spaces.{LieBehind};
 
 mod directories;
@@ -101,23 +100,16 @@ fn rewrite<D: Disk>(
     requires on_disk { disc_sectors (Layout.Old map.now) ≤ D.sectors disk.old }
     requires two { 2 ≤ D.sectors disk.old }
     requires old_map { IsOldLayout (layout_of space.now) }
-    requires spares { AreSpares (nodes_of tree.old) (bound_of tree.old) ready.old.spares.items }
-    requires sorted { AreSorted ready.old.moves.before.items }
-    requires low { IsLow (start_after ready.old.moves.before.items ready.old.moves.after.items) }
-    requires small { (n : ℕ) (node : Node) → get (nodes_of tree.old) n ≡ Some node → IsNotBig node.body }
+    requires can { CanRewrite (nodes_of tree.old) (bound_of tree.old) ready.old }
     requires placed { (disc : OldMapContent) (nodes : Nodes) → layout_of space.now ≡ Layout.Old disc
         → AreMoved (slide_of disc map.now ready.old.moves) (nodes_of tree.old) nodes → AreDirectoriesPlaced map.now nodes }
-    ensures moved { (disc : OldMapContent) → layout_of space.now ≡ Layout.Old disc → AreMoved (slide_of disc map.now ready.old.moves) (nodes_of tree.old) (nodes_of tree.new) }
-    ensures marked { (disc : OldMapContent) → layout_of space.now ≡ Layout.Old disc → MarkChanges (slide_of disc map.now ready.old.moves) (nodes_of tree.old) (marks ready.new.spares.items) }
+    ensures readdressed { HasReaddressed (layout_of space.now) map.now ready.old.moves (nodes_of tree.old) (nodes_of tree.new) ready.new.spares.items }
     ensures moves { ready.new.moves ≡ ready.old.moves }
     ensures bound { bound_of tree.new ≡ bound_of tree.old }
     ensures written { OnOk result (IsRewrittenBy D.Disk disk.old disk.new map.now (nodes_of tree.new) (marks ready.new.spares.items) (bound_of tree.old)) }
     ensures places { (sectors : List ℕ) → HaveDirectories map.now (nodes_of tree.new) sectors → Leaves D.Disk disk.old disk.new (IsWritten map.now sectors) }
     ensures durable { OnOk result (IsFalse (D.pending disk.new)) }
-    ensures form { SameForm D.Disk disk.old disk.new }
-    ensures stops { TimeGoesOn D.Disk disk.old disk.new }
-    ensures told { TellsAsBefore D.Disk disk.old disk.new }
-    ensures cause { FailsByFault D.Disk disk.old disk.new result }
+    ensures goes { GoesOn D.Disk disk.old disk.new result }
 {
     let _ = tree.bound();
     readdress_all(tree, &mut ready.spares, space, &ready.moves);
@@ -149,10 +141,7 @@ fn write_compacted<D: Disk>(
     ensures bytes { OnOk result (HasSlidOnDisk D.Disk disk.old disk.new map.old map.new ready.new.moves (nodes_of tree.new) (marks ready.new.spares.items) (bound_of tree.old)) }
     ensures places { (sectors : List ℕ) → IsRoom map.old (nodes_of tree.old) ready.old.moves.before.items sectors → Leaves D.Disk disk.old disk.new (IsWritten map.old sectors) }
     ensures durable { OnOk result (IsFalse (D.pending disk.new)) }
-    ensures form { SameForm D.Disk disk.old disk.new }
-    ensures stops { TimeGoesOn D.Disk disk.old disk.new }
-    ensures told { TellsAsBefore D.Disk disk.old disk.new }
-    ensures cause { FailsByFault D.Disk disk.old disk.new result }
+    ensures goes { GoesOn D.Disk disk.old disk.new result }
 {
     slide(disk, map, &mut ready.moves)?;
     rewrite(disk, space, map, tree, ready)?;

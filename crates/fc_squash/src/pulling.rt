@@ -1,10 +1,9 @@
 // One object that slides into the hole before it.
 ghost use Rattle.std.specs.Prelude.{◌≡◌, ◌≢◌, ◌<◌, ◌≤◌, ◌*◌, ◌/◌, ◌^◌, ◌∷◌, [], All, length, slice_get, Some, IsTrue, IfOk, IfSome, IfNone, OnErr};
-ghost use Rattle.fc_device.specs.Calls.{FailsByFault, SameForm};
 ghost use Rattle.fc_oldmap.specs.Holes.{hole_end, hole_limit, AreApart, IsHole};
 ghost use Rattle.fc_oldmap.specs.OldMap.{IsOldMap};
 ghost use Rattle.fc_squash.specs.Places.{ChangesRoom, Leaves};
-ghost use Rattle.fc_squash.specs.Sliding.{IsSlidBy, TellsAsBefore, TimeGoesOn};
+ghost use Rattle.fc_squash.specs.Sliding.{GoesOn, IsSlidBy};
 ghost use Rattle.fc_squash.specs.Squashing.{place, IsPulled};
 
 use crate::sliding::slide_down;
@@ -49,10 +48,7 @@ pub fn pull<D: Disk>(
     ensures units { map.new.sector_units ≡ map.old.sector_units }
     ensures map { IsOldMap map.old }
     ensures err { OnErr result (map.new ≡ map.old) }
-    ensures form { SameForm D.Disk disk.old disk.new }
-    ensures stops { TimeGoesOn D.Disk disk.old disk.new }
-    ensures told { TellsAsBefore D.Disk disk.old disk.new }
-    ensures cause { FailsByFault D.Disk disk.old disk.new result }
+    ensures goes { GoesOn D.Disk disk.old disk.new result }
     ensures buffer { length buffer.new ≡ length buffer.old }
 {
     let units = map.sector_units();

@@ -35,7 +35,7 @@ returns-in-Ok-write_compacted-clause-compacted g c =
       w.3,
       has_compacted g.D.Disk c.move_laws.ensures _ c.args.volume.now c.volume.view_is c.args.disk.now c.requires.stands c.map_of-map.result layout c.is_old_map.ensures c.in-Ok.ready prepared c.bound.ensures.above
           c.take_over.new.volume c.write_compacted.new.disk c.write_compacted.new.map c.take_over.ensures.layout c.write_compacted.new.tree c.take_over.ensures.tree c.write_compacted.new.ready.moves
-          (marks c.write_compacted.new.ready.spares.items) c.in-Ok-write_compacted.ensures.done c.in-Ok-write_compacted.ensures.bytes c.write_compacted.ensures.told c.take_over.ensures.owners image told w.2 w.3,
+          (marks c.write_compacted.new.ready.spares.items) c.in-Ok-write_compacted.ensures.done c.in-Ok-write_compacted.ensures.bytes c.write_compacted.ensures.goes.told c.take_over.ensures.owners image told w.2 w.3,
     )
 
 pub returns-in-Ok-write_compacted-clause-keeps : goal.returns-in-Ok-write_compacted-clause-keeps
@@ -46,7 +46,7 @@ returns-in-Ok-write_compacted-clause-keeps g c =
       unchanged = tt;
       stands = stands_after g.D.Disk c.move_laws.ensures _ c.args.volume.now c.volume.view_is c.args.disk.now c.requires.stands c.map_of-map.result layout c.is_old_map.ensures c.in-Ok.ready prepared c.bound.ensures.above
           c.take_over.new.volume c.write_compacted.new.disk c.write_compacted.new.map c.take_over.ensures.layout c.write_compacted.new.tree c.take_over.ensures.tree c.write_compacted.new.ready.moves
-          (marks c.write_compacted.new.ready.spares.items) c.in-Ok-write_compacted.ensures.done c.in-Ok-write_compacted.ensures.bytes c.write_compacted.ensures.told c.take_over.ensures.owners c.take_over.ensures.copies c.write_compacted.ensures.form;
+          (marks c.write_compacted.new.ready.spares.items) c.in-Ok-write_compacted.ensures.done c.in-Ok-write_compacted.ensures.bytes c.write_compacted.ensures.goes.told c.take_over.ensures.owners c.take_over.ensures.copies c.write_compacted.ensures.goes.form;
       settled = c.in-Ok-write_compacted.ensures.durable;
       fit = c.take_over.ensures.fit ∙ ap (λ (x : Volume). x.fit) c.volume.view_is ∙ c.requires.fit;
       unfit = λ failed. absurd (cc);
@@ -54,9 +54,9 @@ returns-in-Ok-write_compacted-clause-keeps g c =
       map = old_kinds (parts_of c.args.volume.now).layout (parts_of c.take_over.new.volume).layout c.map_of-map.result c.write_compacted.new.map (sym (ap (λ (x : Volume). layout_of x.space) c.volume.view_is) ∙ layout) c.take_over.ensures.layout;
       dirs = same_form (parts_of c.args.volume.now).layout (parts_of c.take_over.new.volume).layout c.map_of-map.result c.write_compacted.new.map (sym (ap (λ (x : Volume). layout_of x.space) c.volume.view_is) ∙ layout) c.take_over.ensures.layout
           c.in-Ok-write_compacted.ensures.done.kept.disc.1;
-      form = c.write_compacted.ensures.form;
-      goes = c.write_compacted.ensures.stops;
-      faults = c.write_compacted.ensures.cause.later;
+      form = c.write_compacted.ensures.goes.form;
+      goes = c.write_compacted.ensures.goes.stops;
+      faults = c.write_compacted.ensures.goes.cause.later;
       cause = λ failed. absurd (cc);
     }
 

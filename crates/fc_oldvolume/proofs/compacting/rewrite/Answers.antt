@@ -4,46 +4,31 @@ use Rattle.fc_tree.specs.Nodes.{bound_of, nodes_of}
 use Rattle.fc_changes.specs.old.Owed.{IsWritten}
 use Rattle.fc_squash.proofs.RoomLemmas.{leaves_then}
 use Rattle.fc_oldvolume.proofs.ChangeLemmas.{old_layout, written_more, written_then}
-use Rattle.fc_oldvolume.proofs.NumbersLemmas.{all_marked, all_moved}
+use Rattle.fc_oldvolume.proofs.NumbersLemmas.{readdressed_all}
 use Rattle.fc_oldvolume.proofs.compacting.rewrite.Goals as goal
 
 pub write_directories-requires-clause-placed : goal.write_directories-requires-clause-placed
 write_directories-requires-clause-placed g c =
     let o = old_layout (layout_of c.args.space.now) c.requires.old_map in
-    let disc = o.0 in
-    let is = o.1 in
-    c.requires.placed disc (nodes_of c.move_nodes.new.tree) is (all_moved (layout_of c.args.space.now) disc c.args.map.now c.args.ready.now.moves (nodes_of c.args.tree.now) (nodes_of c.readdress_all.new.tree) (nodes_of c.move_nodes.new.tree) c.readdress_all.new.spares.items
-    (bound_of c.args.tree.now) is c.bound.ensures.above c.readdress_all.ensures.nodes (bound_of c.readdress_all.new.tree) c.readdress_all.ensures.bound c.move_nodes.ensures.nodes)
+    let r =
+    readdressed_all (layout_of c.args.space.now) c.args.map.now c.args.ready.now.moves (nodes_of c.args.tree.now) (nodes_of c.readdress_all.new.tree) (nodes_of c.move_nodes.new.tree) c.readdress_all.new.spares.items
+    (bound_of c.args.tree.now) c.bound.ensures.above c.readdress_all.ensures.nodes c.readdress_all.ensures.long (bound_of c.readdress_all.new.tree) c.readdress_all.ensures.bound c.move_nodes.ensures.nodes in
+    c.requires.placed o.0 (nodes_of c.move_nodes.new.tree) o.1 (r.moved o.0 o.1)
 
-pub returns-in_err-write_directories-clause-moved : goal.returns-in_err-write_directories-clause-moved
-returns-in_err-write_directories-clause-moved g c = λ disc is.
-    all_moved (layout_of c.args.space.now) disc c.args.map.now c.args.ready.now.moves (nodes_of c.args.tree.now) (nodes_of c.readdress_all.new.tree) (nodes_of c.move_nodes.new.tree) c.readdress_all.new.spares.items
-    (bound_of c.args.tree.now) is c.bound.ensures.above c.readdress_all.ensures.nodes (bound_of c.readdress_all.new.tree) c.readdress_all.ensures.bound c.move_nodes.ensures.nodes
+pub returns-in_err-write_directories-clause-readdressed : goal.returns-in_err-write_directories-clause-readdressed
+returns-in_err-write_directories-clause-readdressed g c =
+    readdressed_all (layout_of c.args.space.now) c.args.map.now c.args.ready.now.moves (nodes_of c.args.tree.now) (nodes_of c.readdress_all.new.tree) (nodes_of c.move_nodes.new.tree) c.readdress_all.new.spares.items
+    (bound_of c.args.tree.now) c.bound.ensures.above c.readdress_all.ensures.nodes c.readdress_all.ensures.long (bound_of c.readdress_all.new.tree) c.readdress_all.ensures.bound c.move_nodes.ensures.nodes
 
-pub returns-in_err-write_directories-clause-marked : goal.returns-in_err-write_directories-clause-marked
-returns-in_err-write_directories-clause-marked g c = λ disc is.
-    all_marked (layout_of c.args.space.now) disc c.args.map.now c.args.ready.now.moves (nodes_of c.args.tree.now) (nodes_of c.readdress_all.new.tree) (nodes_of c.move_nodes.new.tree) c.readdress_all.new.spares.items
-    (bound_of c.args.tree.now) is c.bound.ensures.above c.readdress_all.ensures.nodes c.readdress_all.ensures.long
+pub returns-in_err-write_map-clause-readdressed : goal.returns-in_err-write_map-clause-readdressed
+returns-in_err-write_map-clause-readdressed g c =
+    readdressed_all (layout_of c.args.space.now) c.args.map.now c.args.ready.now.moves (nodes_of c.args.tree.now) (nodes_of c.readdress_all.new.tree) (nodes_of c.move_nodes.new.tree) c.readdress_all.new.spares.items
+    (bound_of c.args.tree.now) c.bound.ensures.above c.readdress_all.ensures.nodes c.readdress_all.ensures.long (bound_of c.readdress_all.new.tree) c.readdress_all.ensures.bound c.move_nodes.ensures.nodes
 
-pub returns-in_err-write_map-clause-moved : goal.returns-in_err-write_map-clause-moved
-returns-in_err-write_map-clause-moved g c = λ disc is.
-    all_moved (layout_of c.args.space.now) disc c.args.map.now c.args.ready.now.moves (nodes_of c.args.tree.now) (nodes_of c.readdress_all.new.tree) (nodes_of c.move_nodes.new.tree) c.readdress_all.new.spares.items
-    (bound_of c.args.tree.now) is c.bound.ensures.above c.readdress_all.ensures.nodes (bound_of c.readdress_all.new.tree) c.readdress_all.ensures.bound c.move_nodes.ensures.nodes
-
-pub returns-in_err-write_map-clause-marked : goal.returns-in_err-write_map-clause-marked
-returns-in_err-write_map-clause-marked g c = λ disc is.
-    all_marked (layout_of c.args.space.now) disc c.args.map.now c.args.ready.now.moves (nodes_of c.args.tree.now) (nodes_of c.readdress_all.new.tree) (nodes_of c.move_nodes.new.tree) c.readdress_all.new.spares.items
-    (bound_of c.args.tree.now) is c.bound.ensures.above c.readdress_all.ensures.nodes c.readdress_all.ensures.long
-
-pub returns-clause-moved : goal.returns-clause-moved
-returns-clause-moved g c = λ disc is.
-    all_moved (layout_of c.args.space.now) disc c.args.map.now c.args.ready.now.moves (nodes_of c.args.tree.now) (nodes_of c.readdress_all.new.tree) (nodes_of c.move_nodes.new.tree) c.readdress_all.new.spares.items
-    (bound_of c.args.tree.now) is c.bound.ensures.above c.readdress_all.ensures.nodes (bound_of c.readdress_all.new.tree) c.readdress_all.ensures.bound c.move_nodes.ensures.nodes
-
-pub returns-clause-marked : goal.returns-clause-marked
-returns-clause-marked g c = λ disc is.
-    all_marked (layout_of c.args.space.now) disc c.args.map.now c.args.ready.now.moves (nodes_of c.args.tree.now) (nodes_of c.readdress_all.new.tree) (nodes_of c.move_nodes.new.tree) c.readdress_all.new.spares.items
-    (bound_of c.args.tree.now) is c.bound.ensures.above c.readdress_all.ensures.nodes c.readdress_all.ensures.long
+pub returns-clause-readdressed : goal.returns-clause-readdressed
+returns-clause-readdressed g c =
+    readdressed_all (layout_of c.args.space.now) c.args.map.now c.args.ready.now.moves (nodes_of c.args.tree.now) (nodes_of c.readdress_all.new.tree) (nodes_of c.move_nodes.new.tree) c.readdress_all.new.spares.items
+    (bound_of c.args.tree.now) c.bound.ensures.above c.readdress_all.ensures.nodes c.readdress_all.ensures.long (bound_of c.readdress_all.new.tree) c.readdress_all.ensures.bound c.move_nodes.ensures.nodes
 
 pub returns-in_err-write_map-clause-places : goal.returns-in_err-write_map-clause-places
 returns-in_err-write_map-clause-places g c = λ sectors have.

@@ -12,12 +12,13 @@ use Rattle.fc_oldvolume.proofs.RoomLemmas.{after_slide, written_room}
 use Rattle.fc_oldvolume.proofs.NumbersLemmas.{low_moves}
 use Rattle.fc_oldvolume.proofs.compacting.write_compacted.Goals as goal
 
-pub rewrite-requires-clause-low : goal.rewrite-requires-clause-low
-rewrite-requires-clause-low g c =
-    low_moves c.slide.new.map c.slide.new.moves.before.items c.slide.new.moves.after.items c.slide.ensures.kept.map c.slide.ensures.kept.bodies
-
-pub rewrite-requires-clause-sorted : goal.rewrite-requires-clause-sorted
-rewrite-requires-clause-sorted g c = subst AreSorted (sym (ap (λ (v : _). v.items) c.slide.ensures.before)) c.requires.ready.sorted
+pub rewrite-requires-clause-can : goal.rewrite-requires-clause-can
+rewrite-requires-clause-can g c = record {
+  spares = c.requires.ready.spares;
+  sorted = subst AreSorted (sym (ap (λ (v : _). v.items) c.slide.ensures.before)) c.requires.ready.sorted;
+  low = low_moves c.slide.new.map c.slide.new.moves.before.items c.slide.new.moves.after.items c.slide.ensures.kept.map c.slide.ensures.kept.bodies;
+  small = c.requires.small;
+}
 
 pub returns-clause-done : goal.returns-clause-done
 returns-clause-done g c =
@@ -33,9 +34,9 @@ returns-clause-done g c =
       squashed = subst (λ (l : List Owned). Squashed map map' l end) resting (subst (λ (l : List Owned). Squashed map map' c.args.ready.now.moves.after.items l) last c.in_ok-slide.ensures.squashed);
       kept = subst (λ (l : List Owned). KeepsBodies map map' l end) resting (subst (λ (l : List Owned). KeepsBodies map map' c.args.ready.now.moves.after.items l) last c.slide.ensures.kept);
       moved = subst (λ (l : List Owned). AreMoved (slide_by map map' l end) (nodes_of c.args.tree.now) (nodes_of c.rewrite.new.tree)) first
-          (subst (λ (l : List Owned). AreMoved (slide_by map map' c.slide.new.moves.before.items l) (nodes_of c.args.tree.now) (nodes_of c.rewrite.new.tree)) last (c.rewrite.ensures.moved map c.requires.map));
+          (subst (λ (l : List Owned). AreMoved (slide_by map map' c.slide.new.moves.before.items l) (nodes_of c.args.tree.now) (nodes_of c.rewrite.new.tree)) last (c.rewrite.ensures.readdressed.moved map c.requires.map));
       marked = subst (λ (l : List Owned). MarkChanges (slide_by map map' l end) (nodes_of c.args.tree.now) (marks c.rewrite.new.ready.spares.items)) first
-          (subst (λ (l : List Owned). MarkChanges (slide_by map map' c.slide.new.moves.before.items l) (nodes_of c.args.tree.now) (marks c.rewrite.new.ready.spares.items)) last (c.rewrite.ensures.marked map c.requires.map));
+          (subst (λ (l : List Owned). MarkChanges (slide_by map map' c.slide.new.moves.before.items l) (nodes_of c.args.tree.now) (marks c.rewrite.new.ready.spares.items)) last (c.rewrite.ensures.readdressed.marked map c.requires.map));
     }
 
 pub returns-in_err-slide-clause-places : goal.returns-in_err-slide-clause-places
@@ -59,7 +60,7 @@ returns-in_err-rewrite-clause-places g c =
     after_slide g.D.Disk map map' (nodes_of c.args.tree.now) (nodes_of c.rewrite.new.tree) was now c.args.disk.now c.slide.new.disk c.rewrite.new.disk
     (subst (λ (l : List Owned). KeepsBodies map map' l now) resting c.slide.ensures.kept)
     (subst (λ (l : List Owned). Squashed map map' l now) resting c.in_ok-slide.ensures.squashed)
-    (subst (λ (l : List Owned). AreMoved (slide_by map map' l now) (nodes_of c.args.tree.now) (nodes_of c.rewrite.new.tree)) first (c.rewrite.ensures.moved map c.requires.map))
+    (subst (λ (l : List Owned). AreMoved (slide_by map map' l now) (nodes_of c.args.tree.now) (nodes_of c.rewrite.new.tree)) first (c.rewrite.ensures.readdressed.moved map c.requires.map))
     (λ before told. (let w = c.slide.ensures.places before told in (w.0, w.1, subst (λ (l : List Owned). ChangesRoom map l before w.0) resting w.2)))
     c.rewrite.ensures.places
 
@@ -74,6 +75,6 @@ returns-clause-places g c =
     after_slide g.D.Disk map map' (nodes_of c.args.tree.now) (nodes_of c.rewrite.new.tree) was now c.args.disk.now c.slide.new.disk c.rewrite.new.disk
     (subst (λ (l : List Owned). KeepsBodies map map' l now) resting c.slide.ensures.kept)
     (subst (λ (l : List Owned). Squashed map map' l now) resting c.in_ok-slide.ensures.squashed)
-    (subst (λ (l : List Owned). AreMoved (slide_by map map' l now) (nodes_of c.args.tree.now) (nodes_of c.rewrite.new.tree)) first (c.rewrite.ensures.moved map c.requires.map))
+    (subst (λ (l : List Owned). AreMoved (slide_by map map' l now) (nodes_of c.args.tree.now) (nodes_of c.rewrite.new.tree)) first (c.rewrite.ensures.readdressed.moved map c.requires.map))
     (λ before told. (let w = c.slide.ensures.places before told in (w.0, w.1, subst (λ (l : List Owned). ChangesRoom map l before w.0) resting w.2)))
     c.rewrite.ensures.places

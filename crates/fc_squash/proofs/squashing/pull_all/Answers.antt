@@ -37,10 +37,10 @@ pull-requires-clause-apart g c =
     (comes c.args.map.now c.loop-k.map c.args.owned.now c.loop-k.owned c.loop-k.k stand (omega (arith, c.loop-k-test.true, c.loop-k.invariant.long))).apart
 
 pub returns-in_err-start-clause-stops : goal.returns-in_err-start-clause-stops
-returns-in_err-start-clause-stops g c = goes_on (laws g.met.D.Disk) c.loop-k.invariant.stops c.pull.ensures.stops (λ image left. tt)
+returns-in_err-start-clause-stops g c = goes_on (laws g.met.D.Disk) c.loop-k.invariant.stops c.pull.ensures.goes.stops (λ image left. tt)
 
 pub returns-in_err-start-clause-told : goal.returns-in_err-start-clause-told
-returns-in_err-start-clause-told g c = told_then g.D.Disk c.loop-k.invariant.told c.pull.ensures.told
+returns-in_err-start-clause-told g c = told_then g.D.Disk c.loop-k.invariant.told c.pull.ensures.goes.told
 
 pub returns-in_err-start-clause-places : goal.returns-in_err-start-clause-places
 returns-in_err-start-clause-places g c =
@@ -65,14 +65,14 @@ loop-k-preserved g c =
     was.form.size_stays ∙ c.requires.size ∙ ap (λ (n : ℕ). 256 * n) (sym was.stand.units) in
     let carried = carried_by_more d c.args.disk.now c.loop-k.disk c.pull.new.disk old c.loop-k.map c.pull.new.map list now k start there was.stand stand size was.carried c.in_ok-start.ensures.slid in
     record {
-      form = form_then d was.form c.pull.ensures.form;
+      form = form_then d was.form c.pull.ensures.goes.form;
       stand = subst (λ l. Standing old c.pull.new.map list l (k + 1)) (sym set) stand;
       carried = subst (λ l. CarriedBy d c.args.disk.now c.pull.new.disk old.sector_units old list l) (sym set) carried;
       room = room_by_more d c.args.disk.now c.loop-k.disk c.pull.new.disk old c.loop-k.map list now k c.requires.map c.requires.bodies was.stand there was.above was.room c.pull.ensures.places;
       above = λ n all. above-pulled n c.loop-k.map.holes c.pull.new.map.holes (place (get_or now k no_object)) start c.in_ok-start.ensures.pulled (was.above n all);
-      stops = goes_on law was.stops c.pull.ensures.stops (λ image left. tt);
-      told = told_then d was.told c.pull.ensures.told;
-      faults = omega (arith, was.faults, c.pull.ensures.cause.later);
+      stops = goes_on law was.stops c.pull.ensures.goes.stops (λ image left. tt);
+      told = told_then d was.told c.pull.ensures.goes.told;
+      faults = omega (arith, was.faults, c.pull.ensures.goes.cause.later);
       long = ap (λ (l : List Owned). length l) set ∙ length-set now k (moved_to start (get_or now k no_object)) ∙ was.long;
     }
 
