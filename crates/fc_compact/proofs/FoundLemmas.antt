@@ -14,13 +14,13 @@ use Rattle.fc_newmap.proofs.PlaceLemmas.{in_range}
 use Rattle.fc_zone.specs.declared.Run.{Run}
 use Rattle.fc_device.specs.Numbers.{is_listed as is_in}
 
+pub or_true : (b : Bool) → (b || true) ≡ true
+or_true true = refl
+or_true false = refl
+
 pub any_there : (f : Run → Bool) (done rest : List Run) (run : Run) → f run ≡ true → list_any f (done ++ run ∷ rest) ≡ true
 any_there f [] rest run e = ap (λ b. b || list_any f rest) e
 any_there f (x ∷ done) rest run e = ap (λ b. f x || b) (any_there f done rest run e) ∙ or_true (f x)
-  where
-    or_true : (b : Bool) → (b || true) ≡ true
-    or_true true = refl
-    or_true false = refl
 
 pub none_more : (f : Run → Bool) (done : List Run) (run : Run) → list_any f done ≡ false → f run ≡ false → list_any f (done ++ run ∷ []) ≡ false
 none_more f [] run none e = ap (λ b. b || false) e

@@ -39,6 +39,7 @@ use Rattle.fc_compact.specs.Steps.{SamePart}
 use Rattle.fc_compact.specs.declared.rounds.Front.{Front}
 use Rattle.fc_compact.proofs.CarryLemmas.{carrying_more}
 use Rattle.fc_compact.proofs.FindLemmas.{first_row, len_whole, run_follows, some_len}
+use Rattle.fc_compact.proofs.FoundLemmas.{or_true}
 use Rattle.fc_compact.proofs.JoinLemmas.{count_up, disc_run}
 use Rattle.fc_compact.proofs.MergeLemmas.{weight_cons}
 use Rattle.fc_compact.proofs.PreservesLemmas.{geometry_is}
@@ -239,10 +240,6 @@ step_ends owners w w' z run next fresh s step follows = by s.moved refl
     by : (b : Bool) → s.moved ≡ b → s.run.start + s.run.len ≡ next.start + next.len
     by true e = (let f = step.some e in let a = ap (λ (r : Run). r.start + r.len) f.3 in omega (arith, a, follows))
     by false e = (let f = step.none e in ap (λ (r : Run). r.start + r.len) f.1)
-
-or_true : (b : Bool) → (b || true) ≡ true
-or_true true = refl
-or_true false = refl
 
 or_false : (b : Bool) → (b || false) ≡ b
 or_false true = refl

@@ -3,7 +3,7 @@ use Rattle.std.proofs.Common.{◌≡◌, ◌<◌, ◌≤◌, ℕ, zero, suc, ◌
 use Rattle.std.specs.Prelude.{◌==◌, ◌||◌, ◌&&◌, nat_le, filter, Contains}
 use Rattle.std.specs.List.{list_any, range_with_len}
 use Rattle.std.proofs.Math.Nat.{zero-mod}
-use Rattle.std.proofs.lemmas.Bool.{eq-eqb, ne_eqb, eqb-true, leb-true}
+use Rattle.std.proofs.lemmas.Bool.{eq-eqb, eqb-true, leb-true}
 use Rattle.std.proofs.lemmas.List.Sums.{sum_by-cons}
 use Rattle.fc_zone.specs.declared.Run.{Run}
 use Rattle.fc_zone.specs.declared.RunKind.{RunKind}
@@ -22,10 +22,10 @@ use Rattle.fc_newmap.proofs.PlaceLemmas.{filter_in, in_id_runs, in_range, in_zon
 use Rattle.fc_alloc.specs.declared.owner.Owner.{Owner}
 use Rattle.fc_alloc.specs.Owners.{is_id_owned}
 use Rattle.fc_image.specs.effects.Settled.{zones_with}
-use Rattle.fc_compact.specs.Joins.{HasBetween, has_run_in, join_zones}
+use Rattle.fc_compact.specs.Joins.{HasBetween, has_run_in}
 use Rattle.fc_compact.specs.Ready.{is_movable_by}
 use Rattle.fc_compact.specs.Slides.{HasRuns, hole_at}
-use Rattle.fc_compact.proofs.FoundLemmas.{any_there}
+use Rattle.fc_compact.proofs.FoundLemmas.{any_there, or_true}
 use Rattle.fc_compact.proofs.WholeLemmas.{run_room, run_whole, whole_more}
 
 pub movable_high : (owners : List Owner) (id : ℕ) → is_movable_by owners id ≡ true → 3 ≤ id
@@ -46,6 +46,18 @@ id_kind id (kinds.Id other) e = ap kinds.Id (eqb-true other id e)
 -- a run stands between others
 pub run_between : (m : Map) (zones : List ℕ) (p : ZoneRun) → Contains (runs_in m zones) p → HasBetween m p.0 p.1
 run_between m zones p c = let i = zone_in m zones p c in let s = split_at (runs_of m p.0) p.1 (placed_in p.0 (runs_of m p.0) p i.1) in (s.0, s.1, s.2)
+
+-- a list with an element has a first one
+pub some_first : (xs : List ZoneRun) → 0 < length xs → (p : ZoneRun) × (ps : List ZoneRun) × (xs ≡ p ∷ ps)
+some_first [] some = absurd (omega arith)
+some_first (p ∷ ps) some = (p, ps, refl)
+
+-- A zone has this hole between others.
+pub record IsHole (m : Map) (z : ℕ) (hole : Run) : Type 0 where
+  pub low : z < m.geometry.zones
+  pub between : HasBetween m z hole
+  pub short : hole.start + hole.len ≤ 8192
+  pub whole : hole.len % m.geometry.q ≡ 0
 
 module _ (m : Map) (is : IsNewMap m) where
   some : 1 ≤ m.geometry.zones
@@ -93,6 +105,12 @@ module _ (m : Map) (is : IsNewMap m) where
     id_low id kind = id_below (shape m.geometry z) (sector_of m z) front rest run id (zone_cut m z (front ++ run ∷ rest) is low runs) kind
 
   -- the zone has one run there
+  pub hole_is : (z : ℕ) (hole : Run) → Contains (hole_runs m) (z, hole) → IsHole m z hole
+  hole_is z hole there =
+      let low = hole_low z hole there in
+      let between = hole_between z hole there in
+      record { low = low; between = between; short = run_short z low between.0 between.1 hole between.2; whole = run_is_whole z low between.0 between.1 hole between.2 }
+
   pub same_run : (z : ℕ) → z < m.geometry.zones → (a b : Run) → HasBetween m z a → HasBetween m z b → a.start ≡ b.start → a ≡ b
   same_run z low a b one two e =
       (same_cut (shape m.geometry z) (sector_of m z) one.0 two.0 one.1 two.1 a b (zone_cut m z (one.0 ++ a ∷ one.1) is low one.2) (zone_cut m z (two.0 ++ b ∷ two.1) is low two.2) e).1
@@ -159,10 +177,6 @@ module _ (m : Map) (is : IsNewMap m) where
     place_there y (x ∷ xs) p (zero, h, e) same = ap (λ b. b || list_any (λ (q : ZoneRun). q.0 == y) xs) (eq-eqb x.0 y (ap (λ (q : ZoneRun). q.0) e ∙ same))
     place_there y (x ∷ xs) p (suc k, h, e) same =
         ap (λ b. (x.0 == y) || b) (place_there y xs p (k, omega arith, e) same) ∙ or_true (x.0 == y)
-      where
-        or_true : (b : Bool) → (b || true) ≡ true
-        or_true true = refl
-        or_true false = refl
 
     placed_there : (y : ℕ) (runs : List Run) (run : Run) → Contains runs run → Contains (placed y runs) (y, run)
     placed_there y [] run (k, h, e) = absurd (omega arith)
@@ -191,35 +205,13 @@ module _ (m : Map) (is : IsNewMap m) where
         by false true f g = absurd (let t = back g in cc)
         by false false f g = f ∙ sym g
 
--- ---- one zone more
+-- ---- the zones of an identifier
 
-same_filter : (t u : ℕ → Bool) (from n : ℕ) → ((y : ℕ) → from ≤ y → y < from + n → t y ≡ u y) → filter t (range_with_len from n) ≡ filter u (range_with_len from n)
+pub same_filter : (t u : ℕ → Bool) (from n : ℕ) → ((y : ℕ) → from ≤ y → y < from + n → t y ≡ u y) → filter t (range_with_len from n) ≡ filter u (range_with_len from n)
 same_filter t u from zero same = refl
 same_filter t u from (suc n) same =
     ap (λ b. cond b (from ∷ filter t (range_with_len (from + 1) n)) (filter t (range_with_len (from + 1) n))) (same from (omega arith) (omega arith))
     ∙ ap (λ (xs : List ℕ). cond (u from) (from ∷ xs) xs) (same_filter t u (from + 1) n (λ y low high. same y (omega arith) (omega arith)))
 
-one_more : (t : ℕ → Bool) (zone from n : ℕ) → length (filter (λ y. (y == zone) || t y) (range_with_len from n)) ≤ length (filter t (range_with_len from n)) + 1
-one_more t zone from zero = omega arith
-one_more t zone from (suc n) = by (from == zone) (t from) refl (one_more t zone (from + 1) n)
-  where
-    counted : (c : Bool) → length (filter (λ y. (y == zone) || t y) (range_with_len (from + 1) n)) ≡ length (filter t (range_with_len (from + 1) n))
-        → length (from ∷ filter (λ y. (y == zone) || t y) (range_with_len (from + 1) n)) ≤ length (cond c (from ∷ filter t (range_with_len (from + 1) n)) (filter t (range_with_len (from + 1) n))) + 1
-    counted true g = omega (arith, g)
-    counted false g = omega (arith, g)
-
-    by : (a b : Bool) → (from == zone) ≡ a → length (filter (λ y. (y == zone) || t y) (range_with_len (from + 1) n)) ≤ length (filter t (range_with_len (from + 1) n)) + 1
-        → length (cond (a || b) (from ∷ filter (λ y. (y == zone) || t y) (range_with_len (from + 1) n)) (filter (λ y. (y == zone) || t y) (range_with_len (from + 1) n)))
-        ≤ length (cond b (from ∷ filter t (range_with_len (from + 1) n)) (filter t (range_with_len (from + 1) n))) + 1
-    by false true e r = omega (arith, r)
-    by false false e r = r
-    by true b e r =
-        counted b
-        (ap length
-        (same_filter (λ y. (y == zone) || t y) t (from + 1) n (λ y low high. (let same = eqb-true from zone e in ap (λ c. c || t y) (ne_eqb y zone (λ f. omega (arith, f, same, low)))))))
-
 pub zones_same : (m : Map) → IsNewMap m → (id : ℕ) → zones_with m id ≡ filter (has_run_in m id) (zone_numbers m.geometry)
 zones_same m is id = same_filter (λ z. list_any (λ (p : ZoneRun). p.0 == z) (id_runs m id)) (has_run_in m id) 0 m.geometry.zones (λ y low high. sym (has_run_same m is id y (omega (arith, high))))
-
-pub few_zones : (m : Map) → IsNewMap m → (id zone : ℕ) → length (zones_with m id) ≤ 8 → length (join_zones m id zone) ≤ 9
-few_zones m is id zone few = omega (arith, few, ap length (zones_same m is id), one_more (has_run_in m id) zone 0 m.geometry.zones)

@@ -46,6 +46,17 @@ parts_le a b w some =
     mod_low : (t : ℕ) → t % w < w
     mod_low t = omega arith
 
+-- What holds of the next of an identifier's runs, of so many sectors from sector `first` on, before it is copied to those from `here` on.
+pub record NextRow (m : Map) (to here first sectors : ℕ) (passed : List ZoneRun) (p : ZoneRun) : Type 0 where
+  pub longer : length (sectors_of m.geometry (passed ++ p ∷ [])) ≡ length (sectors_of m.geometry passed) + sectors
+  pub on_disc : first + sectors ≤ disc_sectors (Layout.New m)
+  pub room : here + sectors ≤ disc_sectors (Layout.New m)
+  pub high : disc_sectors (Layout.New m) ≤ 2 ^ 40
+  pub apart : (first + sectors ≤ here) ⊎ (here + sectors ≤ first)
+  pub in_hole : (i : ℕ) → i < sectors → is_among (hole_sectors (Layout.New m)) (here + i) ≡ true
+  pub put : (was image : List ℕ) → ArePut m.geometry.sector to (sectors_of m.geometry passed) was → ChangesRow m.geometry.sector here sectors was image
+      → IsCopied m.geometry.sector first here sectors image → ArePut m.geometry.sector to (sectors_of m.geometry (passed ++ p ∷ [])) image
+
 module _ (m : Map) (is : IsNewMap m) where
   abbrev g : Geometry
   g = m.geometry
@@ -152,6 +163,14 @@ module _ (m : Map) (is : IsNewMap m) where
           among_at [] k h = absurd (omega arith)
           among_at (x ∷ xs) zero h = ap (λ b. b || is_among xs x) (eq-eqb x x refl)
           among_at (x ∷ xs) (suc k) h = in_back (x ∷ []) xs (slice_index xs k) (among_at xs k (omega arith))
+
+      pub next_row : (here first sectors : ℕ) → first ≡ first_sector g p → sectors ≡ sector_count g p → here ≡ at → IsInZone g p → to + length (id_sectors m id) ≤ disc_sectors (Layout.New m)
+          → NextRow m to here first sectors passed p
+      next_row here first sectors first_is count_is place lies room =
+          subst (λ (k : ℕ). NextRow m to k first sectors passed p) (sym place)
+          (subst (λ (k : ℕ). NextRow m to at k sectors passed p) (sym first_is)
+          (subst (λ (k : ℕ). NextRow m to at (first_sector g p) k passed p) (sym count_is)
+          (record { longer = length_more; on_disc = disc_run p lies; room = omega (arith, within_id, room); high = disc_high; apart = rows_apart; in_hole = row_in_hole; put = put_more })))
 
 -- ---- a map in which one run stands for all of an identifier's
 

@@ -12,6 +12,7 @@ pub mod StepLemmas
 mod CarryLemmas
 mod GatherLemmas
 mod DrawnLemmas
+mod DrawLemmas
 pub mod LeadsLemmas
 mod ReleaseLemmas
 mod ListedLemmas
@@ -29,3 +30,7 @@ pub mod GoneLemmas
 mod AdjacentLemmas
 mod SeenLemmas
 mod PassLemmas
+mod SideLemmas
+mod LongestLemmas
+mod CandidatesLemmas
+mod SurveyLemmas

@@ -1,9 +1,10 @@
 -- Runs that are passed one after another, and identifiers that are joined.
 use Rattle.std.proofs.Common.{◌≡◌, ◌<◌, ◌≤◌, ◌⊎◌, inl, inr, ℕ, zero, suc, ◌+◌, Bool, true, false, cond, List, [], ◌∷◌, ◌++◌, length, length-append, take, get_or, refl, sym, ap, subst, ◌∙◌, arith}
-use Rattle.std.specs.Prelude.{Option, Some, Contains, ◌==◌, ◌||◌, ◌&&◌, nat_le, nat_lt, filter}
-use Rattle.std.specs.List.{list_any, range_with_len}
+use Rattle.std.specs.Prelude.{Option, Some, Contains, ◌==◌, ◌||◌, ◌&&◌, nat_le, nat_lt}
+use Rattle.std.specs.List.{list_any}
 use Rattle.std.proofs.lemmas.Bool.{cases_eq, cases_lt, eqb-true, lt-ltb, le-ltb, lt-leb, and_parts as both_true, or_parts as neither}
 use Rattle.std.proofs.lemmas.List.{take_all, take_more}
+use Rattle.std.proofs.lemmas.List.Elements.{Contains-append_cases, Contains-get_or, Contains-push_cases}
 use Rattle.std.proofs.lemmas.List.Sums.{sum_by-append, sum_by-cons}
 use Rattle.fc_zone.specs.declared.Run.{Run}
 use Rattle.fc_zone.specs.declared.RunKind.TheVariants.{Id}
@@ -16,16 +17,14 @@ use Rattle.fc_alloc.specs.declared.owner.Owner.{Owner}
 use Rattle.fc_alloc.specs.Owners.{is_id_owned}
 use Rattle.fc_image.specs.effects.Placed.{front_of}
 use Rattle.fc_image.specs.effects.Settled.{KeepsBits, can_join, zones_with}
-use Rattle.fc_compact.specs.Candidates.{IsLongest, Tries, run_count}
+use Rattle.fc_compact.specs.Candidates.{Tries, run_count}
+use Rattle.fc_compact.specs.Longest.{IsLongest}
 use Rattle.fc_compact.specs.Ready.{is_movable_by}
 use Rattle.fc_compact.specs.Settlement.{one_if}
 use Rattle.fc_compact.specs.Steps.{Leads, Packs}
-use Rattle.fc_compact.proofs.HoldLemmas.{id_bits_long, id_run_between, id_run_low, some_min}
+use Rattle.fc_compact.proofs.FoundLemmas.{or_true}
+use Rattle.fc_compact.proofs.HoldLemmas.{id_bits_long, id_run_between, id_run_low, some_first, some_min}
 use Rattle.fc_compact.proofs.PacksLemmas.{packs_none}
-
-pub here_in : (xs : List ZoneRun) (x : ZoneRun) (ys : List ZoneRun) → Contains (xs ++ x ∷ ys) x
-here_in [] x ys = (0, omega arith, refl)
-here_in (y ∷ xs) x ys = let r = here_in xs x ys in (suc r.0, (let l = r.1 in omega arith), r.2)
 
 -- ---- counts
 
@@ -43,14 +42,6 @@ bits_front xs p ys =
     let all = sum_by-append (λ (q : ZoneRun). q.1.len) xs (p ∷ ys) in
     let one = sum_by-cons (λ (q : ZoneRun). q.1.len) p ys in
     omega (arith, all, one)
-
-pub filter_short : (t : ℕ → Bool) (from n : ℕ) → length (filter t (range_with_len from n)) ≤ n
-filter_short t from zero = omega arith
-filter_short t from (suc n) = by (t from) (filter t (range_with_len (from + 1) n)) (filter_short t (from + 1) n)
-  where
-    by : (b : Bool) (xs : List ℕ) → length xs ≤ n → length (cond b (from ∷ xs) xs) ≤ suc n
-    by true xs short = omega (arith, short)
-    by false xs short = omega (arith, short)
 
 -- ---- tests of three parts
 
@@ -71,10 +62,6 @@ middle_not true b c e = ap (λ (x : Bool). x && c) e
 middle_not false b c e = refl
 
 -- ---- one identifier
-
-some_first : (xs : List ZoneRun) → 0 < length xs → (p : ZoneRun) × (ps : List ZoneRun) × (xs ≡ p ∷ ps)
-some_first [] some = absurd (omega arith)
-some_first (p ∷ ps) some = (p, ps, refl)
 
 module _ (m : Map) (is : IsNewMap m) (id : ℕ) where
   min_some : 0 < length (id_runs m id) → (0 < m.geometry.min) × (m.geometry.min ≤ bits_in (id_runs m id))
@@ -197,10 +184,6 @@ module _ (owners : List Owner) (m m' : Map) (packs : Packs owners m m') where
       there n p [] (k, h, e) f = absurd (omega arith)
       there n p (x ∷ ps) (zero, h, e) f = ap (λ b. b || list_any (λ (q : ZoneRun). has_id id q.1.kind) ps) (ap (λ (q : ZoneRun). has_id id q.1.kind) e ∙ f)
       there n p (x ∷ ps) (suc k, h, e) f = ap (λ b. has_id id x.1.kind || b) (there n p ps (k, omega arith, e) f) ∙ or_true (has_id id x.1.kind)
-        where
-          or_true : (b : Bool) → (b || true) ≡ true
-          or_true true = refl
-          or_true false = refl
 
       found : (ps : List ZoneRun) → list_any (λ (q : ZoneRun). has_id id q.1.kind) ps ≡ true → (p : ZoneRun) × (Contains ps p × (has_id id p.1.kind ≡ true))
       found [] e = absurd (cc)
@@ -246,27 +229,13 @@ all_tried owners m each id may =
 
 -- ---- one owner more
 
-last_or : (xs : List Owner) (x o : Owner) → Contains (xs ++ x ∷ []) o → Contains xs o ⊎ (x ≡ o)
-last_or [] x o (zero, h, e) = inr e
-last_or [] x o (suc k, h, e) = absurd (omega arith)
-last_or (y ∷ xs) x o (zero, h, e) = inl (0, omega arith, e)
-last_or (y ∷ xs) x o (suc k, h, e) = elim (last_or xs x o (k, omega arith, e)) [
-  | inl c ↦ inl (suc c.0, (let l = c.1 in omega arith), c.2)
-  | inr s ↦ inr s
-]
-
-pub owner_in : (list : List Owner) (i : ℕ) (d : Owner) → i < length list → Contains list (get_or list i d)
-owner_in [] i d low = absurd (omega arith)
-owner_in (x ∷ list) zero d low = (0, omega arith, refl)
-owner_in (x ∷ list) (suc i) d low = let r = owner_in list i d (omega (arith, low)) in (suc r.0, (let l = r.1 in omega arith), r.2)
-
 module _ (owners list : List Owner) (m m' : Map) (i : ℕ) (low : i < length list) (d : Owner) (any joined r : Bool) (e : r ≡ (any || joined)) (tries : Tries owners m m' (get_or list i d).id joined) where
   pub falls_more : (base : ℕ) → run_count list m + one_if any ≤ base → run_count list m' + one_if r ≤ base
   falls_more base was = subst (λ (b : Bool). run_count list m' + one_if b ≤ base) (sym e) (by any joined refl was)
     where
       by : (a j : Bool) → joined ≡ j → run_count list m + one_if a ≤ base → run_count list m' + one_if (a || j) ≤ base
-      by true true f h = (let c = count_falls owners m m' tries.packs list (get_or list i d) (owner_in list i d low) (tries.fewer f).1 in omega (arith, c, h))
-      by false true f h = (let c = count_falls owners m m' tries.packs list (get_or list i d) (owner_in list i d low) (tries.fewer f).1 in omega (arith, c, h))
+      by true true f h = (let c = count_falls owners m m' tries.packs list (get_or list i d) (Contains-get_or list i d low) (tries.fewer f).1 in omega (arith, c, h))
+      by false true f h = (let c = count_falls owners m m' tries.packs list (get_or list i d) (Contains-get_or list i d low) (tries.fewer f).1 in omega (arith, c, h))
       by true false f h = (let c = count_same owners m m' tries.packs list in omega (arith, c, h))
       by false false f h = (let c = count_same owners m m' tries.packs list in omega (arith, c, h))
 
@@ -279,13 +248,45 @@ module _ (owners list : List Owner) (m m' : Map) (i : ℕ) (low : i < length lis
       let both = neither any joined (sym e ∙ f) in
       let same = tries.same both.1 in
       ap (λ (n : Map). can_join n o.id) same
-      ∙ elim (last_or (take i list) (get_or list i d) o (subst (λ (l : List Owner). Contains l o) (take_more list i d low) there)) [
+      ∙ elim (Contains-push_cases (take i list) (get_or list i d) o (subst (λ (l : List Owner). Contains l o) (take_more list i d low) there)) [
         | inl c ↦ was both.0 o c may
         | inr s ↦ subst (λ (x : Owner). can_join m x.id ≡ false) s (tries.none both.1 (subst (λ (x : Owner). is_movable_by owners x.id ≡ true) (sym s) may))
       ]
 
 pub all_taken : (list : List Owner) (i : ℕ) → length list ≤ i → (o : Owner) → Contains list o → Contains (take i list) o
 all_taken list i past o there = subst (λ (l : List Owner). Contains l o) (sym (take_all i list past)) there
+
+-- ---- some owners more
+
+both_counts : (m : Map) (xs ys : List Owner) → run_count (xs ++ ys) m ≡ run_count xs m + run_count ys m
+both_counts m xs ys = sum_by-append (λ (o : Owner). length (id_runs m o.id)) xs ys
+
+pub falls_part : (owners : List Owner) (m m' : Map) → Packs owners m m' → (front part rest : List Owner) (any joined r : Bool) (base : ℕ) → r ≡ (any || joined)
+    → run_count part m' + one_if joined ≤ run_count part m → run_count (front ++ (part ++ rest)) m + one_if any ≤ base → run_count (front ++ (part ++ rest)) m' + one_if r ≤ base
+falls_part owners m m' packs front part rest any joined r base e falls was =
+    let one = both_counts m front (part ++ rest) in
+    let two = both_counts m part rest in
+    let three = both_counts m' front (part ++ rest) in
+    let four = both_counts m' part rest in
+    let low = count_same owners m m' packs front in
+    let high = count_same owners m m' packs rest in
+    let flag = ap one_if e in
+    let less = flags any joined in
+    omega (arith, one, two, three, four, low, high, flag, less, falls, was)
+  where
+    flags : (a j : Bool) → one_if (a || j) ≤ one_if a + one_if j
+    flags true true = omega arith
+    flags true false = omega arith
+    flags false true = omega arith
+    flags false false = omega arith
+
+pub none_part : (owners : List Owner) (m m' : Map) → m' ≡ m → (front part : List Owner)
+    → ((o : Owner) → Contains front o → is_movable_by owners o.id ≡ true → can_join m o.id ≡ false) → ((o : Owner) → Contains part o → is_movable_by owners o.id ≡ true → can_join m' o.id ≡ false)
+    → (o : Owner) → Contains (front ++ part) o → is_movable_by owners o.id ≡ true → can_join m' o.id ≡ false
+none_part owners m m' same front part was now o there may = elim (Contains-append_cases front part o there) [
+  | inl before ↦ (ap (λ (n : Map). can_join n o.id) same ∙ was o before may)
+  | inr here ↦ now o here may
+]
 
 -- ---- the longest hole
 

@@ -1,5 +1,5 @@
 -- Runs of identifiers, counted in a table.
-use Rattle.std.proofs.Common.{◌≡◌, ◌≤◌, ℕ, ◌+◌, ◌-◌, Bool, true, false, List, ◌++◌, length, length-append, refl, ap, ◌∙◌, arith}
+use Rattle.std.proofs.Common.{◌≡◌, ◌≤◌, ℕ, ◌+◌, ◌-◌, List, ◌++◌, length, length-append, ap, ◌∙◌, arith}
 use Rattle.std.specs.Prelude.{filter}
 use Rattle.std.specs.List.{range_with_len}
 use Rattle.std.proofs.lemmas.List.Elements.{filter-append}
@@ -8,10 +8,7 @@ use Rattle.fc_newmap.specs.Map.{Map, ZoneRun, all_runs, home_zone, id_runs, runs
 use Rattle.fc_newmap.specs.RunsLaw.{placed}
 use Rattle.fc_newmap.proofs.CoverLemmas.{range_cut}
 use Rattle.fc_newmap.proofs.PlaceLemmas.{home_low}
-use Rattle.fc_alloc.specs.declared.owner.Owner.{Owner}
 use Rattle.fc_compact.specs.Candidates.{AreSeen, SeesFew}
-use Rattle.fc_compact.specs.Ready.{is_movable_by}
-use Rattle.fc_compact.specs.Steps.{Packs}
 use Rattle.fc_newmap.proofs.WalkLemmas.{of_id as of}
 
 -- ---- all runs
@@ -40,11 +37,3 @@ long_same m id some =
 
 pub seen_few : (m : Map) (seen : List ℕ) → 1 ≤ m.geometry.zones → AreSeen seen (all_runs m) → SeesFew seen m
 seen_few m seen some are id few = let here = are id few in let same = long_same m id some in omega (arith, here, same, few)
-
--- steps of compaction give no identifier more runs
-pub few_still : (owners : List Owner) (seen : List ℕ) (m m' : Map) → Packs owners m m' → SeesFew seen m → SeesFew seen m'
-few_still owners seen m m' packs was id few = by (is_movable_by owners id) refl
-  where
-    by : (b : Bool) → is_movable_by owners id ≡ b → length (id_runs m' id) ≤ 1
-    by true may = (let before = was id few in let fewer = packs.runs id may in omega (arith, before, fewer))
-    by false stays = (let before = was id few in let same = ap length (packs.leads.fixed id stays) in omega (arith, before, same))

@@ -59,6 +59,12 @@ has_run_in m id z = list_any (λ (run : Run). has_id id run.kind) (runs_of m z)
 abbrev pub join_zones : Map → ℕ → ℕ → List ℕ
 join_zones m id zone = filter (λ z. (z == zone) || has_run_in m id z) (zone_numbers m.geometry)
 
+-- All runs of the identifier stand in these zones, which rise.
+pub record HoldsRuns (m : Map) (id : ℕ) (zones : List ℕ) : Type 0 where
+  pub test : ℕ → Bool
+  pub are : zones ≡ filter test (zone_numbers m.geometry)
+  pub all : (z : ℕ) → has_run_in m id z ≡ true → test z ≡ true
+
 -- two holes
 abbrev pub are_holes : Run → Run → Bool
 are_holes one two = is_hole one.kind && is_hole two.kind
@@ -102,6 +108,7 @@ pub record AreJoinZones (m : Map) (join : JoinedRun) (zones : List ℕ) : Type 0
   pub rising : IsStrictlyIncreasing zones
   pub low : All (λ y. y < m.geometry.zones) zones
   pub listed : (y : ℕ) → y < m.geometry.zones → is_listed zones y ≡ ((y == join.zone) || has_run_in m join.id y)
+  pub holds : HoldsRuns m join.id zones
 
 -- In its zone the new run stands at the front of the hole, the other runs of the identifier are holes, and holes that touch are one.
 abbrev pub TakesFront : Map → Map → JoinedRun → Type 0

@@ -8,3 +8,5 @@ pub mod Laws
 pub mod Settlement
 pub mod Candidates
 pub mod Rounds
+pub mod Listed
+pub mod Longest

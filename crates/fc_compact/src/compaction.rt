@@ -1,5 +1,5 @@
 // Compaction of a whole map.
-ghost use Rattle.std.specs.Prelude.{◌≡◌, ◌<◌, ◌≤◌, ◌+◌, ◌*◌, false, length, ℕ, IsTrue, IsFalse, OnOk, IfOk};
+ghost use Rattle.std.specs.Prelude.{◌≡◌, ◌<◌, ◌≤◌, ◌+◌, ◌*◌, ◌%◌, false, get_or, ℕ, Contains, IsTrue, IsFalse, OnOk, IfOk};
 ghost use Rattle.std.specs.Option.{ForSome};
 ghost use Rattle.fc_device.specs.Calls.{FailsByFault, SameForm, StopsAndExitsLeave};
 ghost use Rattle.fc_newmap.specs.Map.{id_runs};
@@ -7,54 +7,82 @@ ghost use Rattle.fc_image.specs.Layout.{Layout, disc_sectors};
 ghost use Rattle.fc_image.specs.Moves.{KeepsObjects};
 ghost use Rattle.fc_compact.specs.Ready.{IsReady, Stands, is_movable_by};
 ghost use Rattle.fc_compact.specs.Compaction.{ChangesLoose, CompactedBy, IsSettledBy, ZoneStays};
-ghost use Rattle.fc_compact.specs.Candidates.{AreSettledZones, IsLongest, Tries, TriesAll};
+ghost use Rattle.fc_compact.specs.Candidates.{AreSettledZones, AreTakenIn, IsSurvey, Tries, TriesAll, places};
 ghost use Rattle.fc_compact.specs.Steps.{MoveKeeps, Packs};
 
-use crate::candidates::{has_several, in_few_zones, longest_again, longest_hole};
-use crate::counts::{PLACES, may_have_several, see_runs};
-use crate::joins::join;
+use crate::counts::may_have_several;
+use crate::joins::join_listed;
 use crate::laws;
+use crate::listed::has_several;
 use crate::settlement::{is_movable, settle_all};
+use crate::survey::Survey;
 use fc_alloc::{Owner, Owners};
 use fc_device::{Disk, DiskFault};
 use fc_newmap::NewMap;
-use fc_zone::Run;
 
-// Joins the runs of an identifier, if it has several that the longest hole, `best`, holds. Answers whether it did. If
-// `several` is false it has at most one.
+// Joins the runs of an identifier, if it has several and the longest hole holds them. Answers whether it did.
 fn join_one<D: Disk>(
     disk: &mut D,
     map: &mut NewMap,
     owners: &Owners,
     id: u32,
-    best: Option<(u16, Run)>,
-    several: bool,
+    survey: &mut Survey,
 ) -> Result<bool, DiskFault>
     requires stands { Stands D.Disk disk.old map.old owners.now }
-    requires best { IsLongest map.old best }
-    requires several { several ≡ false → length (id_runs map.old id) ≤ 1 }
+    requires survey { IsSurvey map.old survey.old }
+    requires taken { 2 ≤ get_or survey.old.seen (id % places) 0 → Contains survey.old.candidates.ids.items id }
     ensures keeps { MoveKeeps D.Disk disk.old disk.new map.old map.new owners.now result }
     ensures tries { IfOk result (Tries owners.now map.old map.new id) }
+    ensures survey { OnOk result (IsSurvey map.new survey.new) }
+    ensures seen { survey.new.seen ≡ survey.old.seen }
+    ensures ids { survey.new.candidates.ids ≡ survey.old.candidates.ids }
 {
     laws();
     map.is_map();
-    if !several {
+    if !may_have_several(&survey.seen, id) {
         return Ok(false);
     }
     if !is_movable(owners, id) {
         return Ok(false);
     }
-    let Some((zone, hole)) = best else {
+    let Some((zone, hole)) = survey.best else {
         return Ok(false);
     };
-    if !has_several(map, id, hole.len) {
+    let zones = survey.candidates.zones_of(id);
+    if zones.is_full() {
         return Ok(false);
     }
-    if !in_few_zones(map, id) {
+    if !has_several(map, id, zones, hole.len) {
         return Ok(false);
     }
-    join(disk, map, owners, id, zone, hole.start)?;
+    join_listed(disk, map, owners, id, zone, hole.start, zones)?;
+    survey.follow(map, id, zone);
     Ok(true)
+}
+
+// Tries the identifiers of these owners once, which a survey has taken in. Answers whether one was joined.
+fn join_some<D: Disk>(
+    disk: &mut D,
+    map: &mut NewMap,
+    owners: &Owners,
+    list: &[Owner],
+    survey: &mut Survey,
+) -> Result<bool, DiskFault>
+    requires stands { Stands D.Disk disk.old map.old owners.now }
+    requires survey { IsSurvey map.old survey.old }
+    requires taken { AreTakenIn survey.old.seen survey.old.candidates.ids.items list.now }
+    ensures keeps { MoveKeeps D.Disk disk.old disk.new map.old map.new owners.now result }
+    ensures tries { IfOk result (TriesAll owners.now list.now map.old map.new) }
+    ensures survey { OnOk result (IsSurvey map.new survey.new) }
+{
+    laws();
+    map.is_map();
+    let mut any = false;
+    for owner in list {
+        let joined = join_one(disk, map, owners, owner.id, survey)?;
+        any |= joined;
+    }
+    Ok(any)
 }
 
 // Tries the identifiers of these owners once. Answers whether one was joined.
@@ -70,15 +98,15 @@ fn join_pass<D: Disk>(
 {
     laws();
     map.is_map();
-    let mut seen = [0; PLACES];
-    see_runs(map, &mut seen);
-    let mut best = longest_hole(map);
+    let mut survey = Survey::of(map);
+    let mut left = list;
     let mut any = false;
-    for owner in list {
-        let several = may_have_several(&seen, owner.id);
-        let joined = join_one(disk, map, owners, owner.id, best, several)?;
-        best = longest_again(map, best, joined);
+    while !left.is_empty() {
+        let count = survey.take_in(map, left);
+        let (now, later) = left.split_at(count);
+        let joined = join_some(disk, map, owners, now, &mut survey)?;
         any |= joined;
+        left = later;
     }
     Ok(any)
 }

@@ -1,5 +1,5 @@
 // Identifiers that may have several runs, counted without memory: one pass over a map in place of one for each identifier.
-ghost use Rattle.std.specs.Prelude.{◌≡◌, ◌<◌, ◌%◌, ◌++◌, ◌∷◌, [], false, get_or, length, List};
+ghost use Rattle.std.specs.Prelude.{◌≡◌, ◌<◌, ◌≤◌, ◌%◌, ◌++◌, ◌∷◌, [], false, true, get_or, length, List};
 ghost use Rattle.fc_newmap.specs.Map.{ZoneRun};
 ghost use Rattle.fc_compact.specs.Candidates.{AreSeen, SeesFew, places};
 
@@ -40,7 +40,8 @@ pub fn see_runs(map: &NewMap, seen: &mut [u8])
 // Whether an identifier may have several runs, by these counts.
 pub fn may_have_several(seen: &[u8], id: u32) -> bool
     requires { length seen.now ≡ places }
-    ensures { result ≡ false → get_or seen.now (id % places) 0 < 2 }
+    ensures few { result ≡ false → get_or seen.now (id % places) 0 < 2 }
+    ensures several { result ≡ true → 2 ≤ get_or seen.now (id % places) 0 }
 {
     seen[id as usize % PLACES] >= 2
 }

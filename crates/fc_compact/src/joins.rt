@@ -7,6 +7,7 @@ ghost use Rattle.fc_newmap.specs.Map.{bits_in, hole_runs, id_runs, runs_of};
 ghost use Rattle.fc_image.specs.Layout.{Layout, disc_sectors, hole_sectors, id_sectors, is_among};
 ghost use Rattle.fc_image.specs.effects.Moves.{Joined, with_holes_joined};
 ghost use Rattle.fc_image.specs.effects.Placed.{front_of};
+ghost use Rattle.fc_image.specs.effects.Settled.{zones_with};
 ghost use Rattle.fc_compact.specs.Ready.{IsReady, Stands};
 ghost use Rattle.fc_compact.specs.Slides.{IsPart, run_at};
 ghost use Rattle.fc_compact.specs.Steps.{Leads, MoveKeeps};
@@ -14,24 +15,28 @@ ghost use Rattle.fc_compact.specs.Steps.{Leads, MoveKeeps};
 use crate::copy::copy_row;
 use crate::holes::join_holes;
 use crate::laws;
-use crate::lookup::{bits_of, zones_of};
+use crate::listed::{ListedRuns, bits_of};
+use crate::lookup::{with_zone, zones_of};
 use crate::release::{release_all, take_front};
 use arrayvec::ArrayVec;
 use fc_alloc::Owners;
 use fc_copies::commit;
 use fc_device::{Disk, DiskFault};
-use fc_newmap::{NewMap, RunCursor, extent_of};
+use fc_newmap::{NewMap, extent_of};
 use fc_zone::{Run, RunKind};
 
-// Copies the sectors of all runs of an identifier, in their order, into a hole, to those from sector `to` on, and syncs once.
+// Copies the sectors of all runs of an identifier, which stand in these zones, in their order into a hole, to those from sector
+// `to` on, and syncs once.
 pub fn copy_runs<D: Disk>(
     disk: &mut D,
     map: &NewMap,
     owners: &Owners,
     id: u32,
+    zones: &ArrayVec<u16, 9>,
     to: u64,
 ) -> Result<(), DiskFault>
     requires stands { Stands D.Disk disk.old map.now owners.now }
+    requires zones { HoldsRuns map.now id zones.now.items }
     requires to_on_disc { to + length (id_sectors map.now id) ≤ disc_sectors (Layout.New map.now) }
     requires hole { (i : ℕ) → i < length (id_sectors map.now id) → is_among (hole_sectors (Layout.New map.now)) (to + i) ≡ true }
     ensures keeps { MoveKeeps D.Disk disk.old disk.new map.now map.now owners.now result }
@@ -40,9 +45,9 @@ pub fn copy_runs<D: Disk>(
 {
     laws();
     let g = *map.geometry();
-    let mut cursor = RunCursor::start(map, id);
+    let mut runs = ListedRuns::start(map, id, zones);
     let mut at = to;
-    while let Some((z, run)) = cursor.next(map) {
+    while let Some((z, run)) = runs.next(map) {
         let from = extent_of(&g, z, run);
         copy_row(disk, g.sector, from.first, at, from.sectors)?;
         at += from.sectors;
@@ -62,7 +67,7 @@ struct JoinedRun {
     left: u32,
 }
 
-ghost use Rattle.fc_compact.specs.Joins.{ArePut, AreJoinZones, CanJoin, IsJoin, TakesFront, all_freed, changed_runs};
+ghost use Rattle.fc_compact.specs.Joins.{ArePut, AreJoinZones, CanJoin, HoldsRuns, IsJoin, TakesFront, all_freed, changed_runs};
 
 // Moves all runs of an identifier into one run at the front of a hole, by one commit of the zones of a list, in which all of
 // them stand and the hole too. There no two holes touch afterwards.
@@ -98,7 +103,7 @@ fn join_into<D: Disk>(
         kind: RunKind::Hole,
     };
     let to = extent_of(&g, zone, hole);
-    copy_runs(disk, map, owners, id, to.first)?;
+    copy_runs(disk, map, owners, id, changed, to.first)?;
     let zones = changed.as_slice();
     release_all(map, zones, id);
     take_front(map, zone, start, id, len, left);
@@ -117,6 +122,41 @@ fn front_len(size: u32, bits: u32, min: u32) -> u32
     ensures which { (result ≡ size) ⊎ (result ≡ bits) }
 {
     if size < bits + min { size } else { bits }
+}
+
+// Moves all runs of a movable identifier, which stand in these zones, into one run at the start of a hole, as `join` does.
+pub fn join_listed<D: Disk>(
+    disk: &mut D,
+    map: &mut NewMap,
+    owners: &Owners,
+    id: u32,
+    zone: u16,
+    hole: u32,
+    zones: &ArrayVec<u16, 9>,
+) -> Result<(), DiskFault>
+    requires stands { Stands D.Disk disk.old map.old owners.now }
+    requires runs { CanJoin map.old owners.now id zone hole }
+    requires zones { zones.now.items ≡ zones_with map.old id }
+    ensures keeps { MoveKeeps D.Disk disk.old disk.new map.old map.new owners.now result }
+    ensures one { (run : Run) → Contains (hole_runs map.old) (zone, run) → run.start ≡ hole
+        → OnOk result (id_runs map.new id ≡ (zone, record (front_of map.old.geometry (bits_in (id_runs map.old id)) (zone, run)).1 { kind = Id id }) ∷ []) }
+    ensures others { OnOk result ((k : ℕ) → (k ≡ id → ⊥) → id_runs map.new k ≡ id_runs map.old k) }
+    ensures joined { (run : Run) → Contains (hole_runs map.old) (zone, run) → run.start ≡ hole → OnOk result (Joined map.old map.new id (zone, run)) }
+    ensures leads { OnOk result (Leads owners.now map.old map.new) }
+{
+    let min = map.geometry().min;
+    let bits = bits_of(map, id, zones);
+    let gap = map.run_from(zone, hole);
+    let len = front_len(gap.len, bits, min);
+    let changed = with_zone(zones, zone);
+    let join = JoinedRun {
+        id,
+        zone,
+        start: hole,
+        len,
+        left: gap.len - len,
+    };
+    join_into(disk, map, owners, join, &changed)
 }
 
 /// Moves all runs of a movable identifier into one run at the start of a hole that has room for them, by one commit; the
@@ -143,17 +183,6 @@ pub fn join<D: Disk>(
     ensures joined { (run : Run) → Contains (hole_runs map.old) (zone, run) → run.start ≡ hole → OnOk result (Joined map.old map.new id (zone, run)) }
     ensures leads { OnOk result (Leads owners.now map.old map.new) }
 {
-    let min = map.geometry().min;
-    let bits = bits_of(map, id);
-    let gap = map.run_from(zone, hole);
-    let len = front_len(gap.len, bits, min);
-    let changed = zones_of(map, id, zone);
-    let join = JoinedRun {
-        id,
-        zone,
-        start: hole,
-        len,
-        left: gap.len - len,
-    };
-    join_into(disk, map, owners, join, &changed)
+    let zones = zones_of(map, id);
+    join_listed(disk, map, owners, id, zone, hole, &zones)
 }

@@ -11,12 +11,15 @@ mod copy;
 mod counts;
 mod holes;
 mod joins;
+mod listed;
+mod longest;
 mod lookup;
 mod release;
 mod rounds;
 mod settlement;
 mod shift;
 mod slides;
+mod survey;
 
 ghost use Rattle.fc_compact.specs.Laws.{Laws};
 ghost use Rattle.fc_compact.specs.Compaction.{ByOwnersLaw};

@@ -1,12 +1,13 @@
 // What a join looks up in a map.
-ghost use Rattle.std.specs.Prelude.{◌≡◌, ◌<◌, ◌≤◌, ◌^◌, ◌++◌, ◌∷◌, [], ◌||◌, ◌==◌, true, if◌then◌else◌, length};
-ghost use Rattle.fc_newmap.specs.Map.{bits_in, has_id, id_runs, runs_of};
+ghost use Rattle.std.specs.Prelude.{◌≡◌, ◌<◌, ◌≤◌, ◌+◌, ◌++◌, ◌∷◌, [], true, if◌then◌else◌, filter, length, nat_lt};
+ghost use Rattle.fc_newmap.specs.Map.{has_id, runs_of};
 ghost use Rattle.fc_newmap.specs.RunsLaw.{placed};
 ghost use Rattle.fc_newmap.specs.Walk.{StandsBefore};
-ghost use Rattle.fc_compact.specs.Joins.{has_run_in, join_zones};
+ghost use Rattle.fc_image.specs.effects.Settled.{zones_with};
+ghost use Rattle.fc_compact.specs.Joins.{has_run_in};
 
 use arrayvec::ArrayVec;
-use fc_newmap::{NewMap, RunCursor, Walk};
+use fc_newmap::{NewMap, Walk};
 use fc_zone::RunKind;
 
 // Whether a run is one of an identifier.
@@ -16,30 +17,6 @@ fn has_id(id: u32, kind: RunKind) -> bool
     match kind {
         RunKind::Hole => false,
         RunKind::Id(other) => other == id,
-    }
-}
-
-// The bits of all runs of an identifier, by a search for them.
-fn bits_found(map: &NewMap, id: u32) -> u32
-    requires { bits_in (id_runs map.now id) < 2 ^ 32 }
-    ensures { result ≡ bits_in (id_runs map.now id) }
-{
-    let mut total = 0;
-    let mut cursor = RunCursor::start(map, id);
-    while let Some((_, run)) = cursor.next(map) {
-        total += run.len;
-    }
-    total
-}
-
-// The bits of all runs of an identifier.
-pub fn bits_of(map: &NewMap, id: u32) -> u32
-    requires { bits_in (id_runs map.now id) < 2 ^ 32 }
-    ensures { result ≡ bits_in (id_runs map.now id) }
-{
-    match map.bits_of(id) {
-        Some(bits) => bits as u32,
-        None => bits_found(map, id),
     }
 }
 
@@ -68,14 +45,6 @@ pub fn has_run(map: &NewMap, z: u16, id: u32) -> bool
     false
 }
 
-// Whether a join into a hole of that zone changes a zone.
-fn is_changed(map: &NewMap, z: u16, id: u32, zone: u16) -> bool
-    requires { z < map.now.geometry.zones }
-    ensures { result ≡ ((z == zone) || has_run_in map.now id z) }
-{
-    z == zone || has_run(map, z, id)
-}
-
 // Appends a number to a list, if it is flagged.
 pub fn push_if(changed: &mut ArrayVec<u16, 9>, z: u16, flag: bool)
     requires { flag ≡ true → length changed.old.items < 9 }
@@ -86,16 +55,48 @@ pub fn push_if(changed: &mut ArrayVec<u16, 9>, z: u16, flag: bool)
     }
 }
 
-// The zones that a join into a hole of this zone changes.
-pub fn zones_of(map: &NewMap, id: u32, zone: u16) -> ArrayVec<u16, 9>
-    requires { length (join_zones map.now id zone) ≤ 9 }
-    ensures { result.items ≡ join_zones map.now id zone }
+// The zones in which an identifier has runs.
+pub fn zones_of(map: &NewMap, id: u32) -> ArrayVec<u16, 9>
+    requires { length (zones_with map.now id) ≤ 8 }
+    ensures { result.items ≡ zones_with map.now id }
 {
     let zones = map.geometry().zones;
-    let mut changed: ArrayVec<u16, 9> = ArrayVec::new();
+    let mut found: ArrayVec<u16, 9> = ArrayVec::new();
     for z in 0..zones {
-        let flag = is_changed(map, z, id, zone);
-        push_if(&mut changed, z, flag);
+        let flag = has_run(map, z, id);
+        push_if(&mut found, z, flag);
     }
+    found
+}
+
+// Appends those of some zones that are above a zone.
+pub fn push_above(list: &mut ArrayVec<u16, 9>, zones: &[u16], z: u16)
+    requires { length list.old.items + length (filter (λ y. nat_lt z y) zones.now) ≤ 9 }
+    ensures { list.new.items ≡ list.old.items ++ filter (λ y. nat_lt z y) zones.now }
+{
+    for y in zones {
+        push_if(list, *y, z < *y);
+    }
+}
+
+// Appends those of some zones that are below a zone.
+pub fn push_below(list: &mut ArrayVec<u16, 9>, zones: &[u16], z: u16)
+    requires { length list.old.items + length (filter (λ y. nat_lt y z) zones.now) ≤ 9 }
+    ensures { list.new.items ≡ list.old.items ++ filter (λ y. nat_lt y z) zones.now }
+{
+    for y in zones {
+        push_if(list, *y, *y < z);
+    }
+}
+
+// The zones that a join into a hole of this zone changes, by those in which the identifier has runs.
+pub fn with_zone(zones: &ArrayVec<u16, 9>, zone: u16) -> ArrayVec<u16, 9>
+    requires { length zones.now.items ≤ 8 }
+    ensures { result.items ≡ filter (λ y. nat_lt y zone) zones.now.items ++ zone ∷ filter (λ y. nat_lt zone y) zones.now.items }
+{
+    let mut changed: ArrayVec<u16, 9> = ArrayVec::new();
+    push_below(&mut changed, zones, zone);
+    changed.push(zone);
+    push_above(&mut changed, zones, zone);
     changed
 }

@@ -14,6 +14,7 @@ ghost use Rattle.fc_compact.specs.Steps.{MoveKeeps, Packs};
 use crate::copy::copy_row;
 use crate::holes::join_holes_in;
 use crate::laws;
+use crate::longest::ZONES;
 use crate::lookup::push_if;
 use crate::settlement::is_movable;
 use crate::shift::{Slide, shift};
@@ -193,12 +194,13 @@ fn gather_runs<D: Disk>(
 }
 
 // Draws runs up into the holes of a zone, and joins holes that touch. Nothing is synced or committed. Answers whether a run
-// was drawn.
+// was drawn. A quiet zone, in which none was the last time, is passed by: nothing in it has changed since.
 fn gather_zone<D: Disk>(
     disk: &mut D,
     map: &mut NewMap,
     owners: &Owners,
     z: u16,
+    quiet: &mut [bool; ZONES],
 ) -> Result<bool, DiskFault>
     requires disc { HoldsDisc D.Disk disk.old map.old }
     requires zone { z < map.old.geometry.zones }
@@ -213,7 +215,11 @@ fn gather_zone<D: Disk>(
 {
     laws();
     map.is_map();
+    if quiet[z as usize] {
+        return Ok(false);
+    }
     let any = gather_runs(disk, map, owners, z)?;
+    quiet[z as usize] = !any;
     if !any {
         return Ok(false);
     }
@@ -230,6 +236,7 @@ fn gather_zones<D: Disk>(
     from: u16,
     end: u16,
     changed: &mut ArrayVec<u16, 9>,
+    quiet: &mut [bool; ZONES],
 ) -> Result<u16, DiskFault>
     requires disc { HoldsDisc D.Disk disk.old map.old }
     requires settled { IsFalse (D.pending disk.old) }
@@ -251,7 +258,7 @@ fn gather_zones<D: Disk>(
         if changed.is_full() {
             return Ok(z);
         }
-        let any = gather_zone(disk, map, owners, z)?;
+        let any = gather_zone(disk, map, owners, z, quiet)?;
         push_if(changed, z, any);
     }
     Ok(end)
@@ -265,6 +272,7 @@ pub fn gather<D: Disk>(
     owners: &Owners,
     from: u16,
     end: u16,
+    quiet: &mut [bool; ZONES],
 ) -> Result<Gathered, DiskFault>
     requires stands { Stands D.Disk disk.old map.old owners.now }
     requires some { from < end }
@@ -275,7 +283,7 @@ pub fn gather<D: Disk>(
     laws();
     map.is_map();
     let mut changed: ArrayVec<u16, 9> = ArrayVec::new();
-    let next = gather_zones(disk, map, owners, from, end, &mut changed)?;
+    let next = gather_zones(disk, map, owners, from, end, &mut changed, quiet)?;
     if changed.is_empty() {
         return Ok(Gathered { next, any: false });
     }
@@ -285,7 +293,12 @@ pub fn gather<D: Disk>(
 }
 
 // Draws runs up in all zones, nine zones to a commit. Answers whether one was drawn.
-fn gather_all<D: Disk>(disk: &mut D, map: &mut NewMap, owners: &Owners) -> Result<bool, DiskFault>
+fn gather_all<D: Disk>(
+    disk: &mut D,
+    map: &mut NewMap,
+    owners: &Owners,
+    quiet: &mut [bool; ZONES],
+) -> Result<bool, DiskFault>
     requires stands { Stands D.Disk disk.old map.old owners.now }
     ensures keeps { MoveKeeps D.Disk disk.old disk.new map.old map.new owners.now result }
     ensures packs { OnOk result (Packs owners.now map.old map.new) }
@@ -297,18 +310,19 @@ fn gather_all<D: Disk>(disk: &mut D, map: &mut NewMap, owners: &Owners) -> Resul
     let mut next = 0;
     let mut any = false;
     while next < zones {
-        let step = gather(disk, map, owners, next, zones)?;
+        let step = gather(disk, map, owners, next, zones, quiet)?;
         next = step.next;
         any |= step.any;
     }
     Ok(any)
 }
 
-// Draws runs up in all zones, again and again until none moves.
+// Draws runs up in all zones that aren't quiet, again and again until none moves.
 pub fn gather_rounds<D: Disk>(
     disk: &mut D,
     map: &mut NewMap,
     owners: &Owners,
+    quiet: &mut [bool; ZONES],
 ) -> Result<(), DiskFault>
     requires stands { Stands D.Disk disk.old map.old owners.now }
     ensures keeps { MoveKeeps D.Disk disk.old disk.new map.old map.new owners.now result }
@@ -318,7 +332,7 @@ pub fn gather_rounds<D: Disk>(
     map.is_map();
     let mut any = true;
     while any {
-        any = gather_all(disk, map, owners)?;
+        any = gather_all(disk, map, owners, quiet)?;
     }
     Ok(())
 }

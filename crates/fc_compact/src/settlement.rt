@@ -13,6 +13,7 @@ ghost use Rattle.fc_compact.specs.Slides.{HasRuns};
 ghost use Rattle.fc_compact.specs.Steps.{MoveKeeps, Packs};
 
 use crate::laws;
+use crate::longest::ZONES;
 use crate::lookup::walk_in;
 use crate::rounds::{gather, gather_rounds};
 use crate::slides::{commit_zone, slide};
@@ -217,6 +218,7 @@ fn settle_more<D: Disk>(
     map: &mut NewMap,
     owners: &Owners,
     z: u16,
+    quiet: &mut [bool; ZONES],
 ) -> Result<bool, DiskFault>
     requires stands { Stands D.Disk disk.old map.old owners.now }
     requires zone { z < map.old.geometry.zones }
@@ -226,7 +228,8 @@ fn settle_more<D: Disk>(
     laws();
     map.is_map();
     let end = end_of(map.geometry(), z);
-    let gathered = gather(disk, map, owners, z, end)?;
+    quiet[z as usize] = false;
+    let gathered = gather(disk, map, owners, z, end, quiet)?;
     if gathered.any {
         return Ok(true);
     }
@@ -239,6 +242,7 @@ fn settle_zone<D: Disk>(
     map: &mut NewMap,
     owners: &Owners,
     z: u16,
+    quiet: &mut [bool; ZONES],
 ) -> Result<(), DiskFault>
     requires stands { Stands D.Disk disk.old map.old owners.now }
     requires zone { z < map.old.geometry.zones }
@@ -250,7 +254,7 @@ fn settle_zone<D: Disk>(
     laws();
     map.is_map();
     while !is_settled_in(map, owners, z) {
-        settle_more(disk, map, owners, z)?;
+        settle_more(disk, map, owners, z, quiet)?;
     }
     Ok(())
 }
@@ -274,9 +278,10 @@ pub fn settle_all<D: Disk>(disk: &mut D, map: &mut NewMap, owners: &Owners) -> R
     laws();
     map.is_map();
     let zones = map.geometry().zones;
-    gather_rounds(disk, map, owners)?;
+    let mut quiet = [false; ZONES];
+    gather_rounds(disk, map, owners, &mut quiet)?;
     for z in 0..zones {
-        settle_zone(disk, map, owners, z)?;
+        settle_zone(disk, map, owners, z, &mut quiet)?;
     }
     Ok(())
 }

@@ -18,7 +18,25 @@ use Rattle.fc_compact.proofs.GoneLemmas.{cause_then, kept}
 use Rattle.fc_compact.proofs.KeptLemmas.{can_write, committed_geometry}
 use Rattle.fc_compact.proofs.ListedLemmas.{unlisted}
 use Rattle.fc_compact.proofs.PreservesLemmas.{preserves_then}
+use Rattle.fc_compact.proofs.joins.join_into.Given.{Over}
 use Rattle.fc_compact.proofs.joins.join_into.Goals as goal
+use Rattle.fc_compact.proofs.joins.join_into.Goals.{After-commit}
+
+listed : (g : Over) (c : After-commit g) → (y : ℕ) → y < c.args.map.now.geometry.zones → is_listed c.as_slice-zones.result.now y ≡ ((y == c.args.join.zone) || has_run_in c.args.map.now c.args.join.id y)
+listed g c y low = ap (λ (xs : List ℕ). is_listed xs y) c.as_slice-zones.ensures.value ∙ c.requires.zones.listed y low
+
+joins : (g : Over) (c : After-commit g)
+    → Joins c.args.map.now c.release_all.new.map c.take_front.new.map c.join_holes.new.map c.commit.new.map c.args.join.id c.args.join.zone c.args.join.start c.args.join.len c.args.join.left c.as_slice-zones.result.now
+joins g c = record {
+  released = c.release_all.ensures.edits;
+  runs_n = c.release_all.ensures.runs;
+  edit = c.take_front.ensures.edit;
+  taken = c.take_front.ensures.runs;
+  touching = c.join_holes.ensures.edits;
+  runs_p = c.join_holes.ensures.runs;
+  runs = c.commit.ensures.runs;
+  contents = c.commit.ensures.contents;
+}
 
 pub extent_of-to-requires-clause-run : goal.extent_of-to-requires-clause-run
 extent_of-to-requires-clause-run g c =
@@ -107,16 +125,12 @@ returns-clause-keeps g c =
     let m = a.map.now in
     let req = c.requires in
     let n = c.release_all.new.map in
-    let changed = a.changed.now.items in
-    let listed_is = c.as_slice-zones.ensures.value in
     let o = c.take_front.new.map in
     let p = c.join_holes.new.map in
     let last = c.commit.new.map in
     let zones = c.as_slice-zones.result.now in
-    let listed : (y : ℕ) → y < m.geometry.zones → is_listed zones y ≡ ((y == a.join.zone) || has_run_in m a.join.id y) = λ y low. ap (λ (xs : List ℕ). is_listed xs y) listed_is ∙ req.zones.listed y low in
     let is = c.geometry.ensures.map in
-    let joins : Joins m n o p last a.join.id a.join.zone a.join.start a.join.len a.join.left zones =
-    record { released = c.release_all.ensures.edits; runs_n = c.release_all.ensures.runs; edit = c.take_front.ensures.edit; taken = c.take_front.ensures.runs; touching = c.join_holes.ensures.edits; runs_p = c.join_holes.ensures.runs; runs = c.commit.ensures.runs; contents = c.commit.ensures.contents } in
+    let at = (goal.at.returns-clause-keeps g c).After-commit in
     let geo = c.geometry.ensures.value in
     let to_is : c.extent_of-to.result.first ≡ first_sector m.geometry (a.join.zone, hole_at a.join.start (a.join.len + a.join.left)) = ap (λ e. e.first) c.extent_of-to.ensures ∙ ap (λ (h : Geometry). first_sector h (a.join.zone, hole_at a.join.start a.join.len)) geo in
     let put : (was : List ℕ) → g.D.Disk.bytes c.copy_runs.new.disk ≡ Some was → ArePut m.geometry.sector (first_sector m.geometry (a.join.zone, hole_at a.join.start (a.join.len + a.join.left))) (id_sectors m a.join.id) was =
@@ -127,104 +141,42 @@ returns-clause-keeps g c =
     kept a.owners.now a.disk.now c.commit.new.disk m last req.stands c.commit.result
     (keeps_then law (preserves_then c.laws.ensures m a.owners.now) ok.keeps.leaves
     (keeps_told law c.commit.ensures.keeps
-    (λ was image told left. joined_preserves c.laws.ensures m n o p last a.owners.now is a.join.id a.join.zone a.join.start a.join.len a.join.left zones req.join.zone joins req.join.hole listed was (ok.still_ready was told) req.join.movable req.join.enough (put was told) image left)))
+    (λ was image told left. joined_preserves c.laws.ensures m n o p last a.owners.now is a.join.id a.join.zone a.join.start a.join.len a.join.left zones req.join.zone (joins g at) req.join.hole (listed g at) was (ok.still_ready was told) req.join.movable req.join.enough (put was told) image left)))
     (on_ok_weaker c.commit.result
     (λ ends image is_now.
     let before = led law c.commit.ensures.keeps image is_now in
-    joined_ready c.laws.ensures m n o p last a.owners.now is a.join.id a.join.zone a.join.start a.join.len a.join.left zones req.join.zone joins req.join.hole listed before.0 (ok.still_ready before.0 before.1) req.join.movable req.join.enough (put before.0 before.1) image (ends before.0 before.1 image is_now))
+    joined_ready c.laws.ensures m n o p last a.owners.now is a.join.id a.join.zone a.join.start a.join.len a.join.left zones req.join.zone (joins g at) req.join.hole (listed g at) before.0 (ok.still_ready before.0 before.1) req.join.movable req.join.enough (put before.0 before.1) image (ends before.0 before.1 image is_now))
     c.commit.ensures.ends)
     c.commit.ensures.durable (committed_geometry m p last edits c.commit.ensures.runs c.commit.ensures.contents) (form_then g.D.Disk ok.keeps.form c.commit.ensures.form)
     (cause_then g.D.Disk a.disk.now c.copy_runs.new.disk c.commit.new.disk c.commit.result ok.keeps.cause.later c.commit.ensures.cause)
 
 pub returns-clause-one : goal.returns-clause-one
 returns-clause-one g c =
-    let a = c.args in
-    let m = a.map.now in
-    let req = c.requires in
-    let n = c.release_all.new.map in
-    let changed = a.changed.now.items in
-    let listed_is = c.as_slice-zones.ensures.value in
-    let o = c.take_front.new.map in
-    let p = c.join_holes.new.map in
-    let last = c.commit.new.map in
-    let zones = c.as_slice-zones.result.now in
-    let listed : (y : ℕ) → y < m.geometry.zones → is_listed zones y ≡ ((y == a.join.zone) || has_run_in m a.join.id y) = λ y low. ap (λ (xs : List ℕ). is_listed xs y) listed_is ∙ req.zones.listed y low in
-    let is = c.geometry.ensures.map in
-    let joins : Joins m n o p last a.join.id a.join.zone a.join.start a.join.len a.join.left zones =
-    record { released = c.release_all.ensures.edits; runs_n = c.release_all.ensures.runs; edit = c.take_front.ensures.edit; taken = c.take_front.ensures.runs; touching = c.join_holes.ensures.edits; runs_p = c.join_holes.ensures.runs; runs = c.commit.ensures.runs; contents = c.commit.ensures.contents } in
-    on_ok_weaker c.commit.result (λ done. joined_one c.laws.ensures m n o p last a.owners.now is a.join.id a.join.zone a.join.start a.join.len a.join.left zones req.join.zone joins req.join.hole listed) c.commit.ensures.durable
+    let j = c.args.join in
+    let at = (goal.at.returns-clause-one g c).After-commit in
+    on_ok_weaker c.commit.result (λ done. joined_one c.laws.ensures c.args.map.now c.release_all.new.map c.take_front.new.map c.join_holes.new.map c.commit.new.map c.args.owners.now c.geometry.ensures.map j.id j.zone j.start j.len j.left c.as_slice-zones.result.now c.requires.join.zone (joins g at) c.requires.join.hole (listed g at)) c.commit.ensures.durable
 
 pub returns-clause-others : goal.returns-clause-others
 returns-clause-others g c =
-    let a = c.args in
-    let m = a.map.now in
-    let req = c.requires in
-    let n = c.release_all.new.map in
-    let changed = a.changed.now.items in
-    let listed_is = c.as_slice-zones.ensures.value in
-    let o = c.take_front.new.map in
-    let p = c.join_holes.new.map in
-    let last = c.commit.new.map in
-    let zones = c.as_slice-zones.result.now in
-    let listed : (y : ℕ) → y < m.geometry.zones → is_listed zones y ≡ ((y == a.join.zone) || has_run_in m a.join.id y) = λ y low. ap (λ (xs : List ℕ). is_listed xs y) listed_is ∙ req.zones.listed y low in
-    let is = c.geometry.ensures.map in
-    let joins : Joins m n o p last a.join.id a.join.zone a.join.start a.join.len a.join.left zones =
-    record { released = c.release_all.ensures.edits; runs_n = c.release_all.ensures.runs; edit = c.take_front.ensures.edit; taken = c.take_front.ensures.runs; touching = c.join_holes.ensures.edits; runs_p = c.join_holes.ensures.runs; runs = c.commit.ensures.runs; contents = c.commit.ensures.contents } in
-    on_ok_weaker c.commit.result (λ done k other. joined_others c.laws.ensures m n o p last a.owners.now is a.join.id a.join.zone a.join.start a.join.len a.join.left zones req.join.zone joins req.join.hole listed k other) c.commit.ensures.durable
+    let j = c.args.join in
+    let at = (goal.at.returns-clause-others g c).After-commit in
+    on_ok_weaker c.commit.result (λ done k other. joined_others c.laws.ensures c.args.map.now c.release_all.new.map c.take_front.new.map c.join_holes.new.map c.commit.new.map c.args.owners.now c.geometry.ensures.map j.id j.zone j.start j.len j.left c.as_slice-zones.result.now c.requires.join.zone (joins g at) c.requires.join.hole (listed g at) k other) c.commit.ensures.durable
 
 pub returns-clause-leads : goal.returns-clause-leads
 returns-clause-leads g c =
-    let a = c.args in
-    let m = a.map.now in
-    let req = c.requires in
-    let n = c.release_all.new.map in
-    let changed = a.changed.now.items in
-    let listed_is = c.as_slice-zones.ensures.value in
-    let o = c.take_front.new.map in
-    let p = c.join_holes.new.map in
-    let last = c.commit.new.map in
-    let zones = c.as_slice-zones.result.now in
-    let listed : (y : ℕ) → y < m.geometry.zones → is_listed zones y ≡ ((y == a.join.zone) || has_run_in m a.join.id y) = λ y low. ap (λ (xs : List ℕ). is_listed xs y) listed_is ∙ req.zones.listed y low in
-    let is = c.geometry.ensures.map in
-    let joins : Joins m n o p last a.join.id a.join.zone a.join.start a.join.len a.join.left zones =
-    record { released = c.release_all.ensures.edits; runs_n = c.release_all.ensures.runs; edit = c.take_front.ensures.edit; taken = c.take_front.ensures.runs; touching = c.join_holes.ensures.edits; runs_p = c.join_holes.ensures.runs; runs = c.commit.ensures.runs; contents = c.commit.ensures.contents } in
-    on_ok_weaker c.commit.result (λ done. joined_leads c.laws.ensures m n o p last a.owners.now is a.join.id a.join.zone a.join.start a.join.len a.join.left zones req.join.zone joins req.join.hole listed req.join.movable) c.commit.ensures.durable
+    let j = c.args.join in
+    let at = (goal.at.returns-clause-leads g c).After-commit in
+    on_ok_weaker c.commit.result (λ done. joined_leads c.laws.ensures c.args.map.now c.release_all.new.map c.take_front.new.map c.join_holes.new.map c.commit.new.map c.args.owners.now c.geometry.ensures.map j.id j.zone j.start j.len j.left c.as_slice-zones.result.now c.requires.join.zone (joins g at) c.requires.join.hole (listed g at) c.requires.join.movable) c.commit.ensures.durable
 
 pub returns-clause-taken : goal.returns-clause-taken
 returns-clause-taken g c =
-    let a = c.args in
-    let m = a.map.now in
-    let req = c.requires in
-    let n = c.release_all.new.map in
-    let changed = a.changed.now.items in
-    let listed_is = c.as_slice-zones.ensures.value in
-    let o = c.take_front.new.map in
-    let p = c.join_holes.new.map in
-    let last = c.commit.new.map in
-    let zones = c.as_slice-zones.result.now in
-    let listed : (y : ℕ) → y < m.geometry.zones → is_listed zones y ≡ ((y == a.join.zone) || has_run_in m a.join.id y) = λ y low. ap (λ (xs : List ℕ). is_listed xs y) listed_is ∙ req.zones.listed y low in
-    let is = c.geometry.ensures.map in
-    let joins : Joins m n o p last a.join.id a.join.zone a.join.start a.join.len a.join.left zones =
-    record { released = c.release_all.ensures.edits; runs_n = c.release_all.ensures.runs; edit = c.take_front.ensures.edit; taken = c.take_front.ensures.runs; touching = c.join_holes.ensures.edits; runs_p = c.join_holes.ensures.runs; runs = c.commit.ensures.runs; contents = c.commit.ensures.contents } in
-    on_ok_weaker c.commit.result (λ done front rest was. joined_taken c.laws.ensures m n o p last a.owners.now is a.join.id a.join.zone a.join.start a.join.len a.join.left zones req.join.zone joins req.join.hole listed front rest was) c.commit.ensures.durable
+    let j = c.args.join in
+    let at = (goal.at.returns-clause-taken g c).After-commit in
+    on_ok_weaker c.commit.result (λ done front rest was. joined_taken c.laws.ensures c.args.map.now c.release_all.new.map c.take_front.new.map c.join_holes.new.map c.commit.new.map c.args.owners.now c.geometry.ensures.map j.id j.zone j.start j.len j.left c.as_slice-zones.result.now c.requires.join.zone (joins g at) c.requires.join.hole (listed g at) front rest was) c.commit.ensures.durable
 
 pub returns-clause-freed : goal.returns-clause-freed
 returns-clause-freed g c =
-    let a = c.args in
-    let m = a.map.now in
-    let req = c.requires in
-    let n = c.release_all.new.map in
-    let changed = a.changed.now.items in
-    let listed_is = c.as_slice-zones.ensures.value in
-    let o = c.take_front.new.map in
-    let p = c.join_holes.new.map in
-    let last = c.commit.new.map in
-    let zones = c.as_slice-zones.result.now in
-    let listed : (y : ℕ) → y < m.geometry.zones → is_listed zones y ≡ ((y == a.join.zone) || has_run_in m a.join.id y) = λ y low. ap (λ (xs : List ℕ). is_listed xs y) listed_is ∙ req.zones.listed y low in
-    let is = c.geometry.ensures.map in
-    let joins : Joins m n o p last a.join.id a.join.zone a.join.start a.join.len a.join.left zones =
-    record { released = c.release_all.ensures.edits; runs_n = c.release_all.ensures.runs; edit = c.take_front.ensures.edit; taken = c.take_front.ensures.runs; touching = c.join_holes.ensures.edits; runs_p = c.join_holes.ensures.runs; runs = c.commit.ensures.runs; contents = c.commit.ensures.contents } in
-    on_ok_weaker c.commit.result
-    (λ done y other. subst (λ (xs : List ℕ). runs_of last y ≡ changed_runs (λ runs. with_holes_joined (all_freed a.join.id runs)) xs y (runs_of m y)) listed_is
-    (joined_freed c.laws.ensures m n o p last a.owners.now is a.join.id a.join.zone a.join.start a.join.len a.join.left zones req.join.zone joins req.join.hole listed y other))
-    c.commit.ensures.durable
+    let j = c.args.join in
+    let at = (goal.at.returns-clause-freed g c).After-commit in
+    on_ok_weaker c.commit.result (λ done y other. subst (λ (xs : List ℕ). runs_of c.commit.new.map y ≡ changed_runs (λ runs. with_holes_joined (all_freed j.id runs)) xs y (runs_of c.args.map.now y)) c.as_slice-zones.ensures.value
+    (joined_freed c.laws.ensures c.args.map.now c.release_all.new.map c.take_front.new.map c.join_holes.new.map c.commit.new.map c.args.owners.now c.geometry.ensures.map j.id j.zone j.start j.len j.left c.as_slice-zones.result.now c.requires.join.zone (joins g at) c.requires.join.hole (listed g at) y other)) c.commit.ensures.durable

@@ -6,6 +6,9 @@ use Rattle.fc_compact.proofs.CarryLemmas.{carrying_same}
 use Rattle.fc_compact.proofs.DrawnLemmas.{drawn_none, drawn_sectors, drawn_zone}
 use Rattle.fc_compact.proofs.rounds.gather_zone.Goals as goal
 
+pub returns-then-quiet-z-clause-drawn : goal.returns-then-quiet-z-clause-drawn
+returns-then-quiet-z-clause-drawn g c = drawn_none c.args.owners.now c.args.map.now c.args.z c.is_map.ensures
+
 pub returns-then-not-any-clause-drawn : goal.returns-then-not-any-clause-drawn
 returns-then-not-any-clause-drawn g c =
     let m = c.args.map.now in
