@@ -43,7 +43,7 @@ judged_refused read_only c h (Refused r) is v image sound held =
 judged_refused read_only c h NoMemory is v image sound held = no_memory (Unit {0}) (refusal_in v image read_only c)
 judged_refused read_only c h DiskFault is v image sound held = absurd is
 
-no_fault : (read_only : Bool) (c : Command) (h : Parts) (error : CommandError) → IsRefusalOf read_only c h error → error ≡ DiskFault → ⊥
+pub no_fault : (read_only : Bool) (c : Command) (h : Parts) (error : CommandError) → IsRefusalOf read_only c h error → error ≡ DiskFault → ⊥
 no_fault read_only c h (Refused r) is e = cc
 no_fault read_only c h NoMemory is e = cc
 no_fault read_only c h DiskFault is e = absurd is
@@ -98,3 +98,7 @@ module _ {D : Type 0} (d : Ghosts D) (law : Laws d) (c : Command) where
 pub ok_then : {T E : Type 0} {A B : Type 0} (r : Result T E) → (A → B) → OnOk r A → OnOk r B
 ok_then (Ok value) f a = f a
 ok_then (Err e) f a = a
+
+pub ok_both : {T E : Type 0} {A B C : Type 0} (r : Result T E) → (A → B → C) → OnOk r A → OnOk r B → OnOk r C
+ok_both (Ok value) f a b = f a b
+ok_both (Err e) f a b = a

@@ -11,6 +11,7 @@ use Rattle.fc_tree.specs.Parts.{ArePartsOf, Parts}
 use Rattle.fc_change.specs.declared.job.Job.{Job}
 use Rattle.fc_holdings.specs.declared.error.CommandError.{CommandError}
 use Rattle.fc_holdings.specs.declared.error.CommandError.TheVariants.{Refused, NoMemory, DiskFault}
+use Rattle.fc_course.specs.Given.{IsFilling}
 use Rattle.fc_course.specs.Jobs.{IsJobFor}
 use Rattle.fc_course.specs.Promises.{IsAsBefore, IsUnderWay}
 use Rattle.fc_commands.specs.declared.judged.Judged.{Judged}
@@ -46,3 +47,11 @@ pub record IsInProgress (c : Command) (h : Parts) (was image : List ℕ) : Type 
 -- What a crash at any moment and every exit leaves.
 abbrev pub CommandLeaves : Command → Parts → List ℕ → List ℕ → Type 0
 CommandLeaves c h was image = IsAsBefore h.layout was image ⊎ IsInProgress c h was image
+
+-- A job of the command has space for what comes, and no other sector has changed.
+pub record FillsPlace (c : Command) (h : Parts) (was image : List ℕ) : Type 0 where
+  pub job : Job
+  pub name : List ℕ
+  pub bytes : List ℕ
+  pub of_command : IsJobFor c h job name bytes
+  pub filling : IsFilling h job name was image

@@ -4,4 +4,5 @@ pub mod delete;
 pub mod mark;
 pub mod rename;
 pub mod save;
+pub mod save_from;
 pub mod set;

@@ -11,6 +11,7 @@ pub use commands::delete::{delete, delete_job};
 pub use commands::mark::{can_mark, mark, mark_job};
 pub use commands::rename::{rename, rename_job};
 pub use commands::save::{create, file_job, save};
+pub use commands::save_from::save_from;
 pub use commands::set::{set, set_job};
-pub use fc_course::{CommandError, Holdings};
+pub use fc_course::{CommandError, GivenError, Holdings};
 pub use judged::Judged;

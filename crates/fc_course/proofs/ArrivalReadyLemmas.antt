@@ -41,7 +41,8 @@ use Rattle.fc_course.proofs.ArrivalEditLemmas.{AreItsBytes, CanSayOwn, empty_in}
 use Rattle.fc_course.proofs.ArrivalPlaceLemmas.{IsItsPlace}
 use Rattle.fc_course.proofs.ArrivalStageLemmas.{IsArrivalChange, OwnsDraft}
 use Rattle.fc_course.proofs.EmptySpaceLemmas.{one_piece}
-use Rattle.fc_course.proofs.FilledLemmas.{filled, stored_filled}
+use Rattle.fc_course.specs.Given.{filled}
+use Rattle.fc_course.proofs.FilledLemmas.{stored_filled}
 use Rattle.fc_course.proofs.PutLemmas.{CopiesNone, are_contents, contents_of, put_of}
 use Rattle.fc_image.proofs.EntriesLemmas.{later as contains_later, cases as contains_cases}
 

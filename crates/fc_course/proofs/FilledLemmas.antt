@@ -12,10 +12,7 @@ use Rattle.fc_writing.specs.Content.{Content, numbered, stored}
 use Rattle.fc_change.specs.declared.job.FileWords.{FileWords}
 use Rattle.fc_course.proofs.ArrivalLemmas.{Arrival, Brings}
 use Rattle.fc_objects.proofs.WriteLemmas.{zeros_front}
-
--- all bytes of a file of so many, by those that are given
-abbrev pub filled : ℕ → List ℕ → List ℕ
-filled len bytes = bytes ++ replicate (len - length bytes) 0
+use Rattle.fc_course.specs.Given.{filled}
 
 pub filled_long : (len : ℕ) (bytes : List ℕ) → length bytes ≤ len → length (filled len bytes) ≡ len
 filled_long len bytes fits = omega (arith, fits, length-append bytes (replicate (len - length bytes) 0), length-replicate {A = ℕ} (len - length bytes) 0)

@@ -32,7 +32,7 @@ use Rattle.fc_tree.proofs.WalkedLemmas.{same_some}
 use Rattle.fc_writing.specs.declared.ready.Source.{Source}
 use Rattle.fc_change.specs.Drafts.{IsMade, IsTurnedBy}
 use Rattle.fc_course.proofs.ArrivalLemmas.{Arrival, entry_of, job_of}
-use Rattle.fc_course.proofs.FilledLemmas.{filled}
+use Rattle.fc_course.specs.Given.{filled}
 use Rattle.fc_course.proofs.GrownSaidLemmas.{IsOwnListing}
 use Rattle.fc_course.proofs.NewDoneLemmas.{IsPlacedAs}
 use Rattle.fc_course.proofs.PutLemmas.{CopiesNone}

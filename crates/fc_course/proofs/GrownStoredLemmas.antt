@@ -36,7 +36,8 @@ use Rattle.fc_writing.specs.Ready.{source_content}
 use Rattle.fc_change.specs.declared.spaces.Place.{Place}
 use Rattle.fc_course.proofs.ArrivalLemmas.{Arrival, Brings, bytes_of}
 use Rattle.fc_course.proofs.ArrivalEditLemmas.{MakesIt}
-use Rattle.fc_course.proofs.FilledLemmas.{filled, filled_long, given_long, makes_file, stored_filled}
+use Rattle.fc_course.specs.Given.{filled}
+use Rattle.fc_course.proofs.FilledLemmas.{filled_long, given_long, makes_file, stored_filled}
 use Rattle.fc_course.proofs.GrownComerLemmas.{OwnsDraft, WritesIt, given_to, object_for, own_listings}
 use Rattle.fc_course.proofs.GrownSaidLemmas.{comes_to}
 use Rattle.fc_course.proofs.NewDoneLemmas.{IsPlacedAs}

@@ -32,6 +32,8 @@ pub mod ArrivalStageLemmas
 pub mod ArrivalEditLemmas
 pub mod ArrivalPartsLemmas
 pub mod FilledLemmas
+pub mod GivenLemmas
+pub mod GivenJobLemmas
 pub mod ArrivalReadyLemmas
 pub mod TwoPieceLemmas
 pub mod ArrivalPreparedLemmas
@@ -172,3 +174,6 @@ pub mod GrownNewRunLemmas
 pub mod GrownNewLawsLemmas
 pub mod GrownComerLemmas
 pub mod GrownStoredLemmas
+pub mod FreePlaceLemmas
+pub mod AlikeLemmas
+pub mod TakenBackLemmas

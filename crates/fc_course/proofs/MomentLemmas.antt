@@ -49,7 +49,7 @@ steps_map (Layout.Old space) r bytes was image is leaves = record {
 }
 
 -- the map of an image of which it is known
-known_map : (copies : Copies) (layout : Layout) (was : List ℕ) → CopiesAre copies layout was → SameMap layout was was
+pub known_map : (copies : Copies) (layout : Layout) (was : List ℕ) → CopiesAre copies layout was → SameMap layout was was
 known_map Equal (Layout.New m) was known = chooses_first m.geometry m.zones was known
 known_map (Chosen which) (Layout.New m) was known = record { which = which; chosen_one = known.counts; content = known.content }
 known_map copies (Layout.Old space) was known = refl

@@ -70,7 +70,8 @@ use Rattle.fc_course.proofs.ArrivalLemmas.{Arrival, Brings, may_rewrite}
 use Rattle.fc_course.proofs.ArrivalPartsLemmas.{IsAlike}
 use Rattle.fc_course.proofs.ArrivalPlaceLemmas.{IsItsPlace, WantsPlace, folder_is, none_grown}
 use Rattle.fc_course.proofs.DirectoryLemmas.{fits_new}
-use Rattle.fc_course.proofs.FilledLemmas.{filled, filled_long, given_long}
+use Rattle.fc_course.specs.Given.{filled}
+use Rattle.fc_course.proofs.FilledLemmas.{filled_long, given_long}
 use Rattle.fc_course.proofs.LeavingLemmas.{shared_left, some_sectors, stays_left}
 use Rattle.fc_course.proofs.NewArrivalLemmas.{dir_room, new_alike}
 use Rattle.fc_course.proofs.NewPlaceLemmas.{IsRoomBeside, LiesBy, lies, may_be_written, room_beside, space, two}

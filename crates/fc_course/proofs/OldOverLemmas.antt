@@ -60,7 +60,8 @@ use Rattle.fc_course.proofs.ArrivalLemmas.{Arrival, Brings, may_rewrite}
 use Rattle.fc_course.proofs.ArrivalPartsLemmas.{IsAlike}
 use Rattle.fc_course.proofs.ArrivalPlaceLemmas.{IsItsPlace, WantsPlace}
 use Rattle.fc_course.proofs.DirectoryLemmas.{fits_old}
-use Rattle.fc_course.proofs.FilledLemmas.{filled, filled_long, given_long}
+use Rattle.fc_course.specs.Given.{filled}
+use Rattle.fc_course.proofs.FilledLemmas.{filled_long, given_long}
 use Rattle.fc_course.proofs.OldMapLemmas.{after_both, both_steps, few_holes, of_disc}
 use Rattle.fc_course.proofs.OldPlaceLemmas.{dir_room, old_room}
 use Rattle.fc_course.proofs.OldPlaceLemmas as old_place

@@ -41,7 +41,8 @@ use Rattle.fc_change.specs.Prepared.{IsPieceOf}
 use Rattle.fc_writing.specs.declared.ready.Piece.{Piece}
 use Rattle.fc_course.specs.Run.{IsMapIn}
 use Rattle.fc_course.proofs.ArrivalLemmas.{Arrival, Brings, renames_none}
-use Rattle.fc_course.proofs.FilledLemmas.{filled, filled_long, given_long, makes_file}
+use Rattle.fc_course.specs.Given.{filled}
+use Rattle.fc_course.proofs.FilledLemmas.{filled_long, given_long, makes_file}
 use Rattle.fc_course.proofs.HolderLemmas.{HaveForms}
 use Rattle.fc_course.proofs.NodeLemmas.{size_of_form}
 use Rattle.fc_course.proofs.NodeLemmas as its

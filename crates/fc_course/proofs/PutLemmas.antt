@@ -9,6 +9,7 @@ use Rattle.fc_objects.specs.Extents.{sectors_in}
 use Rattle.fc_tree.proofs.MemberLemmas.{contains_here, no_element}
 use Rattle.fc_outcomes.specs.Puts.{AreContents, ArePutOut, Put}
 use Rattle.fc_outcomes.proofs.lemmas.PutLemmas.{puts_law}
+pub use Rattle.fc_given.specs.Law.{IsGivenSource as CopiesNone}
 use Rattle.fc_writing.specs.declared.ready.Piece.{Piece}
 use Rattle.fc_writing.specs.declared.ready.Ready.{Ready}
 use Rattle.fc_writing.specs.declared.ready.Source.{Source}
@@ -59,12 +60,6 @@ source_puts (from.Sectors t) bytes = []
 
 abbrev pub puts_of : Ready → List ℕ → List Put
 puts_of r bytes = source_puts r.source bytes ++ (map put_of r.early.items ++ map put_of r.late.items)
-
--- Nothing is copied.
-abbrev pub CopiesNone : Source → Type 0
-CopiesNone from.Nothing = Unit {0}
-CopiesNone (from.Bytes place) = Unit {0}
-CopiesNone (from.Sectors t) = ⊥
 
 pub flat_app : (size : ℕ) (xs ys : List Put) → contents_of size (xs ++ ys) ≡ contents_of size xs ++ contents_of size ys
 flat_app size [] ys = refl

@@ -215,13 +215,12 @@ short_is (Layout.Old space) nodes owners t path name w v is may are sound held =
 -- ---- all of it
 
 -- What was taken over can be: the nodes are there, and nothing comes.
-pub can_take : (layout layout' : Layout) (nodes : Nodes) (owners owners' : List Owner) (t : Target) (path : Path) (name : List ℕ) (kind : Kind) (p : Prepared) (room : ℕ) → Agree kind (parts layout nodes owners)
-    → MayGo (parts layout nodes owners) path t → IsPreparedFor (parts layout nodes owners) (jobs.Removal t) name p → CanTakeOver layout' nodes owners' room p.change
-can_take layout layout' nodes owners owners' t path name kind p room a may prep =
+pub can_take : (layout layout' : Layout) (nodes : Nodes) (owners owners' : List Owner) (t : Target) (path : Path) (kind : Kind) (p : Prepared) (room : ℕ) → Agree kind (parts layout nodes owners)
+    → MayGo (parts layout nodes owners) path t → IsRemovalChange nodes t p.change → CanTakeOver layout' nodes owners' room p.change
+can_take layout layout' nodes owners owners' t path kind p room a may ch =
     let h = parts layout nodes owners in
     let sound = agreed_law.sound_by kind h a in
     let its = may (view_of h kind a) sound (agreed_law.viewed kind h a) in
-    let ch = change_of h t name p prep in
     record {
       says = λ s at.
           subst (λ (n : ℕ). IsSome (get nodes n)) (sym ch.tells.number ∙ ap (λ (x : Says). x.node) (only ch.said s (subst (λ (ss : List Says). Contains ss s) ch.says at)))
@@ -242,7 +241,7 @@ removal_laws law layout nodes owners t path name bytes kind is suffice a may =
     record {
       can_prepare = can_prepare layout nodes owners t path name kind is a may;
       can_write = λ p n prep room. can_write law layout nodes owners t path name kind p n is a may prep room suffice;
-      can_take = λ p layout' number room prep given some. can_take layout layout' nodes owners (owners_admitted layout p.change.object number owners) t path name kind p room a may prep;
+      can_take = λ p layout' number room prep given some. can_take layout layout' nodes owners (owners_admitted layout p.change.object number owners) t path kind p room a may (change_of h t name p prep);
       agrees = λ p now number prep run. agrees law layout now.layout nodes now.nodes owners now.owners t path name kind p number is a may prep run;
       changes = λ c p now number was image j prep run changed long.
           (let its = may_go h kind a c t name bytes j in

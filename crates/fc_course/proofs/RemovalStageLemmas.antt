@@ -119,7 +119,7 @@ module _ (h : Parts) (kind : Kind) (a : Agree kind h) (t : Target) (path : Path)
       same : (x y : ℕ) → (let q : Option ℕ = Some x in q) ≡ Some y → x ≡ y
       same x y e = cc
 
-  can_tell_job : (address : Option ℕ) → CanTellJob h (jobs.Removal t) name address None
+  pub can_tell_job : (address : Option ℕ) → CanTellJob h (jobs.Removal t) name address None
   can_tell_job address = record {
     entry = its.target.object.entry;
     made = (its.target.object.entry, target_of.entry h.layout h.nodes a.listings sound a.walked.held path t its.target, refl);

@@ -68,7 +68,7 @@ change_of h t x name p prep =
 -- ---- the owner
 
 module _ (layout : Layout) (nodes : Nodes) (owners : List Owner) (t : Target) (x : Wording) (path : Path) (kind : Kind) (a : Agree kind (parts layout nodes owners)) (on : Targets (parts layout nodes owners) path t)
-    (fit : Fit (dir_form layout) x) (name : List ℕ) (p : Prepared) (prep : IsPreparedFor (parts layout nodes owners) (job_of t x) name p) where
+    (fit : Fit (dir_form layout) x) (p : Prepared) (change : IsRewordingChange nodes t x p.change) where
   abbrev sound : AreSound layout a.listings
   sound = agreed_law.sound_by kind (parts layout nodes owners) a
 
@@ -83,9 +83,6 @@ module _ (layout : Layout) (nodes : Nodes) (owners : List Owner) (t : Target) (x
 
   abbrev own : Owner
   own = owner_with layout t.holder t.node o
-
-  change : IsRewordingChange nodes t x p.change
-  change = change_of (parts layout nodes owners) t x name p prep
 
   turned : p.change.object ≡ turns.Turns t.node t.holder e
   turned = turns_it layout nodes a.listings sound a.walked.held path t target x p.change change
@@ -230,14 +227,14 @@ rewording_laws law layout nodes owners t x path name bytes kind is suffice a on 
     let target = on (view_of h kind a) (agreed_law.sound_by kind h a) (agreed_law.viewed kind h a) in
     let stays = λ (p : Prepared) (layout' : Layout) (prep : IsPreparedFor h (job_of t x) name p) (given : IsGivenOn layout p.ready layout'). layout_stays law layout layout' nodes owners t x name p is prep given in
     let same_owners : (p : Prepared) (now : Parts) (number : ℕ) → IsPreparedFor h (job_of t x) name p → IsRun h now p number → now.owners ≡ owners =
-    λ p now number prep run. owners_same layout nodes owners t x path kind a on fit name p prep number now.owners
+    λ p now number prep run. owners_same layout nodes owners t x path kind a on fit p (change_of (parts layout nodes owners) t x name p prep) number now.owners
     (subst (λ (l : Layout). AreOwnersAfter l nodes p.change (owners_admitted layout p.change.object number owners) now.owners) (stays p now.layout prep run.given) run.owners) in
     record {
       can_prepare = can_prepare layout nodes owners t x path name kind is a on fit;
       can_write = λ p n prep room. can_write law layout nodes owners t x path name kind p n is a target prep room suffice;
       can_take = λ p layout' number room prep given some.
           subst (λ (l : Layout). CanTakeOver l nodes (owners_admitted layout p.change.object number owners) room p.change) (sym (stays p layout' prep given))
-          (can_take layout nodes owners t x path kind a on fit name p prep number room);
+          (can_take layout nodes owners t x path kind a on fit p (change_of (parts layout nodes owners) t x name p prep) number room);
       agrees = λ p now number prep run.
           subst (λ (l : Layout). Agree kind (parts l now.nodes now.owners) × KeepsBehind l) (sym (stays p now.layout prep run.given))
           (agrees_on law layout nodes now.nodes owners now.owners t x path name kind p number is a target fit prep run.nodes (same_owners p now number prep run));

@@ -177,10 +177,10 @@ module _ (h : Parts) (kind : Kind) (a : Agree kind h) (t : Target) (path : Path)
         free = λ space n at some. absurd (let no = wants.1 in cc);
       }
 
-  tell : CanTell None h.nodes t.holder (Rewriting.Replaces t.at (worded x target.object.entry))
+  pub tell : CanTell None h.nodes t.holder (Rewriting.Replaces t.at (worded x target.object.entry))
   tell = rewording.can_tell h.layout h.nodes a.listings sound a.walked.held path t target x fit a.walked.forms a.walked.bodies is_map
 
-  can_tell_job : (y : Wording) (address : Option ℕ) → Fit (dir_form h.layout) y → CanTell None h.nodes t.holder (Rewriting.Replaces t.at (worded y target.object.entry)) → CanTellJob h (job_of t y) name address None
+  pub can_tell_job : (y : Wording) (address : Option ℕ) → Fit (dir_form h.layout) y → CanTell None h.nodes t.holder (Rewriting.Replaces t.at (worded y target.object.entry)) → CanTellJob h (job_of t y) name address None
   can_tell_job (Wording.Set w) address low can = record {
     entry = worded (Wording.Set w) target.object.entry;
     made = (target.object.entry, target_of.entry h.layout h.nodes a.listings sound a.walked.held path t target, refl);
@@ -217,11 +217,11 @@ module _ (h : Parts) (kind : Kind) (a : Agree kind h) (t : Target) (path : Path)
         grows = λ g some. absurd (let no = empty.grown in cc);
       }
 
-  wanted : (y : Wording) → CanWant h.nodes (job_of t y)
+  pub wanted : (y : Wording) → CanWant h.nodes (job_of t y)
   wanted (Wording.Set w) = tt
   wanted (Wording.Mark marks) = tt
 
-  placed : (y : Wording) (address : Option ℕ) → IsPlaced (job_of t y) address
+  pub placed : (y : Wording) (address : Option ℕ) → IsPlaced (job_of t y) address
   placed (Wording.Set w) address = tt
   placed (Wording.Mark marks) address = tt
 

@@ -5,3 +5,4 @@ pub mod Promises
 pub mod Run
 pub mod Stages
 pub mod Written
+pub mod Given

@@ -19,8 +19,8 @@ use fc_names::Name;
 use fc_writing::Copies;
 use std::alloc::Global;
 
-// Makes a job's change ready, and takes the memory that the volume needs for it.
-fn make_ready(
+/// Makes a job's change ready, and takes the memory that the volume needs for it.
+pub fn make_ready(
     alloc: Global,
     holdings: &mut Holdings,
     job: &Job,

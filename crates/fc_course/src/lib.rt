@@ -3,6 +3,7 @@
 #![tactic(auto)]
 
 mod course;
+mod given;
 mod laws;
 mod maps;
 mod stages;
@@ -10,5 +11,7 @@ mod writing;
 
 pub use course::change;
 pub use fc_holdings::{CommandError, Holdings};
+pub use given::{GivenError, change_from};
 pub use laws::jobs;
 pub use maps::is_map;
+pub use stages::Prepared;

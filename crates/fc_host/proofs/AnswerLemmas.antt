@@ -1,10 +1,10 @@
 -- What calls in turn leave of the files, if the host tells them.
 use Rattle.std.proofs.Common.{◌≡◌, ℕ, ◌+◌, Bool, true, false, cond, List, [], ◌∷◌, ◌++◌, length, map, drop, Option, Some, None, is_some, refl, sym, ap, subst, ◌∙◌, arith, append_assoc}
-use Rattle.std.specs.Option.{unwrap_or}
+use Rattle.std.specs.Option.{ForSome, unwrap_or}
 use Rattle.std.specs.Str.{bytes_eq}
 use Rattle.std.specs.FinMap.{get, insert, get-insert, get-remove, same_map, nat_cmp-IsAntisymmetric, slice_cmp-IsAntisymmetric}
 use Rattle.std.specs.Cmp.Lexicographic.{nat_list_cmp_total}
-use Rattle.std.proofs.lemmas.List.{append-nil, length-append}
+use Rattle.std.proofs.lemmas.List.{append-nil, drop-drop, drop_at, length-append}
 use Rattle.std.proofs.Math.Seq.{drop-length}
 use Rattle.std.proofs.lemmas.Map.Text.{is_eq-slice_cmp}
 use Rattle.std.proofs.lemmas.Slice.Eq.{bytes_eq-Decides}
@@ -112,3 +112,36 @@ file_taken files host bytes pieces left there long x =
     let whole : bytes ≡ joined pieces ++ drop n bytes =
     subst (λ (f : List ℕ). f ≡ joined pieces ++ drop n f) own (both.1 ∙ ap (λ (k : ℕ). joined pieces ++ drop k (bytes_of files host)) start) in
     (both.0, sym (whole ∙ ap (λ (l : List ℕ). joined pieces ++ l) (ap (λ (n : ℕ). drop n bytes) long ∙ drop-length bytes) ∙ append-nil (joined pieces)))
+
+-- ---- what a host that tells its files answers
+
+answered_at : (bytes : List ℕ) (host : List ℕ) (files : Files) (at : ℕ) (pieces : List (List ℕ)) → bytes ≡ bytes_of files host
+    → drop at bytes ≡ joined pieces ++ drop (at + length (joined pieces)) bytes → AnswersCalls (Some files) (taken_from host at pieces) (Some files)
+answered_at bytes host files at [] own is = refl
+answered_at bytes host files at (piece ∷ pieces) own is =
+    let n = at + length (piece ++ joined pieces) in
+    let whole : drop at bytes ≡ piece ++ (joined pieces ++ drop n bytes) = is ∙ append_assoc piece (joined pieces) (drop n bytes) in
+    let rest : drop (at + length piece) bytes ≡ joined pieces ++ drop n bytes =
+    sym (drop-drop (length piece) at bytes) ∙ ap (drop (length piece)) whole ∙ drop_at piece (joined pieces ++ drop n bytes) (length piece) refl in
+    let sum : n ≡ at + length piece + length (joined pieces) = omega (arith, length-append piece (joined pieces)) in
+    let first : drop at bytes ≡ piece ++ drop (at + length piece) bytes = whole ∙ ap (λ (l : List ℕ). piece ++ l) (sym rest) in (
+      Some files,
+      (λ f told. subst (λ (b : List ℕ). drop at b ≡ piece ++ drop (at + length piece) b) (own ∙ ap (λ (o : Option Files). bytes_of (unwrap_or o files) host) told) first, refl),
+      answered_at bytes host files (at + length piece) pieces own (rest ∙ ap (λ (k : ℕ). joined pieces ++ drop k bytes) sum),
+    )
+
+-- All bytes of a file were taken, piece by piece.
+pub file_answered : (files : Option Files) (host bytes : List ℕ) (pieces : List (List ℕ)) → joined pieces ≡ bytes → ForSome files (λ f. bytes ≡ bytes_of f host)
+    → AnswersCalls files (taken_from host 0 pieces) files
+file_answered (Some files) host bytes pieces joined_is own =
+    let n = length (joined pieces) in
+    let start : 0 + n ≡ n = omega arith in
+    let none : drop n bytes ≡ [] = ap (λ (b : List ℕ). drop n b) (sym joined_is) ∙ drop-length (joined pieces) in
+    let none' : drop (0 + n) bytes ≡ [] = ap (λ (k : ℕ). drop k bytes) start ∙ none in
+    answered_at bytes host files 0 pieces (own files refl) (sym joined_is ∙ sym (append-nil (joined pieces)) ∙ ap (λ (l : List ℕ). joined pieces ++ l) (sym none'))
+file_answered None host bytes [] joined_is own = refl
+file_answered None host bytes (piece ∷ pieces) joined_is own = unknown host 0 (piece ∷ pieces)
+  where
+    unknown : (host : List ℕ) (at : ℕ) (ps : List (List ℕ)) → AnswersCalls None (taken_from host at ps) None
+    unknown host at [] = refl
+    unknown host at (p ∷ ps) = (None, (λ f told. absurd (cc), refl), unknown host (at + length p) ps)

@@ -28,7 +28,7 @@ fit_but T (Refused refusal) other = refl
 fit_but T NoMemory other = refl
 fit_but T DiskFault other = absurd (other refl)
 
-fit_unless : {T : Type 0} (r : Result T CommandError) (fit : Bool) → fit ≡ fit_after r → UnlessFault r (fit ≡ true)
+pub fit_unless : {T : Type 0} (r : Result T CommandError) (fit : Bool) → fit ≡ fit_after r → UnlessFault r (fit ≡ true)
 fit_unless (Ok value) fit is = is
 fit_unless (Err (Refused refusal)) fit is = is
 fit_unless (Err NoMemory) fit is = is

@@ -18,3 +18,4 @@ pub mod StandsLemmas
 mod KeepLemmas
 mod PieceLemmas
 mod CommandLemmas
+mod GivingLemmas

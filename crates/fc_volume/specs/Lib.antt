@@ -9,3 +9,4 @@ pub mod Reading
 pub mod Compacting
 pub mod Changing
 pub mod Fitness
+pub mod Giving

@@ -4,4 +4,5 @@ mod delete;
 mod mark;
 mod rename;
 mod save;
+mod save_from;
 mod set;

@@ -14,6 +14,7 @@ mod reading;
 mod volume;
 
 pub use fc_change::{FileWords, ObjectWords};
+pub use fc_commands::GivenError;
 pub use fc_holdings::{CommandError, Copies, Holdings};
 pub use fitness::is_fit_after;
 pub use lines::{FileRef, Line, Listed, MountError};

@@ -3,6 +3,7 @@ ghost use Rattle.std.specs.Prelude.{◌≡◌, [], IfOk, IsFalse, IsTrue, List, 
 ghost use Rattle.fc_device.specs.Calls.{StopsAndExitsLeave};
 ghost use Rattle.fc_model.specs.Command.{Command};
 ghost use Rattle.fc_holdings.specs.Holdings.{Stands, parts_of};
+ghost use Rattle.fc_course.specs.Given.{IsFile};
 ghost use Rattle.fc_course.specs.Jobs.{HasLaws};
 ghost use Rattle.fc_course.specs.Promises.{ChangeKeeps, HasChanged, WritesPlacesOf};
 ghost use Rattle.fc_commands.specs.Answers.{AnswersOver};
@@ -30,6 +31,7 @@ pub fn file_job(
         → IsJudgment read_only (Command.Save path.now words.load words.exec bytes) (parts_of holdings.now) bytes result }
     ensures created { IsJudgment read_only (Command.Create path.now words.load words.exec words.len) (parts_of holdings.now) [] result }
     ensures covered { IfOk result (λ judged. HasLaws (parts_of holdings.now) judged.job judged.name) }
+    ensures file { IfOk result (λ judged. IsFile judged.job) }
 {
     let slot = judge_save(&holdings.tree, holdings.places.dir_form(), read_only, path)?;
     let name = last_name(alloc, path)?;
