@@ -11,6 +11,7 @@ use Rattle.fc_host.specs.Answers.{AnswersCalls, all_asked}
 use Rattle.fc_host.specs.Asked.{Asked}
 use Rattle.fc_host.specs.Files.{Files}
 use Rattle.fc_host.proofs.AnswerLemmas.{answered_both}
+use Rattle.fc_record.specs.declared.Kind.{Kind}
 use Rattle.fc_names.specs.declared.refusal.Refusal.{Refusal}
 use Rattle.fc_image.specs.Stays.{OpensAs}
 use Rattle.fc_image.specs.effects.Effect.{State, tree_in}
@@ -22,7 +23,7 @@ use Rattle.fc_runs.specs.HostPromises.{AskedBegun, AskedBegunBy, AskedHasRun, As
 use Rattle.fc_runs.specs.HostRun.{Reading, all_host_keep_tree, host_keeps_tree}
 use Rattle.fc_runs.specs.HostServing.{AreMoved, IsBrokenOff, IsMoved}
 use Rattle.fc_runs.specs.Meanwhile.{GoesOn}
-use Rattle.fc_runs.specs.Promises.{Cause, cuts_replies, spares_disk}
+use Rattle.fc_runs.specs.Promises.{Cause, StaysBy, cuts_replies, spares_disk}
 use Rattle.fc_runs.specs.Run.{Mode, commands_in, is_error, text_of}
 use Rattle.fc_runs.specs.Stops.{HostLeftByLine, IsLeftInLine, LeftIn, MayHaveLeft, all_host_leave_image, host_leaves_image, is_kept_by_next}
 use Rattle.fc_runs.proofs.HostStepLemmas.{asked_more, asks_keep, asks_leave, asks_long, asks_many, asks_more, asks_new, asks_weaker, each_done, each_last, each_next}
@@ -33,10 +34,17 @@ use Rattle.fc_runs.proofs.TextLemmas.{begun_front, front_part, get_next, one_mor
 
 -- ---- the line that broke off
 
+-- the image from before is left
+pub stays_same : (cause : Cause) (kind : Kind) (s : State) → OpensAs s.image kind s.view → StaysBy cause kind s s.image
+stays_same Cause.Disk kind s opens = refl
+stays_same Cause.Out kind s opens = refl
+stays_same Cause.Host kind s opens = record { opens = opens; objects = refl }
+stays_same Cause.Memory kind s opens = refl
+
 -- nothing was asked in it
 pub none_asked : (mode : Mode) (s : State) (r : Result HostLine Refusal) → AskedBegun mode s r []
 none_asked mode s (Err refusal) = refl
-none_asked mode s (Ok (HostLine.Put host path load exec)) = λ k d below. absurd (omega (arith, below))
+none_asked mode s (Ok (HostLine.Put host path load exec)) = inl refl
 none_asked mode s (Ok (HostLine.Get path host)) = inl refl
 none_asked mode s (Ok (HostLine.Other command)) = refl
 
@@ -222,7 +230,7 @@ module _ {D : Type 0} {d : Ghosts D} (law : Laws d) (read : Reading) (mode : Mod
         back = λ first host is. refl;
         told = (length (text_of has.replies) + part.0, text);
         whole = λ whole. absurd (let clash : false ≡ true = sym whole ∙ cut in cc);
-        holds = λ spares. are.holds;
+        holds = λ spares. (are.state.image, are.holds, stays_same cause mode.kind are.state are.opens);
         settled = λ spares. inl settled;
         spared = λ image here. host_ends_same read mode.kind are.state are.opens after image (one_told (sym here ∙ are.holds));
         stops = λ was_quiet. record {

@@ -24,6 +24,7 @@ use Rattle.fc_runs.specs.Run.{Mode, Steps, is_error, keeps_tree_or}
 use Rattle.fc_runs.specs.Spares.{Spares, idle_in}
 use Rattle.fc_runs.specs.Stops.{HostLeftBy, HostLeftByLine, HostSparesBy, IsLeftBefore, IsLeftInLine, LeftBy, LeftByLine, LeftIf, LeftIn, SparesBy, StepsTo, host_leaves_image, leaves_image_or}
 use Rattle.fc_runs.proofs.HostStepLemmas.{asks_weaker}
+use Rattle.fc_runs.proofs.SpaceLemmas.{space_same}
 use Rattle.fc_runs.proofs.StepLemmas.{has_tree}
 use Rattle.fc_runs.proofs.TextLemmas.{get_next}
 
@@ -33,8 +34,8 @@ all_same : (size : ℕ) (row image : List ℕ) → SameSectors size row image im
 all_same size [] image = All-nil _
 all_same size (s ∷ row) image = All-cons (λ n. sector_at size image n ≡ sector_at size image n) s row refl (all_same size row image)
 
-pub spares_same : (kind : Kind) (v : Opened) (c : Command) (image : List ℕ) → Spares kind v c image image
-spares_same kind v c image =
+pub spares_same : (kind : Kind) (v : Opened) (c : Command) (image : List ℕ) → OpensAs image kind v → Spares kind v c image image
+spares_same kind v c image opens =
     let size = sector_bytes v.layout in
     record {
       length_stays = refl;
@@ -43,6 +44,7 @@ spares_same kind v c image =
       boot = all_same size (boot_place kind size) image;
       lost = all_same size (idle_in v.layout v) image;
       behind = λ s past out. refl;
+      space = space_same kind v c image opens;
     }
 
 module _ (kind : Kind) (s : State) (opens : OpensAs s.image kind s.view) (image : List ℕ) (same : image ≡ s.image) where
@@ -53,7 +55,7 @@ module _ (kind : Kind) (s : State) (opens : OpensAs s.image kind s.view) (image 
 
   spares_by_same : (r : Result Command Refusal) → SparesBy kind s r s.image
   spares_by_same (Err refusal) = refl
-  spares_by_same (Ok c) = spares_same kind s.view c s.image
+  spares_by_same (Ok c) = spares_same kind s.view c s.image opens
 
   pub left_by_same : (refused : Bool) (r : Result Command Refusal) → LeftBy kind s refused r image
   left_by_same refused r = left_if_same (leaves_image_or refused r) (keeps_tree_or refused r) (SparesBy kind s r) (spares_by_same r)
@@ -61,8 +63,8 @@ module _ (kind : Kind) (s : State) (opens : OpensAs s.image kind s.view) (image 
   host_spares_same : (r : Result HostLine Refusal) → HostSparesBy kind s r s.image
   host_spares_same (Err refusal) = refl
   host_spares_same (Ok (HostLine.Get path host)) = refl
-  host_spares_same (Ok (HostLine.Put host path load exec)) = ([], spares_same kind s.view (Command.Save path load exec []) s.image)
-  host_spares_same (Ok (HostLine.Other c)) = spares_same kind s.view c s.image
+  host_spares_same (Ok (HostLine.Put host path load exec)) = ([], spares_same kind s.view (Command.Save path load exec []) s.image opens)
+  host_spares_same (Ok (HostLine.Other c)) = spares_same kind s.view c s.image opens
 
   pub host_left_same : (refused : Bool) (r : Result HostLine Refusal) → HostLeftBy kind s refused r image
   host_left_same refused r = left_if_same (host_leaves_image refused r) (host_keeps_tree refused r) (HostSparesBy kind s r) (host_spares_same r)

@@ -9,6 +9,7 @@ pub mod ToldLemmas
 pub mod ErrorLemmas
 pub mod StepLemmas
 pub mod TextLemmas
+pub mod SpaceLemmas
 pub mod LeftLemmas
 pub mod MeanwhileLemmas
 pub mod HostStepLemmas

@@ -1,8 +1,8 @@
 -- What lines may ask of a host, whatever disk and host hold: each of its own file alone, and a file is changed only if the line made it.
-use Rattle.std.specs.Prelude.{◌≡◌, ◌⊎◌, ℕ, Bool, true, false, List, [], ◌∷◌, ◌++◌, All, Result, Ok}
+use Rattle.std.specs.Prelude.{◌≡◌, ◌⊎◌, ℕ, true, false, List, [], ◌∷◌, ◌++◌, All, Result, Ok}
 use Rattle.fc_host.specs.Answers.{made_of}
 use Rattle.fc_host.specs.Asked.{Asked}
-use Rattle.fc_host.specs.declared.asks.HostCall.{HostCall}
+use Rattle.fc_host.specs.Looks.{IsLook}
 use Rattle.fc_host.specs.declared.asks.HostCall.TheVariants as calls
 use Rattle.fc_names.specs.declared.refusal.Refusal.{Refusal}
 use Rattle.fc_script.specs.HostLines.{HostLine}
@@ -19,16 +19,9 @@ abbrev pub GetAsks : List ℕ → List Asked → Type 0
 GetAsks host asked = (asked ≡ []) ⊎ ((asked ≡ (host, calls.Make false, []) ∷ []) ⊎ ((asked ≡ (host, calls.Failed, []) ∷ [])
     ⊎ ((pieces : List (List ℕ)) × (end : List Asked) × (asked ≡ made_of host pieces ++ end) × EndsGet host end)))
 
--- a call that changes no file
-abbrev pub only_looks : HostCall → Bool
-only_looks (calls.Size size) = true
-only_looks (calls.Take at) = true
-only_looks calls.Failed = true
-only_looks call = false
-
--- a `put`
+-- a `put`: its file is looked at, and no other
 abbrev pub PutAsks : List ℕ → List Asked → Type 0
-PutAsks host asked = All (λ a. (a.0 ≡ host) × (only_looks a.1 ≡ true)) asked
+PutAsks host asked = All (IsLook host) asked
 
 -- a line
 abbrev pub LineAsks : Result HostLine Refusal → List Asked → Type 0

@@ -1,5 +1,5 @@
 -- What a run whose lines may move files of a host promises over an accepted image, whatever host it is and outside the safe mode.
-use Rattle.std.specs.Prelude.{◌≡◌, ◌⊎◌, ℕ, Bool, true, false, List, [], ◌∷◌, ◌++◌, All, length, slice_get, take, Option, Some, None, Result, Ok, IsOk}
+use Rattle.std.specs.Prelude.{◌≡◌, ◌⊎◌, ℕ, Bool, true, false, List, [], ◌∷◌, ◌++◌, length, slice_get, take, Option, Some, None, Result, Ok, IsOk}
 use Rattle.std.specs.List.{list_any}
 use Rattle.std.specs.Option.{ForSome}
 use Rattle.fc_device.specs.declared.disk.Disk.{Ghosts}
@@ -15,8 +15,9 @@ use Rattle.fc_image.specs.safe.SafeEffect.{HasTree}
 use Rattle.fc_script.specs.HostLines.{HostLine}
 use Rattle.fc_runs.specs.AskedRun.{AskedSteps}
 use Rattle.fc_runs.specs.Early.{FilesLeftBy, host_reply_begun, text_begun}
+use Rattle.fc_runs.specs.HostAsks.{PutAsks}
 use Rattle.fc_runs.specs.HostRun.{Reading, all_host_keep_tree, answer_in, file_in}
-use Rattle.fc_runs.specs.Promises.{Cause, HostHasRun, HostHasStopped, cuts_replies, spares_disk}
+use Rattle.fc_runs.specs.Promises.{Cause, HostHasRun, HostHasStopped, StaysBy, cuts_replies, spares_disk}
 use Rattle.fc_runs.specs.Run.{Mode, commands_in, is_error, text_of, whole_replies}
 use Rattle.fc_runs.specs.Stops.{HostLeftByLine, IsLeftInLine, LeftIn, MayHaveLeft, all_host_leave_image, next_host_keeps_tree, next_host_leaves_image}
 
@@ -69,11 +70,11 @@ pub record GetsPart (host bytes : List ℕ) (asked : List Asked) : Type 0 where
   pub first : bytes ≡ (joined pieces ++ piece) ++ rest
 
 -- What was asked in a line that broke off: nothing; or in a `get` that the model accepts, a file was to be made, or was made and
--- taken back.
+-- taken back; or in a `put` that it accepts, its file was looked at.
 abbrev pub AskedBegun : Mode → State → Result HostLine Refusal → List Asked → Type 0
 AskedBegun mode s (Ok (HostLine.Get path host)) asked = (asked ≡ [])
     ⊎ (IsOk (answer_in mode s (Command.Load path)) × ((asked ≡ (host, calls.Failed, []) ∷ []) ⊎ GetsPart host (file_in s path) asked))
-AskedBegun mode s (Ok (HostLine.Put host path load exec)) asked = All (λ a. a.0 ≡ host) asked
+AskedBegun mode s (Ok (HostLine.Put host path load exec)) asked = (asked ≡ []) ⊎ (IsOk (answer_in mode s (Command.Save path load exec [])) × PutAsks host asked)
 AskedBegun mode s line asked = asked ≡ []
 
 -- If a file was taken back at the end, the files are as they were.
@@ -101,7 +102,7 @@ pub record AskedHasStopped {D : Type 0} (d : Ghosts D) (read : Reading) (old new
   pub back : IsBack begun between left
   pub told : (n : ℕ) × (text ≡ take n (text_begun None replies (slice_get (commands_in script) (length replies)) (λ line. host_reply_begun mode end (read line))))
   pub whole : cuts_replies cause ≡ false → whole_replies (length text) replies ≡ length replies
-  pub holds : spares_disk cause ≡ true → d.bytes new ≡ Some end.image
+  pub holds : spares_disk cause ≡ true → (image : List ℕ) × (d.bytes new ≡ Some image) × StaysBy cause mode.kind end image
   pub settled : spares_disk cause ≡ true → (d.pending new ≡ false) ⊎ (new ≡ old)
   pub spared : ForSome (d.bytes new) (LeftIn (HostLeftByLine read mode.kind end) end (slice_get (commands_in script) (length replies)) None)
   pub stops : d.pending old ≡ false → AskedStops d read old new mode fresh s end (commands_in script) replies asks

@@ -10,7 +10,7 @@ use Rattle.fc_image.specs.effects.Effect.{State}
 use Rattle.fc_script.specs.HostLines.{host_line_of}
 use Rattle.fc_script.specs.Texts.{ok_line}
 use Rattle.fc_runs.specs.Run.{Mode, Refuses, Takes}
-use Rattle.fc_runs.specs.HostRun.{HostStep, answer_in, file_in, longest_file, served_line_of}
+use Rattle.fc_runs.specs.HostRun.{HostStep, answer_in, file_in, longest_file}
 
 -- what the model answers to the command of a `put` of `c.txt`, and of a `get` into `b.txt`
 abbrev pub put_answer : Mode → State → Result Tree Refusal
@@ -48,6 +48,3 @@ pub record HostRows : Type 0 where
   -- every other line is a command, which leaves the files
   pub other : (mode : Mode) (s s' : State) (files files' : Files) (reply : List ℕ) → HostStep host_line_of mode s files (codes "free") reply s' files'
       → Takes mode s (Ok Command.Free) reply s' × (files' ≡ files)
-  -- as lines are served now, `put` is none of them
-  pub unserved : (mode : Mode) (s s' : State) (files files' : Files) (reply : List ℕ) → HostStep served_line_of mode s files put_c reply s' files'
-      → Replies s files (codes "error 1 BadCommand") reply s' files'

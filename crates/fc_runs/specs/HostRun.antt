@@ -63,18 +63,9 @@ HostTakes mode s files (Ok (HostLine.Other command)) reply s' files' = Takes mod
 
 -- ---- lines
 
--- how lines are read: as commands that may move files, or in part
+-- how lines are read: as commands that may move files
 abbrev pub Reading : Type 0
 Reading = List ℕ → Result HostLine Refusal
-
--- `put` isn't served yet: a line that spells one is refused
-abbrev pub without_put : Result HostLine Refusal → Result HostLine Refusal
-without_put (Ok (HostLine.Put host path load exec)) = Err refusals.BadCommand
-without_put line = line
-
--- lines as they are served
-abbrev pub served_line_of : Reading
-served_line_of line = without_put (host_line_of line)
 
 -- a line as a step, with the files of the host
 abbrev pub HostStep : Reading → Mode → State → Files → List ℕ → List ℕ → State → Files → Type 0

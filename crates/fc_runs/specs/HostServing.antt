@@ -13,7 +13,7 @@ use Rattle.fc_runs.specs.AskedRun.{AskedSteps, AskedTakes}
 use Rattle.fc_runs.specs.HostPromises.{AskedBegun, AskedStepsTo, IsBack}
 use Rattle.fc_runs.specs.HostRun.{HasPartOf, Reading, all_host_keep_tree, host_keeps_tree}
 use Rattle.fc_runs.specs.Meanwhile.{LeavesImage, LeavesTree}
-use Rattle.fc_runs.specs.Promises.{Cause, spares_disk}
+use Rattle.fc_runs.specs.Promises.{Cause, StaysBy, spares_disk}
 use Rattle.fc_runs.specs.Run.{Mode, is_error}
 use Rattle.fc_runs.specs.Stops.{HostLeftBy, HostLeftByLine, IsLeftBefore, MayHaveLeft, all_host_leave_image, host_leaves_image}
 
@@ -30,12 +30,13 @@ pub record IsMoved {D : Type 0} (d : Ghosts D) (old new : D) (mode : Mode) (s : 
   pub still : host_leaves_image (is_error reply) line ≡ true → LeavesImage d old new s
   pub spared : (image : List ℕ) → d.left_since new (d.moment old) image → HostLeftBy mode.kind s (is_error reply) line image
 
--- It broke off. The disk has the image from before, unless one of its calls failed; then it has what the line may leave.
+-- It broke off. The disk has the image from before, or one like it if the host failed, unless one of its own calls failed; it has what the
+-- line may leave.
 pub record IsBrokenOff {D : Type 0} (d : Ghosts D) (old new : D) (mode : Mode) (s : State) (line : Result HostLine Refusal) (asked : List Asked) (files left : Option Files) (cause : Cause) : Type 0 where
   pub begun : AskedBegun mode s line asked
   pub files_left : ForSome files (λ held. (now : Files) × (left ≡ Some now) × ((now ≡ held) ⊎ HasPartOf mode s held line now))
   pub back : IsBack asked files left
-  pub holds : spares_disk cause ≡ true → d.bytes new ≡ Some s.image
+  pub holds : spares_disk cause ≡ true → (image : List ℕ) × (d.bytes new ≡ Some image) × StaysBy cause mode.kind s image
   pub kept : host_keeps_tree false line ≡ true → LeavesTree d old new mode.kind s
   pub still : host_leaves_image false line ≡ true → LeavesImage d old new s
   pub spared : (image : List ℕ) → d.left_since new (d.moment old) image → HostLeftBy mode.kind s false line image

@@ -8,6 +8,7 @@ pub mod ReadLaw
 pub mod Early
 pub mod TreeLaw
 pub mod RepliesLaw
+pub mod Space
 pub mod Spares
 pub mod Stops
 pub mod Promises

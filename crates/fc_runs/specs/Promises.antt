@@ -5,6 +5,8 @@ use Rattle.std.specs.List.{list_any}
 use Rattle.fc_device.specs.declared.disk.Disk.{Ghosts}
 use Rattle.fc_device.specs.Calls.{StopsAsBefore}
 use Rattle.fc_host.specs.Files.{Files}
+use Rattle.fc_record.specs.declared.Kind.{Kind}
+use Rattle.fc_image.specs.Stays.{OpensAs, stored_objects}
 use Rattle.fc_image.specs.effects.Effect.{State}
 use Rattle.fc_runs.specs.Run.{Mode, Run, commands_in, script_for, is_error, whole_replies}
 use Rattle.fc_runs.specs.Early.{EndsEarly, HostEndsEarly}
@@ -56,10 +58,20 @@ pub data Cause : Type 0 where
   Host : Cause
   Memory : Cause
 
--- Only an I/O error of the disk can leave bytes that don't follow from the lines done.
+-- Only an I/O error of the disk can leave an image that doesn't follow from the lines done.
 abbrev pub spares_disk : Cause → Bool
 spares_disk Cause.Disk = false
 spares_disk cause = true
+
+-- The image opens as the very same, and each object is stored as it was: other bytes are at most where nothing lies.
+pub record IsAlike (kind : Kind) (s : State) (image : List ℕ) : Type 0 where
+  pub opens : OpensAs image kind s.view
+  pub objects : stored_objects image s.view ≡ stored_objects s.image s.view
+
+-- what the disk has after the lines that were done, by the cause; a `put` may have begun to write where nothing lies, when the host failed
+abbrev pub StaysBy : Cause → Kind → State → List ℕ → Type 0
+StaysBy Cause.Host kind s image = IsAlike kind s image
+StaysBy cause kind s image = image ≡ s.image
 
 -- Only where the sink had an I/O error or memory is short may a reply be missing of a line that may move files and was done.
 abbrev pub cuts_replies : Cause → Bool
@@ -91,12 +103,13 @@ abbrev pub HasBrokenOff : {D : Type 0} → Ghosts D → D → D → Mode → Boo
 HasBrokenOff d old new mode fresh demo s script text cause =
     HasStopped d old new mode fresh demo s script text cause ⊎ IsUnmade fresh cause old new text
 
--- the same with files of the host
+-- The same with files of the host. If the host failed, the image is as `StaysBy` says, and if that was in a `get`, it is the very one
+-- (`spared`).
 pub record HostHasStopped {D : Type 0} (d : Ghosts D) (read : Reading) (old new : D) (mode : Mode) (fresh : Bool) (demo : Option ℕ) (s : State) (files left : Files) (script text : List ℕ) (cause : Cause) : Type 0 where
   pub end : State
   pub ended : HostEndsEarly read (MayHaveLeft d old new) mode demo s files script text end left
   pub whole : demo ≡ None → cuts_replies cause ≡ false → whole_replies (length text) ended.replies ≡ length ended.replies
-  pub holds : spares_disk cause ≡ true → d.bytes new ≡ Some end.image
+  pub holds : spares_disk cause ≡ true → (image : List ℕ) × (d.bytes new ≡ Some image) × StaysBy cause mode.kind end image
   pub settled : spares_disk cause ≡ true → (d.pending new ≡ false) ⊎ (new ≡ old)
   pub spared : mode.safe ≡ false → ForSome (d.bytes new) (LeftIn (HostLeftByLine read mode.kind end) end (slice_get (commands_in (script_for demo script)) (length ended.replies)) None)
   pub stops : d.pending old ≡ false → HostStops d read old new mode fresh demo s end files (commands_in (script_for demo script)) ended.replies text
