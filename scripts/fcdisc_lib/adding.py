@@ -5,7 +5,7 @@ from __future__ import annotations
 from typing import Dict, Iterator, List, Optional, Set
 
 from . import names
-from .editing import Step, longest_content, save_line, set_line
+from .editing import Step, save_step, set_line
 from .hostfiles import NEW_FILE, HostFile
 from .hostitems import NOT_ADDED, Failures, Item
 from .messages import reason
@@ -79,7 +79,7 @@ class Addition:
             self.fail.refuse(item.place, "there is something of its name on the disc already (--replace puts files in its place)")
             return
         try:
-            file = item.source.read(longest_content(item.path))
+            file = item.source.read()
         except (OSError, ValueError) as error:
             self.fail.refuse(item.place, reason(error) if isinstance(error, OSError) else str(error))
             return
@@ -97,7 +97,7 @@ def file_steps(path: Path, file: HostFile, named: names.DiscName, failure: str, 
     """The steps that save a file. One that is there keeps its access, and its type unless the new one tells a type."""
     default = names.type_of(there.load) if there else None
     load, execution = file.words(named) if default is None else file.words(named, default)
-    yield Step(save_line(path, load, execution, file.content), path, failure)
+    yield save_step(path, load, execution, file.content, failure)
     attributes = file.kept.attributes if file.kept and not there else NEW_FILE
     if attributes & SETTABLE != NEW_FILE:
         yield Step(set_line(path, load, execution, attributes), path, "access not set")

@@ -10,7 +10,8 @@ from datetime import datetime
 from typing import BinaryIO, Dict, List, NamedTuple, Optional, Tuple
 
 from . import names
-from .hostfiles import TOO_LONG, HostFile, Kept, disc_attributes, system_attributes
+from .contents import LARGE, held
+from .hostfiles import HostFile, Kept, disc_attributes, system_attributes
 from .hostitems import Failures, Item, Namer, Source, Wishes, tell_fitted
 from .listing import date_of
 from .messages import Progress, Trouble, shown
@@ -93,15 +94,13 @@ class MemberSource(Source):
         super().__init__(os.fsencode(info.filename), info.file_size)
         self.archive, self.info, self.field = archive, info, told_by(info.extra)
 
-    def read(self, limit: int) -> HostFile:
-        if self.info.file_size > limit:
-            raise ValueError(TOO_LONG % (self.info.file_size, limit))
+    def read(self) -> HostFile:
         try:
             with self.archive.open(self.info) as file:
-                content = file.read(limit + 1)
+                content, size = held(iter(lambda: file.read(LARGE), b""), self.info.file_size)
         except BAD_ARCHIVE as error:
             raise ValueError("the archive is damaged there: %s" % error) from None
-        if len(content) != self.info.file_size:
+        if size != self.info.file_size:
             raise ValueError("the archive is damaged there: it holds another length than it says")
         return HostFile(content, self.time(), self.kept())
 

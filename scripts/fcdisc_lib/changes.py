@@ -10,10 +10,10 @@ from typing import Dict, List, Optional, Tuple
 from . import names
 from .adding import Addition, Present, file_steps
 from .description import describe
-from .editing import NOT_MADE, NOT_PUT, OTHER_NAME, Edit, Step, longest_content, set_line, why
+from .editing import NOT_MADE, NOT_PUT, OTHER_NAME, Edit, Step, set_line, why
 from .filetypes import Types, read_types
 from .fitting import Limits
-from .hostfiles import TEXT, HostFile, read_host_file
+from .hostfiles import TEXT, HostFile, host_file
 from .hostitems import NOT_ADDED, Failures, Item, Wishes, is_archive, items_of
 from .messages import FAILED, WRONG_WORDS, Progress, Trouble, counted, reason, say, shown, tell
 from .names import spelled_path
@@ -107,7 +107,7 @@ def put_steps(edit: Edit, words: Namespace, file: str, path: Path, present: Opti
     if present and not words.replace:
         raise edit.trouble("%s: %s: --replace puts the new file in its place" % (spelled_path(path), why(path, "Exists")))
     try:
-        found = read_host_file(os.fsencode(file), longest_content(path))
+        found = host_file(os.fsencode(file))
     except (OSError, ValueError) as error:
         raise Trouble("%s: %s" % (shown(file), reason(error) if isinstance(error, OSError) else error)) from None
     steps = list(file_steps(path, found, told, NOT_PUT, present))

@@ -22,7 +22,7 @@ def add_collections(added: Jobs) -> None:
                   "Find files and directories in all images of a folder. The status is 1 if there is "
                   "none.")
     add_order(job)
-    job.add_argument("--type", metavar="XXX", type=file_type, help="of that type alone")
+    job.add_argument("--type", metavar="XXX", type=file_type, help="files of that type alone")
     job.add_argument("--holds", metavar="TEXT", type=looked_for, help="files that hold these letters")
     job.add_argument("--sha256", metavar="DIGEST", type=digest, help="files with that digest, or with one that begins so")
     job.add_argument("folder", metavar="FOLDER", nargs="+", help="a folder, or an image")

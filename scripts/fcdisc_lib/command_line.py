@@ -56,8 +56,9 @@ def add_reading(added: Jobs) -> None:
     job = add_job(added, "get", later("retrieval", "get"), "Extract one file, or several. fcore runs twice.")
     add_order(job)
     job.add_argument("image", metavar="IMAGE")
-    job.add_argument("path", metavar="PATH... [FILE]", nargs="+", help=WILD_HELP + "; and the file to make, or the folder; - is "
-                     "standard output")
+    job.add_argument("path", metavar="PATH... [FILE]", nargs="+", help=WILD_HELP + "; at the end the file to make, or the folder "
+                     "for several; - is standard output")
+    job.usage = "%(prog)s [-h] [--offset N] [--order {auto,disc,adl}] IMAGE PATH... [FILE]"  # argparse would say all of it twice
 
     job = add_job(added, "extract", later("retrieval", "extract"),
                   "Extract all files into a folder, or into a zip archive with Acorn's extra "
@@ -65,11 +66,12 @@ def add_reading(added: Jobs) -> None:
                   "directories, and once for all files.")
     add_order(job)
     job.add_argument("--each", action="store_true", help="IMAGE is a folder: each image below it into a folder of its own")
-    job.add_argument("--inf", action="store_true", help="words and access into NAME.inf beside each file, and no type in its name")
+    job.add_argument("--inf", action="store_true", help="load and exec words and access go into NAME.inf beside each file, and no type "
+                     "into its name")
     add_types(job)
     job.add_argument("image", metavar="IMAGE")
     job.add_argument("folder", metavar="OUT", help="a folder, or a name that ends in .zip")
-    job.add_argument("path", metavar="PATH", nargs="*", help="of a directory, to extract that alone; or " + WILD_HELP)
+    job.add_argument("path", metavar="PATH", nargs="*", help="what to extract, if not all: " + WILD_HELP)
 
     job = add_job(added, "check", later("checkup", "check"),
                   "Say of each image whether it is whole, what is wrong, and what to do. Several are checked at once.")
@@ -101,18 +103,18 @@ def add_changing(added: Jobs) -> None:
                      "Prog,ffb, or that of the file whose place it takes, or fff (Text)")
     add_types(job)
     job.add_argument("file", metavar="FILE", nargs="+")
-    job.add_argument("path", metavar="PATH", help="of the file, or of the directory that gets it; " + PATH_HELP)
+    job.add_argument("path", metavar="PATH", help="where the file goes, or the directory that gets it: " + PATH_HELP)
 
     job = add_change(added, "add", later("changes", "add"),
                      "Put all files of a folder or of a zip archive onto a disc. Their names "
                      "are those that extract gives: a type after a comma, `.` for `/`. Links are left out. NAME.inf beside NAME "
-                     "tells its words and access.")
+                     "tells its load and exec words and access.")
     job.add_argument("--fit", action="store_true", help="give other names to what the disc doesn't take, and list them")
     job.add_argument("-v", "--verbose", action="store_true", help="name all that is refused, not only the first of each kind")
     add_types(job)
     job.add_argument("--replace", action="store_true", help="files take the place of those that are on the disc")
     job.add_argument("folder", metavar="FOLDER", help="a folder, or a zip archive")
-    job.add_argument("path", metavar="PATH", nargs="?", default="$", help="of the directory for them; it is made if need be")
+    job.add_argument("path", metavar="PATH", nargs="?", default="$", help="the directory that gets them; it is made if need be")
 
 
 def add_moving(added: Jobs) -> None:
@@ -133,18 +135,19 @@ def add_moving(added: Jobs) -> None:
     job.add_argument("source", metavar="FROM", nargs="+", help=WILD_HELP)
     job.add_argument("target", metavar="TO", help="the new path, or that of a directory that gets them")
 
-    job = add_change(added, "access", later("changes", "access"), "Lock objects, or say what their owner may do.")
-    job.add_argument("access", metavar="ACCESS", type=access_bits, help="letters of L (locked), W, R, as in WR; - for none")
+    job = add_change(added, "access", later("changes", "access"), "Lock or unlock files and directories: set all that their owner may do.")
+    job.add_argument("access", metavar="ACCESS", type=access_bits, help="all that holds then, in letters of L (locked), W (write), "
+                     "R (read): LWR locks a file that was WR; - for none")
     job.add_argument("path", metavar="PATH", nargs="+", help=WILD_HELP)
 
 
 def add_whole(added: Jobs) -> None:
     add_change(added, "compact", later("changes", "compact"), "Bring the free space of a disc together.")
 
-    add_change(added, "reclaim", later("copying", "reclaim"), "Make the space free that nothing on the disc owns.", "+")
+    add_change(added, "reclaim", later("copying", "reclaim"), "Free lost space: what nothing on the disc owns.", "+")
 
     job = add_job(added, "undo", later("backups", "undo"),
-                  "Give an image its state before the first change again. What it was until then is "
+                  "Go back to the image as it was before the first change. What it was until then is "
                   "called IMAGE~undone.")
     job.add_argument("--back", action="store_true", help="take the last undo back")
     job.add_argument("image", metavar="IMAGE")
@@ -234,6 +237,9 @@ def main(arguments: List[str]) -> int:
         from .jobs import not_accepted
         from .rescue.job import advice
         tell(not_accepted(words.image, fault) + advice(words.image, getattr(words, "order", "auto")))
+        return FAILED
+    except ModuleNotFoundError as missing:  # systems pack Python in parts, and may have some of them alone
+        tell("this Python lacks its part %s: install all of it (Debian's python3, not python3-minimal alone)" % missing.name)
         return FAILED
     except BrokenPipeError:
         drop_output()  # whoever read the output has seen enough

@@ -18,7 +18,7 @@ BACKUPS = ("first", "each")  # what is kept of an image that is changed; the fir
 FORMATS = ("E", "F", "D", "L", "E+", "F+")
 EPILOG = "Status: 0 all went well, 1 something failed or was refused, 2 wrong arguments. See fcdisc(1)."
 WILD_HELP = "a path, as $.Docs.Letter; * stands for any letters of a name and # for one"
-PATH_HELP = "as $.Docs.Letter; what isn't plain in a name as %%XX, as the list shows it"
+PATH_HELP = "a path, as $.Docs.Letter; a byte that the list shows as %%XX is written so"
 
 
 def later(part: str, name: str) -> Job:
@@ -53,8 +53,8 @@ def offset(text: str) -> str:
 def add_order(job: argparse.ArgumentParser) -> None:
     job.add_argument("--offset", metavar="N", type=offset, dest="order", default=argparse.SUPPRESS,
                      help="the byte of the image at which the disc begins: it is read from a copy")
-    job.add_argument("--order", choices=ORDERS, default="auto", help="of the bytes of an L disc's image: `disc`, or `adl` for "
-                     "interleaved sides; else fcdisc finds it out, and says so if the image isn't in disc order")
+    job.add_argument("--order", choices=ORDERS, default="auto", help="the order of the bytes in an L disc's image: `disc`, or "
+                     "`adl` for interleaved sides; else fcdisc finds it out, and says so if the image isn't in disc order")
 
 
 # ---- what words may be

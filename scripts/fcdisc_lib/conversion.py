@@ -7,25 +7,25 @@ from typing import Dict, Iterator, List, Optional
 
 from .adding import SETTABLE, loses_access
 from .changes import tell_lost_access
-from .complaints import Complaints
-from .editing import NOT_COPIED, Failure, Step, longest_content, save_line, set_line, tell_failures
+from .contents import Content, held
+from .editing import NOT_COPIED, Failure, Step, given_files, save_step, set_line, step_scripts, tell_failures
 from .fitting import Fitting, Limits
 from .fresh import fresh_disc
-from .hostfiles import NEW_FILE, TOO_LONG
+from .hostfiles import NEW_FILE
 from .images import pieces_from
 from .jobs import refusal, write_new
 from .messages import FAILED, Progress, counted, say, shown
 from .names import spelled_path
 from .output import refuse_if_taken
-from .program import Entry, Path, Refused, Run, batches, command, find_program, scripts
+from .program import Entry, Path, Refused, Run, batches, command, find_program
 from .tree import Tree, read_tree
 
 
 class Conversion:
     """The steps that make a disc's tree on another, and what came of them."""
 
-    def __init__(self, program: str, tree: Tree, name: str, limits: Optional[Limits] = None, verbose: bool = False):
-        self.program, self.tree, self.name, self.limits, self.complain = program, tree, name, limits, Complaints(verbose)
+    def __init__(self, program: str, tree: Tree, name: str, limits: Optional[Limits] = None):
+        self.program, self.tree, self.name, self.limits = program, tree, name, limits
         self.failures: List[Failure] = []
         self.lost_access = 0
         self.files: List[Entry] = []
@@ -34,8 +34,8 @@ class Conversion:
 
     def run(self, number: int) -> None:
         """Fills the fresh disc that is the open file of that number."""
-        for script, batch in scripts((step.line, step) for step in self.steps()):
-            with Run(self.program, self.name, ["--", "/dev/fd/%d" % number], script, [number]) as run:
+        for script, batch in step_scripts(self.steps()):
+            with given_files(batch) as given, Run(self.program, self.name, ["--", "/dev/fd/%d" % number], script, [number], given) as run:
                 for step in batch:
                     try:
                         list(run.lines())
@@ -45,17 +45,14 @@ class Conversion:
     def steps(self) -> Iterator[Step]:
         for entry in self.tree.walk():
             self.places[entry.path] = self.place(entry)
-        self.files = [entry for entry in self.tree.files() if self.fits(entry)]
-        wanted = {entry.path for entry in self.files}
+        self.files = self.tree.files()
         contents = self.contents()
         for entry in self.tree.walk():
             place = self.places[entry.path]
             if entry.is_directory:
                 yield Step(command("cdir", place), place, NOT_COPIED)
-            elif entry.path in wanted:
-                yield Step(save_line(place, entry.load, entry.execution, next(contents)), place, NOT_COPIED)
             else:
-                continue
+                yield save_step(place, entry.load, entry.execution, next(contents), NOT_COPIED)
             yield from self.set_steps(entry, place)
 
     def place(self, entry: Entry) -> Path:
@@ -79,21 +76,13 @@ class Conversion:
             yield Step(set_line(place, entry.load, entry.execution, entry.attributes), place, "access not set")
         self.lost_access += loses_access(entry.attributes)
 
-    def fits(self, entry: Entry) -> bool:
-        longest = longest_content(self.places[entry.path])
-        if entry.length <= longest:
-            return True
-        self.complain("%s: %s" % (shown(self.tree.image.path), spelled_path(entry.path)), "%s: %s" % (
-            NOT_COPIED, TOO_LONG % (entry.length, longest)))
-        return False
-
-    def contents(self) -> Iterator[bytes]:
-        """The bytes of each file that fits, in the tree's order."""
+    def contents(self) -> Iterator[Content]:
+        """The bytes of each file, in the tree's order."""
         progress = Progress("bytes copied", sum(entry.length for entry in self.files))
         for script, batch in batches("load", self.files):
             with self.tree.image.run(self.program, script) as run:
                 for entry in batch:
-                    yield b"".join(progress.passed(run.load(entry.length)))
+                    yield held(progress.passed(run.load(entry.length)), entry.length)[0]
 
 
 def convert(words: Namespace) -> int:
@@ -105,7 +94,7 @@ def convert(words: Namespace) -> int:
     except Refused as refused:
         raise refusal(refused, words) from None
     limits = Limits.of_format(words.format) if words.fit else None
-    conversion = Conversion(program, tree, words.out, limits, words.verbose)
+    conversion = Conversion(program, tree, words.out, limits)
     with fresh_disc(program, words.out, words.format) as file:
         conversion.run(file.fileno())
         write_new(words.out, pieces_from(file, 0))
@@ -114,11 +103,10 @@ def convert(words: Namespace) -> int:
 
 def verdict(words: Namespace, done: Conversion) -> int:
     """Tells what wasn't copied."""
-    done.complain.sum_up()
     tell_failures(words.out, done.failures, words.verbose)
     tell_lost_access(words.out, done.lost_access)
     refused = {failure.step.path for failure in done.failures if failure.step.failure == NOT_COPIED}
     copied = sum(done.places[entry.path] not in refused for entry in done.files)
     say("%d of %s copied to %s" % (copied, counted(len(done.tree.files()), "file"), shown(words.out)))
-    whole = not (done.failures or done.complain.count or done.lost_access or done.tree.too_deep)
+    whole = not (done.failures or done.lost_access or done.tree.too_deep)
     return 0 if whole else FAILED

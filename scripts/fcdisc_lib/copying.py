@@ -8,9 +8,10 @@ from typing import Iterator, List, Tuple
 from . import names
 from .adding import SETTABLE, loses_access
 from .changes import Listing, found_in, meant_paths, read_listings, tell_lost_access
-from .editing import NO_COPY, Edit, Step, longest_content, save_line, set_line, why
+from .contents import held
+from .editing import NO_COPY, Edit, Step, save_step, set_line, why
 from .faults import refusal_explained
-from .hostfiles import NEW_FILE, TOO_LONG
+from .hostfiles import NEW_FILE
 from .messages import FAILED, Progress, counted, say, shown
 from .names import spelled_path
 from .program import Entry, Path, Refused, Run, batches, command, find_program
@@ -62,15 +63,12 @@ def copy_steps(edit: Edit, pairs: List[Pair]) -> Iterator[Step]:
     for entry, place in pairs:
         if entry.is_directory:
             yield Step(command("cdir", place), place, NO_COPY)
-    for entry, place in pairs:
-        if not entry.is_directory and entry.length > longest_content(place):
-            raise edit.trouble("%s: %s" % (spelled_path(entry.path), TOO_LONG % (entry.length, longest_content(place))))
     places = {entry.path: place for entry, place in pairs}
     for script, batch in batches("load", [entry for entry, _ in pairs if not entry.is_directory]):
         with edit.image.run(edit.program, script) as run:
             for entry in batch:
-                content = b"".join(run.load(entry.length))
-                yield Step(save_line(places[entry.path], entry.load, entry.execution, content), places[entry.path], NO_COPY)
+                content = held(run.load(entry.length), entry.length)[0]
+                yield save_step(places[entry.path], entry.load, entry.execution, content, NO_COPY)
     for entry, place in pairs:
         usual = (0, 0, 0) if entry.is_directory else (entry.load, entry.execution, NEW_FILE)
         if (entry.load, entry.execution, entry.attributes & SETTABLE) != usual:

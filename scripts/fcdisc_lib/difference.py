@@ -2,7 +2,6 @@
 """What two discs have that is different; or a disc and a folder as `extract` makes it."""
 from __future__ import annotations
 
-import hashlib
 import os
 from argparse import Namespace
 from typing import Dict, Iterator, List, NamedTuple, Tuple
@@ -12,13 +11,13 @@ from .adding import SETTABLE
 from .archives import archive_items
 from .catalogue import disc_in
 from .collection import Found
+from .contents import digest_of
 from .hostfiles import NEW_DIRECTORY, NEW_FILE
 from .hostitems import Failures, Item, Wishes, is_archive, items_of
 from .messages import FAILED, counted, reason, say, shown
 from .program import Path, find_program
 from .unread import digests
 
-LONGEST = 1 << 30  # bytes of a file of the host that is read
 AS_THEY_ARE = Wishes(name_help="")
 
 
@@ -102,12 +101,12 @@ def host_side(items: List[Item], fail: Failures) -> Dict[Path, Side]:
             found[folded(item.path)] = Side(path, True, "", words[0], words[1], words[2] & SETTABLE)
             continue
         try:
-            file = item.source.read(LONGEST)
+            file = item.source.read()
+            digest = digest_of(file.content)
         except (OSError, ValueError) as error:
             fail.refuse(item.place, reason(error) if isinstance(error, OSError) else str(error))
             continue
         load, execution = file.words(item.named)
         attributes = file.kept.attributes if file.kept else NEW_FILE
-        digest = hashlib.sha256(file.content).hexdigest()
         found[folded(item.path)] = Side(path, False, digest, load, execution, attributes & SETTABLE)
     return found

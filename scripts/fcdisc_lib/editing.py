@@ -10,12 +10,13 @@ import os
 import stat
 from argparse import Namespace
 from binascii import hexlify
-from contextlib import ExitStack, nullcontext, suppress
-from typing import BinaryIO, Callable, Dict, Iterable, Iterator, List, NamedTuple, Optional, Set, TypeVar
+from contextlib import ExitStack, contextmanager, nullcontext, suppress
+from typing import BinaryIO, Callable, Dict, Iterable, Iterator, List, NamedTuple, Optional, Sequence, Set, Tuple, TypeVar
 
 from . import names
 from .backups import Backup
 from .complaints import Complaints
+from .contents import CHANGED, Content, LargeFile
 from .faults import refusal_explained
 from .fitting import SHORT_NAME
 from .hostitems import FIT_HELP, NOT_ADDED
@@ -28,6 +29,7 @@ from .output import Folder, NewFile, split_path
 from .program import SCRIPT_LIMIT, BadImage, Path, Refused, Run, scripts
 
 Result = TypeVar("Result")
+MOST_FILES, MOST_BYTES = 64, 1 << 28  # large files that one run takes, and their bytes if they are several
 NOT_COPIED, NOT_MADE, NOT_PUT, NO_COPY = "not copied", "not made", "not put there", "no copy made"
 OTHER_NAME = "; give a name for it in PATH, such as $.MyText"
 # What helps where a disc doesn't take a name
@@ -35,11 +37,12 @@ NAME_HELP = {NOT_ADDED: FIT_HELP, NOT_COPIED: FIT_HELP, NOT_PUT: OTHER_NAME}
 
 
 class Step(NamedTuple):
-    """A line that changes the disc; the object that a refusal is about, and what then wasn't done."""
+    """A line that changes the disc; the object that a refusal is about, what then wasn't done, and the file that fcore reads for it."""
 
     line: bytes
     path: Path
     failure: str
+    file: Optional[LargeFile] = None
 
 
 class Failure(NamedTuple):
@@ -52,16 +55,29 @@ class Failure(NamedTuple):
 # ---- lines of scripts
 
 
-def save_line(path: Path, load: int, execution: int, content: bytes) -> bytes:
-    return b"save %s %08x %08x %s\n" % (names.path_bytes(path), load, execution, hexlify(content) or b"-")
+def save_step(path: Path, load: int, execution: int, content: Content, failure: str) -> Step:
+    """A file's bytes stand in the line; a large one fcore itself reads, by the number under which it is open."""
+    place = names.path_bytes(path)
+    if isinstance(content, bytes):
+        return Step(b"save %s %08x %08x %s\n" % (place, load, execution, hexlify(content) or b"-"), path, failure)
+    return Step(b"put %d %s %08x %08x\n" % (content.number, place, load, execution), path, failure, content)
 
 
-SHORTEST_SAVE = len(save_line((), 0, 0, b"")) - 1  # of a file of no bytes in the root, without its name and content
+def step_scripts(steps: Iterable[Step]) -> Iterator[Tuple[bytes, List[Step]]]:
+    """The steps as scripts. The large files of a script are open at once, and may lie in memory: so they are few."""
+    return scripts(((step.line, step) for step in steps),
+                   lambda step: max(SCRIPT_LIMIT // MOST_FILES, step.file.size * SCRIPT_LIMIT // MOST_BYTES) if step.file else 0)
 
 
-def longest_content(path: Path) -> int:
-    """The bytes of the longest file that one line can hold. Each name has a dot before it."""
-    return (SCRIPT_LIMIT - SHORTEST_SAVE - len(names.path_bytes(path)) + 1) // 2
+@contextmanager
+def given_files(batch: List[Step]) -> Iterator[List[int]]:
+    """The large files of these steps, by their numbers. They are closed afterwards."""
+    files = [step.file for step in batch if step.file]
+    try:
+        yield [file.number for file in files]
+    finally:
+        for file in files:
+            file.close()
 
 
 def set_line(path: Path, load: int, execution: int, attributes: int) -> bytes:
@@ -163,13 +179,13 @@ class Edit:
                                     % (reason(error), max(lack, 0.1)))
         return self.trouble("no copy of it can be made (%s); --in-place does without" % reason(error))
 
-    def perform(self, script: bytes, read: Callable[[Run], Result]) -> Result:
+    def perform(self, script: bytes, read: Callable[[Run], Result], given: Sequence[int] = ()) -> Result:
         """Runs a script that changes the disc."""
         if self.working is None:
             self.working = self.begin()
         number = self.working.fileno()
         with unbroken() if self.in_place else nullcontext():
-            run = Run(self.program, self.name, ["--", "/dev/fd/%d" % number], script, [number])
+            run = Run(self.program, self.name, ["--", "/dev/fd/%d" % number], script, [number], given)
             try:
                 with run:
                     return read(run)
@@ -180,8 +196,9 @@ class Edit:
 
     def change(self, steps: Iterable[Step]) -> None:
         """Makes the changes, by one run of fcore or as few as there can be."""
-        for script, batch in scripts((step.line, step) for step in steps):
-            self.perform(script, lambda run, batch=batch: self.read_replies(run, batch))  # type: ignore[misc]
+        for script, batch in step_scripts(steps):
+            with given_files(batch) as given:
+                self.perform(script, lambda run, batch=batch: self.read_replies(run, batch), given)  # type: ignore[misc]
 
     def read_replies(self, run: Run, batch: List[Step]) -> None:
         for step in batch:
@@ -190,6 +207,9 @@ class Edit:
                 self.changes += 1
             except Refused as refused:
                 self.failures.append(Failure(step, refused.name))
+        for step in batch:
+            if step.file and step.file.is_changed():
+                raise self.trouble("%s: %s: %s" % (names.spelled_path(step.path), step.failure, CHANGED))
 
     # the end
 

@@ -12,6 +12,7 @@ import stat
 from contextlib import suppress
 from typing import NamedTuple, Optional, Tuple
 
+from .contents import CHANGED, LARGE, Content, LargeFile
 from .names import DiscName, has_type, type_of, unix_time, words_for
 
 KEPT_NAME = "user.fcdisc"
@@ -19,7 +20,7 @@ KEPT = re.compile(rb"([0-9a-f]{8}) ([0-9a-f]{8}) ([0-9a-f]{8}) (-?[0-9]+)\Z")
 TEXT = 0xFFF
 NEW_FILE = 3  # the attributes of a new file: its owner may read and write
 NEW_DIRECTORY = 8
-TOO_LONG = "it has %d bytes, and fcore takes files of no more than %d here"
+TOO_LONG = "it has %d bytes, and no more than %d are read here"
 OPEN_FILE = os.O_RDONLY | os.O_NONBLOCK  # to open it doesn't wait, as for the other end of a pipe
 
 
@@ -69,9 +70,9 @@ def kept_with(number: int) -> Optional[Kept]:
 
 
 class HostFile(NamedTuple):
-    """A file of the host as it was read."""
+    """A file of the host: its bytes, or the open file if it is large."""
 
-    content: bytes
+    content: Content
     time: int  # in nanoseconds since 1970
     kept: Optional[Kept]
 
@@ -95,25 +96,50 @@ def agrees(kept: Kept, named: DiscName) -> bool:
     return named.file_type in (None, type_of(kept.load))
 
 
-def read_host_file(path: bytes, limit: int, flags: int = 0) -> HostFile:
-    """Reads a file of at most `limit` bytes. With the flag O_NOFOLLOW a link isn't followed.
+def host_file(path: bytes, flags: int = 0) -> HostFile:
+    """A file of any length, which has to be closed if it is large. With the flag O_NOFOLLOW a link isn't followed.
 
     Raises OSError, or ValueError with the reason where it isn't to be had as it is.
     """
     number = os.open(path, OPEN_FILE | flags)
     try:
-        before = os.fstat(number)
-        if not stat.S_ISREG(before.st_mode):
-            raise ValueError("not a file")
-        if before.st_size > limit:
-            raise ValueError(TOO_LONG % (before.st_size, limit))
-        content = read_all(number, before.st_size)
-        after = os.fstat(number)
-        if len(content) != before.st_size or (before.st_size, before.st_mtime_ns) != (after.st_size, after.st_mtime_ns):
-            raise ValueError("it changed while it was read")
-        return HostFile(content, before.st_mtime_ns, kept_with(number))
+        if is_plain(number).st_size <= LARGE:
+            return read_open(number)
+        large = LargeFile(open(os.dup(number), "rb", buffering=0))
+        return HostFile(large, large.time, kept_with(number))
     finally:
         os.close(number)
+
+
+def read_host_file(path: bytes, limit: int, flags: int = 0) -> bytes:
+    """The bytes of a file that has at most so many; otherwise as `host_file`."""
+    number = os.open(path, OPEN_FILE | flags)
+    try:
+        size = is_plain(number).st_size
+        if size > limit:
+            raise ValueError(TOO_LONG % (size, limit))
+        content = read_open(number).content
+        assert isinstance(content, bytes)
+        return content
+    finally:
+        os.close(number)
+
+
+def is_plain(number: int) -> os.stat_result:
+    """What is known of an open file."""
+    found = os.fstat(number)
+    if not stat.S_ISREG(found.st_mode):
+        raise ValueError("not a file")
+    return found
+
+
+def read_open(number: int) -> HostFile:
+    before = os.fstat(number)
+    content = read_all(number, before.st_size)
+    after = os.fstat(number)
+    if len(content) != before.st_size or (before.st_size, before.st_mtime_ns) != (after.st_size, after.st_mtime_ns):
+        raise ValueError(CHANGED)
+    return HostFile(content, before.st_mtime_ns, kept_with(number))
 
 
 def read_all(number: int, size: int) -> bytes:

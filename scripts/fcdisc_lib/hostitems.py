@@ -10,7 +10,7 @@ from . import inf, names
 from .complaints import Complaints
 from .filetypes import Types
 from .fitting import Fitting, Limits
-from .hostfiles import HostFile, Kept, kept_with, read_host_file
+from .hostfiles import HostFile, Kept, host_file, kept_with, read_host_file
 from .leftovers import is_temporary
 from .messages import Trouble, reason, shown
 from .program import Path
@@ -30,9 +30,9 @@ class Source:
     def __init__(self, place: bytes, size: int = 0, told: Optional[inf.Inf] = None):
         self.place, self.size, self.told = place, size, told
 
-    def read(self, limit: int) -> HostFile:
+    def read(self) -> HostFile:
         """Raises OSError, or ValueError with the reason where it isn't to be had as it is."""
-        file = read_host_file(self.place, limit, os.O_NOFOLLOW)
+        file = host_file(self.place, os.O_NOFOLLOW)
         return file._replace(kept=self.kept_at(file.time)) if self.told else file
 
     def kept(self) -> Optional[Kept]:
@@ -171,7 +171,7 @@ def infs_among(entries: List[os.DirEntry[bytes]]) -> Tuple[Dict[bytes, inf.Inf],
         base = entry.name[:-len(inf.ENDING)]
         if base in there and base not in found and entry.is_file(follow_symlinks=False):
             try:
-                told = inf.read_inf(read_host_file(entry.path, inf.LONGEST, os.O_NOFOLLOW).content)
+                told = inf.read_inf(read_host_file(entry.path, inf.LONGEST, os.O_NOFOLLOW))
             except (OSError, ValueError):
                 continue
             if told:

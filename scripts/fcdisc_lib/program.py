@@ -7,7 +7,7 @@ import subprocess
 import sys
 from binascii import Error as NoHex
 from binascii import unhexlify
-from typing import BinaryIO, Dict, Iterable, Iterator, List, NamedTuple, Optional, Sequence, Tuple, TypeVar
+from typing import BinaryIO, Callable, Dict, Iterable, Iterator, List, NamedTuple, Optional, Sequence, Tuple, TypeVar
 
 from . import names
 from .messages import Trouble, reason, shown
@@ -17,6 +17,7 @@ BUFFER = 1 << 20
 DIRECTORY = 8  # of an object's attributes
 READ_ONLY = "--read-only"
 DONE = b"ok\n"  # the last line of a reply
+OPEN_FILES = "/dev/fd"  # the files that a program has open, by their numbers
 Path = Tuple[bytes, ...]
 Subject = TypeVar("Subject")
 
@@ -24,7 +25,8 @@ Subject = TypeVar("Subject")
 ENDS = {
     2: "fcore doesn't know these words: is it of another version?", 4: "I/O error while fcore read it",
     5: "fcore couldn't read its script", 6: "fcore couldn't write its replies", 7: "fcore ran out of memory",
-    8: "fcore's script is too long", 9: "this fcore can't do that: it isn't built in", 12: "fcore can't open it",
+    8: "fcore's script is too long", 9: "this fcore can't do that: it isn't built in",
+    11: "a file for it changed or couldn't be read", 12: "fcore can't open it",
 }
 WRITING_ENDS = {**ENDS, 4: "I/O error while fcore read or wrote it (is the host full?)"}
 
@@ -81,13 +83,13 @@ def find_program() -> str:
 class Run:
     """A run of fcore. Used by `with`: at the end the program has ended, and all that it wrote was read, or an error says why not.
 
-    `image` is the image's name for people. The files `kept_open` can be opened by fcore as /dev/fd/N.
+    `image` is the image's name for people. The files `kept_open` can be opened by fcore as /dev/fd/N, and its `put` takes the file N of `given`.
     """
 
-    def __init__(self, program: str, image: str, words: Sequence[str], script: bytes, kept_open: Iterable[int]):
+    def __init__(self, program: str, image: str, words: Sequence[str], script: bytes, kept_open: Iterable[int], given: Sequence[int] = ()):
         try:
             self.process = subprocess.Popen([program, *words], stdin=subprocess.PIPE, stdout=subprocess.PIPE, bufsize=BUFFER,
-                                            pass_fds=tuple(kept_open))
+                                            pass_fds=(*kept_open, *given), cwd=OPEN_FILES if given else None)
         except OSError as error:
             raise Trouble("%s can't be run: %s" % (shown(program), reason(error))) from None
         assert self.process.stdin and self.process.stdout
@@ -237,17 +239,22 @@ def batches(word: str, entries: Iterable[Entry]) -> Iterator[Tuple[bytes, List[E
     return scripts((command(word, entry.path), entry) for entry in entries)
 
 
-def scripts(lines: Iterable[Tuple[bytes, Subject]]) -> Iterator[Tuple[bytes, List[Subject]]]:
-    """The lines as scripts, in as few as fcore's limit allows, each with what its lines are about. No line is longer than that."""
+def scripts(lines: Iterable[Tuple[bytes, Subject]],
+            more: Callable[[Subject], int] = lambda subject: 0) -> Iterator[Tuple[bytes, List[Subject]]]:
+    """The lines as scripts, in as few as fcore's limit allows, each with what its lines are about. No line is longer than that.
+
+    A line may count for more bytes than it has.
+    """
     script: List[bytes] = []
     batch: List[Subject] = []
     size = 0
     for line, subject in lines:
-        if batch and size + len(line) > SCRIPT_LIMIT:
+        added = len(line) + more(subject)
+        if batch and size + added > SCRIPT_LIMIT:
             yield b"".join(script), batch
             script, batch, size = [], [], 0
         script.append(line)
         batch.append(subject)
-        size += len(line)
+        size += added
     if batch:
         yield b"".join(script), batch

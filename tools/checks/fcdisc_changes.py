@@ -8,6 +8,7 @@ from __future__ import annotations
 import fcntl
 import hashlib
 import os
+import random
 import re
 import shutil
 import signal
@@ -20,6 +21,8 @@ from tools.checks.fcdisc_hosts import on_host
 from tools.checks.work_folders import wait_for
 from tools.files import read
 from tools.images import table
+from tools.images.fragmented import hard_disc
+from tools.images.large import SparseFile
 from tools.images.volumes import Volume
 from tools.reference.change_state import State
 from tools.reference.filecore import NOT_SPELLED, spelled_path
@@ -152,8 +155,7 @@ def putting(c: Changes) -> None:
             ("more than the disc holds", ["big", "$.Big"], "a.adf: $.Big: not put there: the disc is full")):
         c.refused("put " + name, ["put", "a.adf", *words], error)
     os.truncate(c.at("big"), 9000000)
-    c.refused("put more than a script holds", ["put", "a.adf", "big", "$.Big"],
-              "big: it has 9000000 bytes, and fcore takes files of no more than 8388593 here")
+    c.refused("put more than a script holds", ["put", "a.adf", "big", "$.Big"], "a.adf: $.Big: not put there: the disc is full")
     c.refused("put no image", ["put", "none.adf", "note.txt", "$.N"], "none.adf: No such file or directory")
     c.refused("put a type that is none", ["put", "--type", "xyz", "a.adf", "note.txt", "$.N"], "usage: fcdisc put...", 2)
     os.symlink("note.txt", c.at("link"))
@@ -321,8 +323,32 @@ def adding_much(c: Changes) -> None:
     os.chmod(c.at("o/2"), 0o600)
     watched = c.fake('#!/bin/sh\necho run >> runs; exec FCORE "$@"\n')
     got = c.run("add", "a.adf", "o", fcore=watched)
-    c.checks.expect("add in several scripts", runs=(5, read(c.at("runs")).count(b"\n")), status=(1, got[2]),
+    c.checks.expect("add large files in one script", runs=(2, read(c.at("runs")).count(b"\n")), status=(1, got[2]),
                     out=("0 of 3 files added to a.adf\n", got[0]))
+
+
+def long_files(c: Changes) -> None:
+    """Files that fcore itself reads: onto a disc, within it, from an archive, onto another disc, and back."""
+    long, half = random.Random(1).randbytes(20_000_000), random.Random(2).randbytes(1_200_000)
+    c.start(files={"long,ffd": long, "o/half,ffd": half, "o/small,ffd": b"s"})
+    volume = hard_disc(10, 15, 10, 62, big=True)
+    with open(c.at("h.hdf"), "wb") as file:
+        volume.write(SparseFile(file, volume.shape.record.size))
+    for words in (["put", "h.hdf", "long,ffd", "$.Long"], ["cp", "h.hdf", "$.Long", "$.Copy"], ["put", "--replace", "h.hdf", "o/half,ffd", "$.Long"],
+                  ["put", "--in-place", "--replace", "h.hdf", "long,ffd", "o/half,ffd", "$"]):
+        c.checks.expect(" ".join(words), result=(("", "", 0), c.run(*words)))
+    for path, content in (("$.Copy", long), ("$.Long", long), ("$.half", half)):
+        c.run("get", "h.hdf", path, "got")
+        c.checks.expect("get " + path, bytes=(True, read(c.at("got")) == content))
+        os.unlink(c.at("got"))
+    shutil.make_archive(os.fsdecode(c.at("z")), "zip", c.at("o").decode())
+    for place, disc in (("z.zip", "z.adf"), ("o", "f.adf")):
+        c.run("new", "F", disc)
+        c.checks.expect("add long files of " + place, result=(("2 of 2 files added to %s\n" % disc, "", 0), c.run("add", disc, place)),
+                        tree=({"$.half": (3, half), "$.small": (3, b"s")}, short_tree(read(c.at(disc)))))
+    c.checks.expect("convert a long file", result=(("2 of 2 files copied to g.adf\n", "", 0), c.run("convert", "F+", "f.adf", "g.adf")),
+                    tree=({"$.half": (3, half), "$.small": (3, b"s")}, short_tree(read(c.at("g.adf")))))
+    c.checks.expect("diff of a long file", result=(("", "", 0), c.run("diff", "f.adf", "o")))
 
 
 def troubles(c: Changes) -> None:
@@ -528,7 +554,7 @@ def converting(c: Changes) -> None:
     c.checks.expect("convert an .adl", status=(1, got[2]), told=(True, got[1].startswith("fcdisc: a.adl: " + fcdisc_cases.SIDES)))
 
 
-PARTS = (putting, moving, removing, over_big_directories, over_old_maps, squashing, forms, adding, adding_somewhere, adding_much,
+PARTS = (putting, moving, removing, over_big_directories, over_old_maps, squashing, forms, adding, adding_somewhere, adding_much, long_files,
          troubles, other_programs, programs_that_go, removing_levels, other_hosts, signals, converting)
 
 

@@ -1,5 +1,5 @@
 # SPDX-License-Identifier: MIT
-"""`get` of the built program: the files of the host that it makes, what it leaves alone, and where the system fails it.
+"""`get` and `put` of the built program: here the files of the host that `get` makes, what it leaves alone, and where the system fails it.
 
 No case may change anything in its folder but the file that it is to make. The suite is run by tools/checks/run.py.
 """
@@ -14,6 +14,7 @@ import subprocess
 import tempfile
 from typing import Callable, Dict, Iterator, List, NamedTuple, Optional, Sequence, Tuple
 
+from tools.checks.host_puts import Discs, put_cases, puts_that_fail
 from tools.checks.outside import EVERY, NOBODY, fault, some_of
 from tools.checks.selection import Suite, shortened
 from tools.checks.work_folders import Content, fill, snapshot
@@ -21,7 +22,7 @@ from tools.files import built_shim, compiler, has_compiler
 from tools.images import table
 from tools.reference.filecore import IS_DIRECTORY, NOT_FOUND
 
-SECONDS = 60
+SECONDS = 120
 BIG = bytes(at * 7 % 251 for at in range(200_000))  # four blocks of the program
 NAMES = ("a" * 64, "0", "A-b_c.D", "z..", "9.tar.gz")
 NO_NAMES = ("." * 3, ".b", "-b", "_b", "a/b", "/b", "..", "a%20b", "a" * 65, "b\\c", "b:c", "b*", "b\tc", "b\x7f")
@@ -64,7 +65,6 @@ CASES: Dict[str, Case] = {
                   {name.encode(): b"Hello" for name in NAMES}),
     "no-names": Case("".join("get $.Hello %s\n" % name for name in NO_NAMES), 1, "error 1 BadCommand\n" * len(NO_NAMES)),
     "words": Case("get\nget $.Hello\nget $.Hello b c\nGET $.Hello b\n", 1, "error 1 BadCommand\n" * 4),
-    "put": Case("put b.txt $.A 00000000 00000000\nput b.txt $.A\n", 1, "error 1 BadCommand\n" * 2, {}, {b"b.txt": b"own"}),
     "bad-image": Case("get $.Hello b\n", 3, "bad-image NoKind\n", {}, {b"hello.adf": bytes(819200)}),
     "a-file-is-there": exists({b"b.txt": b"own"}),
     "an-empty-file-is-there": exists({b"b.txt": b""}),
@@ -272,3 +272,7 @@ def host_files(suite: Suite, program: str) -> None:
         plain_cases(suite, place)
         host_cases(suite, place)
         calls_that_fail(suite, place)
+        discs = Discs(place.folder, place.content, place.run)
+        put_cases(suite, discs)
+        if has_compiler():
+            puts_that_fail(suite, discs, built_shim(folder), os.path.join(folder, "log"))

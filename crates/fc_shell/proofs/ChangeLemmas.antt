@@ -25,10 +25,13 @@ use Rattle.fc_script.specs.Texts.{ok_line, refusal_line}
 use Rattle.fc_runs.specs.Early.{reply_begun}
 use Rattle.fc_runs.specs.ReadLaw.{is_reading, reading_reply}
 use Rattle.fc_runs.specs.Run.{Answers, Serves, Step, Takes, is_error, keeps_tree, keeps_tree_or, shortage}
+use Rattle.fc_runs.specs.Space.{SparesSpace}
 use Rattle.fc_runs.specs.Spares.{Spares}
 use Rattle.fc_runs.specs.Stops.{LeftBy, SparesBy, leaves_image_or}
 use Rattle.fc_runs.proofs.LeftLemmas.{left_if_spared}
 use Rattle.fc_runs.proofs.RepliesLemmas.{changing_reply}
+use Rattle.fc_commands.specs.Judgments.{CommandLeaves}
+use Rattle.fc_course.specs.Run.{IsMapIn}
 use Rattle.fc_tree.specs.Agree.{Agree, reader_of_nodes}
 use Rattle.fc_tree.specs.Nodes.{nodes_of}
 use Rattle.fc_tree.specs.Parts.{ArePartsOf}
@@ -49,6 +52,7 @@ use Rattle.fc_shell.specs.Modes.{plain_mode}
 use Rattle.fc_shell.specs.Writing.{Wrote, WrotePart}
 use Rattle.fc_shell.proofs.AnsweredLemmas.{caused_alone}
 use Rattle.fc_shell.proofs.CommandLemmas.{accepted_by, effect_of, locked, no_reason, not_reading, refused_by}
+use Rattle.fc_spares.proofs.SpaceLemmas.{spares_law}
 use Rattle.fc_shell.proofs.SparesLemmas.{spares_of}
 use Rattle.fc_shell.proofs.StepLemmas.{left_ends, one_fault, unbegun_ends}
 use Rattle.fc_shell.proofs.WritingLemmas.{wrote_nothing}
@@ -57,7 +61,7 @@ use Rattle.fc_tree.proofs.EndLemmas.{no_twin as apart_names}
 
 -- ---- what the volume answers
 
-done_accepted : {T : Type 0} (o : Option Refusal) (value : T) → AnswersBy o (Ok value) → o ≡ None
+pub done_accepted : {T : Type 0} (o : Option Refusal) (value : T) → AnswersBy o (Ok value) → o ≡ None
 done_accepted None value answers = refl
 done_accepted (Some r) value answers = absurd answers
 
@@ -65,7 +69,7 @@ fault_accepted : (o : Option Refusal) → AnswersBy {T = Unit {0}} o (Err DiskFa
 fault_accepted None answers = refl
 fault_accepted (Some r) answers = absurd answers
 
-refusal_is : (o : Option Refusal) (r : Refusal) → AnswersBy {T = Unit {0}} o (Err (Refused r)) → o ≡ Some r
+pub refusal_is : (o : Option Refusal) (r : Refusal) → AnswersBy {T = Unit {0}} o (Err (Refused r)) → o ≡ Some r
 refusal_is None r answers = absurd answers
 refusal_is (Some x) r answers = ap Some (sym answers)
 
@@ -79,40 +83,35 @@ shortage_as v c o changes is =
     alone None = refl
     alone (Some r) = refl
 
-answer_accepted : (t : Tree) (form : NameForm) (read_only : Bool) (c : Command) → first_of (reasons t form read_only c) ≡ None → answer t form read_only c ≡ Ok (changed t c)
+pub answer_accepted : (t : Tree) (form : NameForm) (read_only : Bool) (c : Command) → first_of (reasons t form read_only c) ≡ None → answer t form read_only c ≡ Ok (changed t c)
 unfolding answer
 answer_accepted t form read_only c none = ap (answer_or (changed t c)) none
 
-answer_refused : (t : Tree) (form : NameForm) (read_only : Bool) (c : Command) (r : Refusal) → first_of (reasons t form read_only c) ≡ Some r → answer t form read_only c ≡ Err r
+pub answer_refused : (t : Tree) (form : NameForm) (read_only : Bool) (c : Command) (r : Refusal) → first_of (reasons t form read_only c) ≡ Some r → answer t form read_only c ≡ Err r
 unfolding answer
 answer_refused t form read_only c r is = ap (answer_or (changed t c)) is
 
-module _ (kind : Kind) (read_only : Bool) (s : State) (line : List ℕ) (c : Command) (changes : keeps_tree c ≡ false) (is : command_of line ≡ Ok c) where
-  by_answer : (a : Result Tree Refusal) (reply : List ℕ) (next : State) → answer (tree_in s) (dir_form s.view.layout) read_only c ≡ a
-      → Answers (plain_mode kind read_only) s c a reply next → Step (plain_mode kind read_only) s line reply next
-  by_answer a reply next answered takes =
-      subst (λ (r : Result Command Refusal). Takes (plain_mode kind read_only) s r reply next) (sym is)
-      (subst (λ (x : Result Tree Refusal). Answers (plain_mode kind read_only) s c x reply next) (sym answered) takes)
-
+module _ (kind : Kind) (read_only : Bool) (s : State) (c : Command) (changes : keeps_tree c ≡ false) where
   by_shortage : (o : Option Refusal) (reply : List ℕ) (next : State) → first_of (reasons (tree_in s) (dir_form s.view.layout) read_only c) ≡ None → short s.view c ≡ o
-      → Serves (plain_mode kind read_only) s c (changed (tree_in s) c) (option_map refusal_line o) reply next → Step (plain_mode kind read_only) s line reply next
+      → Serves (plain_mode kind read_only) s c (changed (tree_in s) c) (option_map refusal_line o) reply next → Takes (plain_mode kind read_only) s (Ok c) reply next
   by_shortage o reply next accepted short_is serves =
-      by_answer (Ok (changed (tree_in s) c)) reply next (answer_accepted (tree_in s) (dir_form s.view.layout) read_only c accepted)
+      subst (λ (x : Result Tree Refusal). Answers (plain_mode kind read_only) s c x reply next) (sym (answer_accepted (tree_in s) (dir_form s.view.layout) read_only c accepted))
       (subst (λ (x : Option (List ℕ)). Serves (plain_mode kind read_only) s c (changed (tree_in s) c) x reply next) (sym (shortage_as s.view c o changes short_is)) serves)
 
   -- An accepted command is a step,
-  done_step : (next : State) → refusal_in s.view s.image read_only c ≡ None → Changes kind s next c (changed (tree_in s) c) → Step (plain_mode kind read_only) s line ok_line next
-  done_step next accepted does =
+  pub done_takes : (next : State) → refusal_in s.view s.image read_only c ≡ None → Changes kind s next c (changed (tree_in s) c) → Takes (plain_mode kind read_only) s (Ok c) ok_line next
+  done_takes next accepted does =
       let both = accepted_by (reasons (tree_in s) (dir_form s.view.layout) read_only c) (short s.view c) accepted in
       by_shortage None ok_line next both.0 both.1 (sym (changing_reply s next c changes), effect_of kind read_only s next c (changed (tree_in s) c) changes does)
 
   -- and so is one that is refused.
-  refused_step : (r : Refusal) → refusal_in s.view s.image read_only c ≡ Some r → Step (plain_mode kind read_only) s line (refusal_line r) s
-  refused_step r refused = by (refused_by (reasons (tree_in s) (dir_form s.view.layout) read_only c) (short s.view c) r refused)
+  pub refused_takes : (r : Refusal) → refusal_in s.view s.image read_only c ≡ Some r → Takes (plain_mode kind read_only) s (Ok c) (refusal_line r) s
+  refused_takes r refused = by (refused_by (reasons (tree_in s) (dir_form s.view.layout) read_only c) (short s.view c) r refused)
     where
       by : (first_of (reasons (tree_in s) (dir_form s.view.layout) read_only c) ≡ Some r)
-          ⊎ ((first_of (reasons (tree_in s) (dir_form s.view.layout) read_only c) ≡ None) × (short s.view c ≡ Some r)) → Step (plain_mode kind read_only) s line (refusal_line r) s
-      by (inl first) = by_answer (Err r) (refusal_line r) s (answer_refused (tree_in s) (dir_form s.view.layout) read_only c r first) (refl, refl)
+          ⊎ ((first_of (reasons (tree_in s) (dir_form s.view.layout) read_only c) ≡ None) × (short s.view c ≡ Some r)) → Takes (plain_mode kind read_only) s (Ok c) (refusal_line r) s
+      by (inl first) =
+          subst (λ (x : Result Tree Refusal). Answers (plain_mode kind read_only) s c x (refusal_line r) s) (sym (answer_refused (tree_in s) (dir_form s.view.layout) read_only c r first)) (refl, refl)
       by (inr last) = by_shortage (Some r) (refusal_line r) s last.0 last.1 (refl, refl)
 
 -- ---- what becomes of the line
@@ -144,7 +143,15 @@ fault_ends d kind read_only s v line c old new before after changes is same spar
 
 module _ {D K : Type 0} {d : Ghosts D} (law : Laws d) (k : Sinks K) (kind : Kind) (s : State) (line : List ℕ) (c : Command) (was v : Volume) (old new : D) (before after : K)
     (changes : keeps_tree c ≡ false) (is : command_of line ≡ Ok c) (quiet : d.pending old ≡ false) (told : d.bytes old ≡ Some s.image) (opens : OpensAs s.image kind s.view)
-    (parts : ArePartsOf (parts_of was) s.view) where
+    (parts : ArePartsOf (parts_of was) s.view) (agree : (k : Kind) × Agree k (parts_of was)) (is_map : IsMapIn (parts_of was).layout) where
+  -- a step of the command is one of the line
+  taken_by : (reply : List ℕ) (next : State) → Takes (plain_mode kind was.read_only) s (Ok c) reply next → Step (plain_mode kind was.read_only) s line reply next
+  taken_by reply next takes = subst (λ (r : Result Command Refusal). Takes (plain_mode kind was.read_only) s r reply next) (sym is) takes
+
+  -- What the command leaves of free space and of the map.
+  space : (image : List ℕ) → CommandLeaves c (parts_of was) s.image image → SparesSpace s.view.layout s.view c s.image image
+  space image leaves = spares_law s.image image kind agree.0 s.view (parts_of was) c opens parts agree.1 is_map leaves
+
   -- It was done.
   done_ends : (done : Unit {0}) (result : Result Bool LineFault) → IsAsked d c was v old new (Ok done) → Tells k before after (Ok done) result
       → LineEnds d old new kind was.read_only s v line (k.taken before) (k.taken after) result
@@ -172,11 +179,11 @@ module _ {D K : Type 0} {d : Ghosts D} (law : Laws d) (k : Sinks K) (kind : Kind
       image = ap (leaves_image_or (is_error ok_line)) is ∙ ap (λ (b : Bool). b || is_reading c) (ok_no_error []) ∙ not_reading c changes
 
       spared : (image : List ℕ) → d.left_since new (d.moment old) image → LeftBy kind s (is_error ok_line) (command_of line) image
-      spared at left = spared_line kind s line c is (is_error ok_line) image tree at (spares_of (parts_of was) kind s.view c s.image at opens parts (asked.places.stops.since at left s.image told))
+      spared at left = spared_line kind s line c is (is_error ok_line) image tree at (spares_of (parts_of was) kind s.view c s.image at opens parts (asked.places.stops.since at left s.image told) (space at (asked.leaves.stops.since at left s.image told)))
 
       step : IsDone d old new kind was.read_only s line ok_line next
       step = record {
-        step = done_step kind was.read_only s line c changes is next accepted does;
+        step = taken_by ok_line next (done_takes kind was.read_only s c changes next accepted does);
         holds = (asked.changed s.image told).1;
         opens = does.opens.opens;
         kept = λ keep. absurd (let clash : false ≡ true = sym tree ∙ keep in cc);
@@ -212,7 +219,7 @@ module _ {D K : Type 0} {d : Ghosts D} (law : Laws d) (k : Sinks K) (kind : Kind
       let refused : refusal_in s.view s.image was.read_only c ≡ Some r =
       refusal_is (refusal_in s.view s.image was.read_only c) r (asked.refused s.view s.image (sound_law s.image kind s.view opens) parts) in
       unchanged (Refused r) result asked (λ fault. absurd (cc)) (λ reads.
-      left_ends law kind was s line old new (k.taken before) (k.taken after) quiet told opens (refusal_line r) result (refused_step kind was.read_only s line c changes is r refused) reads parts tells.1.no_disk tells.0)
+      left_ends law kind was s line old new (k.taken before) (k.taken after) quiet told opens (refusal_line r) result (taken_by (refusal_line r) s (refused_takes kind was.read_only s c changes r refused)) reads parts tells.1.no_disk tells.0)
   change_ends (Err NoMemory) result asked tells =
       unchanged NoMemory result asked (λ fault. absurd (cc)) (λ reads.
       subst (λ (x : Result Bool LineFault). LineEnds d old new kind was.read_only s was line (k.taken before) (k.taken after) x) (sym tells.0)
@@ -220,8 +227,11 @@ module _ {D K : Type 0} {d : Ghosts D} (law : Laws d) (k : Sinks K) (kind : Kind
   change_ends (Err DiskFault) result asked tells =
       subst (λ (x : Result Bool LineFault). LineEnds d old new kind was.read_only s v line (k.taken before) (k.taken after) x) (sym tells.0)
       (fault_ends d kind was.read_only s v line c old new (k.taken before) (k.taken after) changes is (ap k.taken tells.1)
-      (λ at left. spares_of (parts_of was) kind s.view c s.image at opens parts (asked.places.stops.since at left s.image told))
-      (λ at here. (let exit = asked.places.exit s.image told in spares_of (parts_of was) kind s.view c s.image at opens parts (subst (WritesPlacesOf c (parts_of was) s.image) (one_told (sym exit.1 ∙ here)) exit.2))))
+      (λ at left. spares_of (parts_of was) kind s.view c s.image at opens parts (asked.places.stops.since at left s.image told) (space at (asked.leaves.stops.since at left s.image told)))
+      (λ at here. (let exit = asked.places.exit s.image told in
+      let leaves = asked.leaves.exit s.image told in
+      spares_of (parts_of was) kind s.view c s.image at opens parts (subst (WritesPlacesOf c (parts_of was) s.image) (one_told (sym exit.1 ∙ here)) exit.2)
+      (space at (subst (CommandLeaves c (parts_of was) s.image) (one_told (sym leaves.1 ∙ here)) leaves.2)))))
 
 -- ---- what it keeps
 
@@ -285,7 +295,7 @@ module _ {D K T : Type 0} {d : Ghosts D} (law : Laws d) (k : Sinks K) (reply : T
   }
 
 -- Parts that agree are those of a view, whatever is known of the disk's bytes.
-agreed_view : (v : Volume) → (kind : Kind) × Agree kind (parts_of v) → (view : Opened) × AreSound view.layout view.listings × ArePartsOf (parts_of v) view
+pub agreed_view : (v : Volume) → (kind : Kind) × Agree kind (parts_of v) → (view : Opened) × AreSound view.layout view.listings × ArePartsOf (parts_of v) view
 agreed_view v agree =
     let a = agree.1 in (
       record { kind = agree.0; layout = (parts_of v).layout; listings = a.listings },

@@ -47,13 +47,14 @@ use Rattle.fc_shell.specs.Answered.{Answered}
 use Rattle.fc_shell.specs.Getting.{FileMoves, IsGot, IsNotGot}
 use Rattle.fc_shell.specs.Modes.{plain_mode}
 use Rattle.fc_shell.specs.MoveFaults.{moved_result}
-use Rattle.fc_shell.specs.Moving.{LineMoves}
+use Rattle.fc_shell.specs.Moving.{LineMoves, move_cause}
 use Rattle.fc_shell.specs.Writing.{Wrote}
 use Rattle.fc_shell.proofs.MovingLemmas.{moved_same, cuts_move}
 use Rattle.fc_tree.proofs.PathLemmas.{some_same as same_node}
 use Rattle.fc_shell.proofs.StepLemmas.{same_image, same_tree}
 use Rattle.fc_shell.proofs.WritingLemmas.{wrote_nothing}
 use Rattle.fc_device.proofs.StopLemmas.{one_told}
+use Rattle.fc_runs.proofs.HostServingLemmas.{stays_same}
 use Rattle.fc_runs.proofs.LeftLemmas.{host_left_same}
 
 -- ---- the file's bytes
@@ -184,7 +185,7 @@ module _ {D : Type 0} {d : Ghosts D} (law : Laws d) (kind : Kind) (v : Volume) (
       begun = not_begun x.1.begun;
       back = x.1.back;
       files_left = λ held known. let rest = x.1.files_left held known in (rest.0, rest.1, ⊎_elim (λ same. inl same) (λ part. inr (is_ok, part.0, part.1)) rest.2);
-      holds = λ spares. reads.bytes ∙ told;
+      holds = λ spares. (s.image, reads.bytes ∙ told, stays_same (move_cause fault) kind s opens);
       kept = λ keeps. same_tree law kind v s [] old new before after quiet told opens reads.stops;
       still = λ leaves. same_image law kind v s [] old new before after quiet told opens reads.stops;
       spared = λ image since. host_left_same kind s opens image (same_image law kind v s [] old new before after quiet told opens reads.stops image since) false line;

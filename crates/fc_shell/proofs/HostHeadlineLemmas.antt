@@ -10,7 +10,8 @@ use Rattle.fc_image.specs.Opening.{Opened, open_image}
 use Rattle.fc_image.specs.effects.Effect.{State}
 use Rattle.fc_runs.specs.HostHeadline.{HostHeadlineLaw}
 use Rattle.fc_runs.specs.HostPromises.{ToldRun}
-use Rattle.fc_runs.specs.HostRun.{HostSteps, Reading, served_line_of}
+use Rattle.fc_runs.specs.HostRun.{HostSteps, Reading}
+use Rattle.fc_script.specs.HostLines.{host_line_of}
 use Rattle.fc_runs.specs.Run.{Mode, commands_in}
 use Rattle.fc_runs.specs.Stops.{MayHaveLeft}
 use Rattle.fc_words.specs.CommandLine.{Request}
@@ -107,7 +108,7 @@ steps_weaker read May Might weaker mode s s' files files' (line ∷ lines) (repl
 
 module _ {D : Type 0} (d : Ghosts D) (old new : D) (headline : HostHeadlineLaw) (accepted : AcceptedLaw) (r : Request) (image script text : List ℕ) (files : Files) (left : Option Files) where
   by_maps : (v : Opened) (refused : Bool) → open_image (image_for r.new image) ≡ Ok v
-      → ToldRun d served_line_of old new (plain_mode v.kind r.read_only) (is_some r.new) (start_of r image v) (Some files) left script text refused → IsAnsweredByMaps d new r image script text files left
+      → ToldRun d host_line_of old new (plain_mode v.kind r.read_only) (is_some r.new) (start_of r image v) (Some files) left script text refused → IsAnsweredByMaps d new r image script text files left
   by_maps v refused o x =
       let ran = x files refl in
       let has = ran.2 in
@@ -118,8 +119,8 @@ module _ {D : Type 0} (d : Ghosts D) (old new : D) (headline : HostHeadlineLaw) 
         end = has.end;
         now = ran.0;
         left_is = ran.1;
-        answered = headline served_line_of (plain_mode v.kind r.read_only) (start_of r image v) has.end files ran.0 (commands_in script) has.run.replies refl (accepted (image_for r.new image) v o)
-            (steps_weaker served_line_of (MayHaveLeft d old new) (λ between. Unit {0}) (λ between may. tt) (plain_mode v.kind r.read_only) (start_of r image v) has.end files ran.0 (commands_in script) has.run.replies has.run.steps);
+        answered = headline host_line_of (plain_mode v.kind r.read_only) (start_of r image v) has.end files ran.0 (commands_in script) has.run.replies refl (accepted (image_for r.new image) v o)
+            (steps_weaker host_line_of (MayHaveLeft d old new) (λ between. Unit {0}) (λ between may. tt) (plain_mode v.kind r.read_only) (start_of r image v) has.end files ran.0 (commands_in script) has.run.replies has.run.steps);
         told = has.run.told;
         holds = has.holds;
       }
@@ -128,7 +129,7 @@ module _ {D : Type 0} (d : Ghosts D) (old new : D) (headline : HostHeadlineLaw) 
       → IsAnsweredByMaps d new r image script text files left
   answered_by_maps end held is (inl done) x =
       let over = subst (λ (e : End). ToldOver d old new (plain_mode x.view.kind r.read_only) (is_some r.new) (start_of r image x.view) held left script text e) done x.over in
-      by_maps x.view false x.opens (subst (λ (h : Option Files). ToldRun d served_line_of old new (plain_mode x.view.kind r.read_only) (is_some r.new) (start_of r image x.view) h left script text false) is over)
+      by_maps x.view false x.opens (subst (λ (h : Option Files). ToldRun d host_line_of old new (plain_mode x.view.kind r.read_only) (is_some r.new) (start_of r image x.view) h left script text false) is over)
   answered_by_maps end held is (inr done) x =
       let over = subst (λ (e : End). ToldOver d old new (plain_mode x.view.kind r.read_only) (is_some r.new) (start_of r image x.view) held left script text e) done x.over in
-      by_maps x.view true x.opens (subst (λ (h : Option Files). ToldRun d served_line_of old new (plain_mode x.view.kind r.read_only) (is_some r.new) (start_of r image x.view) h left script text true) is over)
+      by_maps x.view true x.opens (subst (λ (h : Option Files). ToldRun d host_line_of old new (plain_mode x.view.kind r.read_only) (is_some r.new) (start_of r image x.view) h left script text true) is over)

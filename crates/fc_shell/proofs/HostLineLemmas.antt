@@ -64,6 +64,7 @@ other_command line c e =
 -- the name that a line gives is one
 abbrev Named : Result HostLine Refusal → Type 0
 Named (Ok (HostLine.Get path host)) = is_host_name host ≡ true
+Named (Ok (HostLine.Put host path load exec)) = is_host_name host ≡ true
 Named line = Unit {0}
 
 path_named : (make : Path → HostLine) (text : List ℕ) → ((p : Path) → Named (Ok (make p))) → Named (with_path make text)
@@ -82,7 +83,7 @@ get_named path host = named_if (is_host_name host) (with_path (λ p. HostLine.Ge
 
 put_named : (host path : List ℕ) (load exec : Option ℕ) → Named (put_line host path load exec)
 put_named host path (Some load) (Some exec) =
-    named_if (is_host_name host) (with_path (λ p. HostLine.Put host p load exec) path) (Err BadCommand) (λ is. path_named (λ p. HostLine.Put host p load exec) path (λ p. tt)) tt
+    named_if (is_host_name host) (with_path (λ p. HostLine.Put host p load exec) path) (Err BadCommand) (λ is. path_named (λ p. HostLine.Put host p load exec) path (λ p. is)) tt
 put_named host path (Some load) None = tt
 put_named host path None exec = tt
 
@@ -114,3 +115,6 @@ name_long host is =
 -- The name of a host's file in a line has 1 to 64 bytes.
 pub get_name : (line : List ℕ) (path : Path) (host : List ℕ) → host_line_of line ≡ Ok (HostLine.Get path host) → (0 < length host) × (length host ≤ 64)
 get_name line path host is = name_long host (subst Named is (line_named line))
+
+pub put_name : (line : List ℕ) (host : List ℕ) (path : Path) (load exec : ℕ) → host_line_of line ≡ Ok (HostLine.Put host path load exec) → (0 < length host) × (length host ≤ 64)
+put_name line host path load exec is = name_long host (subst Named is (line_named line))

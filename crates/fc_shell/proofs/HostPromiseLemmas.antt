@@ -13,11 +13,11 @@ use Rattle.fc_image.specs.Opening.{Opened, open_image}
 use Rattle.fc_image.specs.Stays.{OpensAs}
 use Rattle.fc_image.specs.effects.Effect.{State}
 use Rattle.fc_runs.specs.HostPromises.{AskedHasRun, AskedHasStopped, AskedStops}
-use Rattle.fc_runs.specs.HostRun.{served_line_of}
+use Rattle.fc_script.specs.HostLines.{host_line_of}
 use Rattle.fc_runs.specs.Promises.{Cause, spares_disk}
 use Rattle.fc_runs.specs.Run.{Mode, commands_in}
 use Rattle.fc_runs.specs.Stops.{MayHaveLeft}
-use Rattle.fc_runs.proofs.HostServingLemmas.{files_stay, none_begun}
+use Rattle.fc_runs.proofs.HostServingLemmas.{files_stay, none_begun, stays_same}
 use Rattle.fc_runs.proofs.HostStepLemmas.{asks_weaker}
 use Rattle.fc_runs.proofs.StepLemmas.{has_tree}
 use Rattle.fc_runs.proofs.ToldLemmas.{run_told, stop_told}
@@ -61,8 +61,8 @@ module _ {D : Type 0} {d : Ghosts D} (law : Laws d) (old mid new : D) (first : L
         let unwritten = same there in
         law.settled old was_quiet s.image (sym unwritten.bytes_stay ∙ told) image (unwritten.stops.since image was)
 
-    stops_from : (end : State) (lines replies : List (List ℕ)) (asks : List (List Asked)) → d.pending old ≡ false → AskedStops d served_line_of mid new mode false s end lines replies asks
-        → AskedStops d served_line_of old new mode fresh s end lines replies asks
+    stops_from : (end : State) (lines replies : List (List ℕ)) (asks : List (List Asked)) → d.pending old ≡ false → AskedStops d host_line_of mid new mode false s end lines replies asks
+        → AskedStops d host_line_of old new mode fresh s end lines replies asks
     stops_from end lines replies asks was_quiet stops = record {
       idle = λ new_map there keep image left.
           ⊎_elim
@@ -74,19 +74,19 @@ module _ {D : Type 0} {d : Ghosts D} (law : Laws d) (old mid new : D) (first : L
           ⊎_elim (λ was. image_before there was_quiet image was) (λ since. stops.still refl leave image since) (second.before (d.moment old) image first.later left);
       rest = stops.rest;
       along = λ there image left.
-          ⊎_elim (λ was. asked_first served_line_of mode s opens lines replies asks image (image_before there was_quiet image was)) (λ since. stops.along refl image since)
+          ⊎_elim (λ was. asked_first host_line_of mode s opens lines replies asks image (image_before there was_quiet image was)) (λ since. stops.along refl image since)
           (second.before (d.moment old) image first.later left);
       ending = stops.ending;
     }
 
-    run_from : (refused : Bool) → AskedHasRun d served_line_of mid new mode false s files left asked script text refused
-        → AskedHasRun d served_line_of old new mode fresh s files left asked script text refused
+    run_from : (refused : Bool) → AskedHasRun d host_line_of mid new mode false s files left asked script text refused
+        → AskedHasRun d host_line_of old new mode fresh s files left asked script text refused
     run_from refused has = record {
       end = has.end;
       replies = has.replies;
       asks = has.asks;
       start = may s.image has.start;
-      steps = asks_weaker served_line_of (MayHaveLeft d mid new) (MayHaveLeft d old new) may mode s has.end (commands_in script) has.replies has.asks has.steps;
+      steps = asks_weaker host_line_of (MayHaveLeft d mid new) (MayHaveLeft d old new) may mode s has.end (commands_in script) has.replies has.asks has.steps;
       asked_is = has.asked_is;
       answered = has.answered;
       told = has.told;
@@ -96,8 +96,8 @@ module _ {D : Type 0} {d : Ghosts D} (law : Laws d) (old mid new : D) (first : L
       stops = λ was_quiet. stops_from has.end (commands_in script) has.replies has.asks was_quiet (has.stops quiet);
     }
 
-    stopped_from : (cause : Cause) → AskedHasStopped d served_line_of mid new mode false s files left asked script text cause
-        → AskedHasStopped d served_line_of old new mode fresh s files left asked script text cause
+    stopped_from : (cause : Cause) → AskedHasStopped d host_line_of mid new mode false s files left asked script text cause
+        → AskedHasStopped d host_line_of old new mode fresh s files left asked script text cause
     stopped_from cause has = record {
       end = has.end;
       replies = has.replies;
@@ -105,7 +105,7 @@ module _ {D : Type 0} {d : Ghosts D} (law : Laws d) (old mid new : D) (first : L
       begun = has.begun;
       between = has.between;
       start = may s.image has.start;
-      steps = asks_weaker served_line_of (MayHaveLeft d mid new) (MayHaveLeft d old new) may mode s has.end _ has.replies has.asks has.steps;
+      steps = asks_weaker host_line_of (MayHaveLeft d mid new) (MayHaveLeft d old new) may mode s has.end _ has.replies has.asks has.steps;
       asked_is = has.asked_is;
       answered = has.answered;
       begun_is = has.begun_is;
@@ -154,7 +154,7 @@ module _ {D : Type 0} {d : Ghosts D} (law : Laws d) (old mid new : D) (first : L
 
 module _ {D : Type 0} {d : Ghosts D} (law : Laws d) (old new : D) (files : Option Files) where
   not_moved : (kind : Kind) (read_only : Bool) (s : State) (script : List ℕ) (cause : Cause) → d.bytes old ≡ Some s.image → OpensAs s.image kind s.view → IsUnwritten d old new
-      → (spares_disk cause ≡ true → (d.pending new ≡ false) ⊎ (new ≡ old)) → AskedHasStopped d served_line_of old new (plain_mode kind read_only) false s files files [] script [] cause
+      → (spares_disk cause ≡ true → (d.pending new ≡ false) ⊎ (new ≡ old)) → AskedHasStopped d host_line_of old new (plain_mode kind read_only) false s files files [] script [] cause
   not_moved kind read_only s script cause told opens same settled = record {
     end = s;
     replies = [];
@@ -165,14 +165,14 @@ module _ {D : Type 0} {d : Ghosts D} (law : Laws d) (old new : D) (files : Optio
     steps = refl;
     asked_is = refl;
     answered = refl;
-    begun_is = none_begun served_line_of (plain_mode kind read_only) s _;
-    files_left = λ held known. (held, known, files_stay served_line_of (plain_mode kind read_only) s held _);
+    begun_is = none_begun host_line_of (plain_mode kind read_only) s _;
+    files_left = λ held known. (held, known, files_stay host_line_of (plain_mode kind read_only) s held _);
     back = λ first host is. refl;
     told = (0, refl);
     whole = λ disk. refl;
-    holds = λ spares. same.bytes_stay ∙ told;
+    holds = λ spares. (s.image, same.bytes_stay ∙ told, stays_same cause kind s opens);
     settled = settled;
-    spared = λ image here. host_ends_same served_line_of kind s opens _ image (one_told (sym here ∙ (same.bytes_stay ∙ told)));
+    spared = λ image here. host_ends_same host_line_of kind s opens _ image (one_told (sym here ∙ (same.bytes_stay ∙ told)));
     stops = λ quiet. record {
       idle = λ new_map there keep image left.
           let tree = has_tree kind s image opens (law.settled old quiet s.image told image (same.stops.since image left)) in
@@ -181,9 +181,9 @@ module _ {D : Type 0} {d : Ghosts D} (law : Laws d) (old new : D) (files : Optio
           (law.settled old quiet s.image told image (same.stops.since image (law.earlier new (d.moment old) (d.moment new) image same.stops.later left)));
       still = λ there leave image left. law.settled old quiet s.image told image (same.stops.since image left);
       rest = λ leave image left. law.settled old quiet s.image told image (same.stops.since image (law.earlier new (d.moment old) (d.moment new) image same.stops.later left));
-      along = λ there image left. asked_first served_line_of (plain_mode kind read_only) s opens _ [] [] image (law.settled old quiet s.image told image (same.stops.since image left));
+      along = λ there image left. asked_first host_line_of (plain_mode kind read_only) s opens _ [] [] image (law.settled old quiet s.image told image (same.stops.since image left));
       ending = λ image left.
-          host_ends_same served_line_of kind s opens _ image (law.settled old quiet s.image told image (same.stops.since image (law.earlier new (d.moment old) (d.moment new) image same.stops.later left)));
+          host_ends_same host_line_of kind s opens _ image (law.settled old quiet s.image told image (same.stops.since image (law.earlier new (d.moment old) (d.moment new) image same.stops.later left)));
     };
   }
 
@@ -214,7 +214,7 @@ pub moves_end : {D : Type 0} (d : Ghosts D) (old new : D) (kind : Kind) (read_on
     → (text : List ℕ) × Wrote before after text × MovesOver d old new (plain_mode kind read_only) false s files left asked script text (move_end result)
 moves_end d old new kind read_only s script before after asked files left (Ok tally) x = (x.0, x.1, by (has_refused tally) x.2)
   where
-    by : (refused : Bool) → AskedHasRun d served_line_of old new (plain_mode kind read_only) false s files left asked script x.0 refused
+    by : (refused : Bool) → AskedHasRun d host_line_of old new (plain_mode kind read_only) false s files left asked script x.0 refused
         → MovesOver d old new (plain_mode kind read_only) false s files left asked script x.0 (end_after refused)
     by true has = has
     by false has = has
@@ -262,13 +262,13 @@ module _ {D : Type 0} {d : Ghosts D} (law : Laws d) (r : Request) (old new : D) 
 
 pub over_told : {D : Type 0} (d : Ghosts D) (old new : D) (kind : Kind) (read_only fresh : Bool) (s : State) (files left : Option Files) (asked : List Asked) (script text : List ℕ) (end : End)
     → MovesOver d old new (plain_mode kind read_only) fresh s files left asked script text end → ToldOver d old new (plain_mode kind read_only) fresh s files left script text end
-over_told d old new kind read_only fresh s files left asked script text Done x = run_told d served_line_of old new (plain_mode kind read_only) refl fresh s files left asked script text false x
-over_told d old new kind read_only fresh s files left asked script text Refused x = run_told d served_line_of old new (plain_mode kind read_only) refl fresh s files left asked script text true x
-over_told d old new kind read_only fresh s files left asked script text DiskFault (inl x) = inl (stop_told d served_line_of old new (plain_mode kind read_only) refl fresh s files left asked script text Cause.Disk x)
+over_told d old new kind read_only fresh s files left asked script text Done x = run_told d host_line_of old new (plain_mode kind read_only) refl fresh s files left asked script text false x
+over_told d old new kind read_only fresh s files left asked script text Refused x = run_told d host_line_of old new (plain_mode kind read_only) refl fresh s files left asked script text true x
+over_told d old new kind read_only fresh s files left asked script text DiskFault (inl x) = inl (stop_told d host_line_of old new (plain_mode kind read_only) refl fresh s files left asked script text Cause.Disk x)
 over_told d old new kind read_only fresh s files left asked script text DiskFault (inr x) = inr (x.0, x.1.1)
-over_told d old new kind read_only fresh s files left asked script text OutFault x = stop_told d served_line_of old new (plain_mode kind read_only) refl fresh s files left asked script text Cause.Out x
-over_told d old new kind read_only fresh s files left asked script text HostFault x = stop_told d served_line_of old new (plain_mode kind read_only) refl fresh s files left asked script text Cause.Host x
-over_told d old new kind read_only fresh s files left asked script text NoMemory (inl x) = inl (stop_told d served_line_of old new (plain_mode kind read_only) refl fresh s files left asked script text Cause.Memory x)
+over_told d old new kind read_only fresh s files left asked script text OutFault x = stop_told d host_line_of old new (plain_mode kind read_only) refl fresh s files left asked script text Cause.Out x
+over_told d old new kind read_only fresh s files left asked script text HostFault x = stop_told d host_line_of old new (plain_mode kind read_only) refl fresh s files left asked script text Cause.Host x
+over_told d old new kind read_only fresh s files left asked script text NoMemory (inl x) = inl (stop_told d host_line_of old new (plain_mode kind read_only) refl fresh s files left asked script text Cause.Memory x)
 over_told d old new kind read_only fresh s files left asked script text NoMemory (inr x) = inr (x.0, x.1.1)
 over_told d old new kind read_only fresh s files left asked script text ScriptFault x = x.1.1
 over_told d old new kind read_only fresh s files left asked script text BadWords x = absurd x

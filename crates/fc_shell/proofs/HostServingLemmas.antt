@@ -13,7 +13,8 @@ use Rattle.fc_image.specs.Stays.{OpensAs}
 use Rattle.fc_image.specs.effects.Effect.{State}
 use Rattle.fc_runs.specs.Early.{host_reply_begun}
 use Rattle.fc_runs.specs.HostAsks.{LineAsks, LinesAsk}
-use Rattle.fc_runs.specs.HostRun.{Reading, served_line_of}
+use Rattle.fc_runs.specs.HostRun.{Reading}
+use Rattle.fc_script.specs.HostLines.{host_line_of}
 use Rattle.fc_runs.specs.Meanwhile.{GoesOn}
 use Rattle.fc_runs.specs.Promises.{cuts_replies, spares_disk}
 use Rattle.fc_runs.specs.Run.{Mode, commands_in, text_of}
@@ -35,15 +36,15 @@ use Rattle.fc_shell.proofs.WritingLemmas.{wrote_both, wrote_nothing}
 
 -- ---- lines that write nothing
 
-pub host_spares_first : (ro now : Bool) (line : List ℕ) (left : List (List ℕ)) → now ≡ ro → HostSpares ro (line ∷ left) → (now ≡ true) ⊎ (host_leaves_image false (served_line_of line) ≡ true)
+pub host_spares_first : (ro now : Bool) (line : List ℕ) (left : List (List ℕ)) → now ≡ ro → HostSpares ro (line ∷ left) → (now ≡ true) ⊎ (host_leaves_image false (host_line_of line) ≡ true)
 host_spares_first ro now line left same (inl locked) = inl (same ∙ locked)
 host_spares_first ro now line left same (inr reads) =
-    inr (both_true (host_leaves_image false (served_line_of line)) (list_all (λ line. host_leaves_image false (served_line_of line)) left) reads).0
+    inr (both_true (host_leaves_image false (host_line_of line)) (list_all (λ line. host_leaves_image false (host_line_of line)) left) reads).0
 
 pub host_spares_rest : (ro : Bool) (line : List ℕ) (left : List (List ℕ)) → HostSpares ro (line ∷ left) → HostSpares ro left
 host_spares_rest ro line left (inl locked) = inl locked
 host_spares_rest ro line left (inr reads) =
-    inr (both_true (host_leaves_image false (served_line_of line)) (list_all (λ line. host_leaves_image false (served_line_of line)) left) reads).1
+    inr (both_true (host_leaves_image false (host_line_of line)) (list_all (λ line. host_leaves_image false (host_line_of line)) left) reads).1
 
 -- ---- what lines asked
 
@@ -96,7 +97,7 @@ module _ {D : Type 0} {d : Ghosts D} (law : Laws d) (kind : Kind) (read_only : B
   pub host_start : (left : List (List ℕ)) (v : Volume) (tally : Tally) (before : Option (List ℕ)) → left ≡ commands_in script → ArePartsOf (parts_of v) s.view → tally.replies ≡ 0 → tally.refused ≡ 0
       → HasMoved d old old kind read_only s script left v tally before before [] files files
   host_start left v tally before all parts replies refused =
-      let first = moved_first law served_line_of mode s files script old told quiet opens left all in
+      let first = moved_first law host_line_of mode s files script old told quiet opens left all in
       record {
         lines = first.0;
         counted = subst (λ (rs : List (List ℕ)). AreCounted rs tally) (sym first.1) (none_counted tally replies refused);
@@ -106,10 +107,10 @@ module _ {D : Type 0} {d : Ghosts D} (law : Laws d) (kind : Kind) (read_only : B
 
   pub host_more : (line : List ℕ) (left : List (List ℕ)) (v v' : Volume) (refused : Bool) (so_far now : Tally) (before between after : Option (List ℕ)) (mid new : D) (asked more : List Asked) (held later : Option Files)
       → (has : HasMoved d old mid kind read_only s script (line ∷ left) v so_far before between asked files held) → GoesOn d old mid → GoesOn d mid new
-      → IsServed d mid new kind read_only has.lines.state v' (served_line_of line) between after more held later refused → now.replies ≡ so_far.replies + 1 → now.refused ≡ so_far.refused + cond refused 1 0
+      → IsServed d mid new kind read_only has.lines.state v' (host_line_of line) between after more held later refused → now.replies ≡ so_far.replies + 1 → now.refused ≡ so_far.refused + cond refused 1 0
       → HasMoved d old new kind read_only s script left v' now before after (asked ++ more) files later
   host_more line left v v' refused so_far now before between after mid new asked more held later has first second is count errors =
-      let next = moved_next law served_line_of mode s files script old told quiet opens line is.reply left mid new is.next held later asked more has.lines first second is.moved in
+      let next = moved_next law host_line_of mode s files script old told quiet opens line is.reply left mid new is.next held later asked more has.lines first second is.moved in
       record {
         lines = next.0;
         counted = subst (λ (rs : List (List ℕ)). AreCounted rs now) (sym next.1) (one_counted has.lines.replies is.reply refused so_far now has.counted is.refused_is count errors);
@@ -124,24 +125,24 @@ module _ {D : Type 0} {d : Ghosts D} (law : Laws d) (kind : Kind) (read_only : B
   host_all v tally before after new asked held has goes settled = (
     text_of has.lines.replies,
     has.wrote,
-    moved_all law served_line_of mode s files script old told quiet opens new held asked (has_refused tally) has.lines goes settled (refused_counted has.lines.replies tally has.counted),
+    moved_all law host_line_of mode s files script old told quiet opens new held asked (has_refused tally) has.lines goes settled (refused_counted has.lines.replies tally has.counted),
   )
 
   pub host_part : (line : List ℕ) (left : List (List ℕ)) (v v' : Volume) (so_far : Tally) (before between after : Option (List ℕ)) (mid new : D) (fault : MoveFault) (asked more : List Asked) (held later : Option Files)
       → (has : HasMoved d old mid kind read_only s script (line ∷ left) v so_far before between asked files held) → GoesOn d old mid → GoesOn d mid new
       → ((fault ≡ MoveFault.Disk → ⊥) → d.pending new ≡ false)
-      → LineMoves d mid new kind read_only has.lines.state v' (served_line_of line) between after more held later (Err fault)
+      → LineMoves d mid new kind read_only has.lines.state v' (host_line_of line) between after more held later (Err fault)
       → LinesMove d old new kind read_only s script before after (asked ++ more) files later (Err fault)
   host_part line left v v' so_far before between after mid new fault asked more held later has first second settled (inl x) = (
     text_of has.lines.replies ++ take x.part.0 x.reply,
     wrote_both before between after (text_of has.lines.replies) (take x.part.0 x.reply) has.wrote x.part.1,
-    moved_cut law served_line_of mode s files script old told quiet opens line x.reply left mid new x.next held later asked more x.part.0 (move_cause fault) has.lines first second
+    moved_cut law host_line_of mode s files script old told quiet opens line x.reply left mid new x.next held later asked more x.part.0 (move_cause fault) has.lines first second
         (settled (no_disk fault x.cuts)) x.cuts x.moved,
   )
   host_part line left v v' so_far before between after mid new fault asked more held later has first second settled (inr x) = (
-    text_of has.lines.replies ++ take x.part.0 (host_reply_begun mode has.lines.state (served_line_of line)),
-    wrote_both before between after (text_of has.lines.replies) (take x.part.0 (host_reply_begun mode has.lines.state (served_line_of line))) has.wrote x.part.1,
-    moved_broke law served_line_of mode s files script old told quiet opens line left mid new held later asked more x.part.0 (move_cause fault) has.lines first second
+    text_of has.lines.replies ++ take x.part.0 (host_reply_begun mode has.lines.state (host_line_of line)),
+    wrote_both before between after (text_of has.lines.replies) (take x.part.0 (host_reply_begun mode has.lines.state (host_line_of line))) has.wrote x.part.1,
+    moved_broke law host_line_of mode s files script old told quiet opens line left mid new held later asked more x.part.0 (move_cause fault) has.lines first second
         (λ spares. settled (not_disk fault spares)) x.broke,
   )
 

@@ -29,6 +29,7 @@ pub mod ToldLemmas
 pub mod WritingLemmas
 pub mod MovingLemmas
 pub mod GettingLemmas
+mod PuttingLemmas
 mod HostLineLemmas
 mod HostServingLemmas
 mod HostPromiseLemmas

@@ -21,10 +21,10 @@ use Rattle.fc_runs.specs.AskedRun.{AskedTakes}
 use Rattle.fc_runs.specs.Early.{host_reply_begun, reply_begun}
 use Rattle.fc_runs.specs.HostServing.{IsMoved}
 use Rattle.fc_runs.specs.Meanwhile.{LeavesImage, LeavesTree}
-use Rattle.fc_runs.specs.Promises.{cuts_replies, spares_disk}
+use Rattle.fc_runs.specs.Promises.{StaysBy, cuts_replies, spares_disk}
 use Rattle.fc_runs.specs.Run.{Mode, Takes, is_error, keeps_tree_or}
 use Rattle.fc_runs.specs.Stops.{leaves_image_or}
-use Rattle.fc_runs.proofs.HostServingLemmas.{none_asked}
+use Rattle.fc_runs.proofs.HostServingLemmas.{none_asked, stays_same}
 use Rattle.fc_tree.specs.Parts.{ArePartsOf}
 use Rattle.fc_volume.specs.Volume.{StandsFor, Volume, parts_of}
 use Rattle.fc_shell.specs.declared.answer.LineFault.{LineFault}
@@ -61,13 +61,13 @@ disk_line (Err lines.Disk) is = refl
 disk_line (Err lines.Out) is = absurd (cc)
 disk_line (Err lines.NoMemory) is = absurd (cc)
 
-out_line : (r : Result Bool LineFault) → moved_result r ≡ Err MoveFault.Out → r ≡ Err LineFault.Out
+pub out_line : (r : Result Bool LineFault) → moved_result r ≡ Err MoveFault.Out → r ≡ Err LineFault.Out
 out_line (Ok refused) is = absurd (cc)
 out_line (Err lines.Disk) is = absurd (cc)
 out_line (Err lines.Out) is = refl
 out_line (Err lines.NoMemory) is = absurd (cc)
 
-no_host : (r : Result Bool LineFault) → moved_result r ≡ Err MoveFault.Host → ⊥
+pub no_host : (r : Result Bool LineFault) → moved_result r ≡ Err MoveFault.Host → ⊥
 no_host (Ok refused) is = cc
 no_host (Err lines.Disk) is = cc
 no_host (Err lines.Out) is = cc
@@ -125,7 +125,7 @@ module _ {D : Type 0} {d : Ghosts D} (law : Laws d) (kind : Kind) (v : Volume) (
           begun = none_asked mode s line;
           files_left = λ held known. (held, known, inl refl);
           back = λ first host is. refl;
-          holds = λ spares. reads.bytes ∙ told;
+          holds = λ spares. (s.image, reads.bytes ∙ told, stays_same (move_cause fault) kind s opens);
           kept = λ keeps. tree_stays;
           still = λ leaves. image_stays;
           spared = λ image since. host_left_same kind s opens image (image_stays image since) false line;
@@ -168,6 +168,12 @@ module _ {D : Type 0} (d : Ghosts D) (old new : D) (kind : Kind) (read_only : Bo
     spared = λ image since. subst (λ (r : Result Command Refusal). LeftBy kind s (is_error reply) r image) is (done.spared image since);
   }
 
+  -- it doesn't break off by the host
+  stays_line : (fault : LineFault) → StaysBy (move_cause (move_fault fault)) kind s s.image
+  stays_line lines.Disk = refl
+  stays_line lines.Out = refl
+  stays_line lines.NoMemory = refl
+
   pub command_moves : (v : Volume) (r : Result Bool LineFault) → LineEnds d old new kind read_only s v line before after r
       → LineMoves d old new kind read_only s v own_line before after [] files files (moved_result r)
   command_moves v (Ok refused) x = record { reply = x.reply; next = x.next; moved = done_moves x.reply x.next x.done; parts = x.parts; wrote = x.wrote; refused_is = x.refused_is }
@@ -178,7 +184,7 @@ module _ {D : Type 0} (d : Ghosts D) (old new : D) (kind : Kind) (read_only : Bo
       begun = refl;
       files_left = λ held known. (held, known, inl refl);
       back = λ first host is. refl;
-      holds = λ spares. x.holds (spares_line fault spares);
+      holds = λ spares. (s.image, x.holds (spares_line fault spares), stays_line fault);
       kept = λ keeps. x.kept (ap (keeps_tree_or false) is ∙ keeps);
       still = λ leaves. x.still (ap (leaves_image_or false) is ∙ leaves);
       spared = λ image since. subst (λ (r : Result Command Refusal). LeftBy kind s false r image) is (x.spared image since);

@@ -21,6 +21,7 @@ use Rattle.fc_image.proofs.HolesLemmas.{Each-contains, Each-objects, Lies, apart
 use Rattle.fc_image.proofs.PathsLemmas.{opened_walk}
 use Rattle.fc_tree.specs.Parts.{ArePartsOf, Parts}
 use Rattle.fc_course.specs.Promises.{MayWrite, WritesPlaces, WritesPlacesOf}
+use Rattle.fc_runs.specs.Space.{SparesSpace}
 use Rattle.fc_runs.specs.Spares.{Spares, idle_in}
 
 -- ---- lists of sectors
@@ -106,8 +107,8 @@ module _ (v : Opened) (c : Command) (was image : List ℕ) where
           (all_among (λ s. sector_at m.geometry.sector image s ≡ sector_at m.geometry.sector was s) (boot_place (Boot r) m.geometry.sector)
           (λ s i. w.only.outside s (neither w.sectors (map_place (Layout.New m)) s (apart_at (boot_place (Boot r) m.geometry.sector) w.sectors s w.may.boot i) (off s i))))
 
-  pub spares : (kind : Kind) → OpensAs was kind v → WritesPlaces v.layout kind v c was image → Spares kind v c was image
-  spares kind opens w =
+  pub spares : (kind : Kind) → OpensAs was kind v → WritesPlaces v.layout kind v c was image → SparesSpace v.layout v c was image → Spares kind v c was image
+  spares kind opens w space =
       let are = are_spared v.layout kind v c w.sectors w.may in
       record {
         length_stays = w.only.length_stays;
@@ -116,6 +117,7 @@ module _ (v : Opened) (c : Command) (was image : List ℕ) where
         boot = boot_stays kind opens w;
         lost = all_among same (idle_in v.layout v) (λ s i. stays s (apart_at (idle_in v.layout v) w.sectors s are.idle i) (idle_off_map v.layout v s i));
         behind = λ s past out. stays s (unless (is_among w.sectors s) (λ i. never (disc_sectors v.layout) s past (are.inside s i))) out;
+        space = space;
       }
     where
       same : ℕ → Type 0
@@ -139,6 +141,7 @@ module _ (v : Opened) (c : Command) (was image : List ℕ) where
       object_stays o at apart = all_among same o.sectors (λ s i. stays s (apart_at o.sectors w.sectors s apart i) (off_map o at s i))
 
 -- What a call leaves that writes only such places.
-pub spares_of : (h : Parts) (kind : Kind) (v : Opened) (c : Command) (was image : List ℕ) → OpensAs was kind v → ArePartsOf h v → WritesPlacesOf c h was image → Spares kind v c was image
-spares_of h kind v c was image opens parts writes =
-    spares v c was image kind opens (subst (λ (l : Layout). WritesPlaces l kind v c was image) parts.layout (writes kind v opens parts))
+pub spares_of : (h : Parts) (kind : Kind) (v : Opened) (c : Command) (was image : List ℕ) → OpensAs was kind v → ArePartsOf h v → WritesPlacesOf c h was image
+    → SparesSpace v.layout v c was image → Spares kind v c was image
+spares_of h kind v c was image opens parts writes space =
+    spares v c was image kind opens (subst (λ (l : Layout). WritesPlaces l kind v c was image) parts.layout (writes kind v opens parts)) space

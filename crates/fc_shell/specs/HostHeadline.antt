@@ -5,7 +5,7 @@ use Rattle.fc_host.specs.Files.{Files}
 use Rattle.fc_image.specs.Opening.{Opened, open_image}
 use Rattle.fc_image.specs.effects.Effect.{State, tree_in}
 use Rattle.fc_runs.specs.HostHeadline.{MapsAnswer}
-use Rattle.fc_runs.specs.HostRun.{served_line_of}
+use Rattle.fc_script.specs.HostLines.{host_line_of}
 use Rattle.fc_runs.specs.Run.{commands_in, text_of}
 use Rattle.fc_words.specs.CommandLine.{Request}
 use Rattle.fc_shell.specs.declared.ending.End.{End}
@@ -34,6 +34,6 @@ pub record IsAnsweredByMaps {D : Type 0} (d : Ghosts D) (new : D) (r : Request) 
   pub end : State
   pub now : Files
   pub left_is : left ≡ Some now
-  pub answered : MapsAnswer served_line_of (plain_mode view.kind r.read_only) (tree_in (start_of r image view)) files (start_of r image view) (commands_in script) replies (tree_in end) now end
+  pub answered : MapsAnswer host_line_of (plain_mode view.kind r.read_only) (tree_in (start_of r image view)) files (start_of r image view) (commands_in script) replies (tree_in end) now end
   pub told : text ≡ text_of replies
   pub holds : d.bytes new ≡ Some end.image

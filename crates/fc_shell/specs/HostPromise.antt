@@ -11,7 +11,7 @@ use Rattle.fc_image.specs.effects.Effect.{State}
 use Rattle.fc_image.specs.declared.ImageFault.{ImageFault}
 use Rattle.fc_image.specs.Opening.{Opened, open_image}
 use Rattle.fc_runs.specs.HostPromises.{AskedHasRun, AskedHasStopped, ToldRun, ToldStop}
-use Rattle.fc_runs.specs.HostRun.{served_line_of}
+use Rattle.fc_script.specs.HostLines.{host_line_of}
 use Rattle.fc_runs.specs.Promises.{Cause, HasNoRun, IsUnmade}
 use Rattle.fc_runs.specs.Run.{Mode, commands_in}
 use Rattle.fc_runs.specs.Stops.{host_leaves_image}
@@ -30,15 +30,15 @@ IsIdle files left asked = (asked ≡ []) × (left ≡ files)
 
 -- The image is accepted, and opens as s: its lines are steps from s on, whose replies were written.
 abbrev pub MovesOver : {D : Type 0} → Ghosts D → D → D → Mode → Bool → State → Option Files → Option Files → List Asked → List ℕ → List ℕ → End → Type 0
-MovesOver d old new mode fresh s files left asked script text Done = AskedHasRun d served_line_of old new mode fresh s files left asked script text false
-MovesOver d old new mode fresh s files left asked script text Refused = AskedHasRun d served_line_of old new mode fresh s files left asked script text true
+MovesOver d old new mode fresh s files left asked script text Done = AskedHasRun d host_line_of old new mode fresh s files left asked script text false
+MovesOver d old new mode fresh s files left asked script text Refused = AskedHasRun d host_line_of old new mode fresh s files left asked script text true
 MovesOver d old new mode fresh s files left asked script text ScriptFault = HasNoRun d old new [] text × IsIdle files left asked
 MovesOver d old new mode fresh s files left asked script text DiskFault =
-    AskedHasStopped d served_line_of old new mode fresh s files left asked script text Cause.Disk ⊎ (IsUnmade fresh Cause.Disk old new text × IsIdle files left asked)
-MovesOver d old new mode fresh s files left asked script text OutFault = AskedHasStopped d served_line_of old new mode fresh s files left asked script text Cause.Out
-MovesOver d old new mode fresh s files left asked script text HostFault = AskedHasStopped d served_line_of old new mode fresh s files left asked script text Cause.Host
+    AskedHasStopped d host_line_of old new mode fresh s files left asked script text Cause.Disk ⊎ (IsUnmade fresh Cause.Disk old new text × IsIdle files left asked)
+MovesOver d old new mode fresh s files left asked script text OutFault = AskedHasStopped d host_line_of old new mode fresh s files left asked script text Cause.Out
+MovesOver d old new mode fresh s files left asked script text HostFault = AskedHasStopped d host_line_of old new mode fresh s files left asked script text Cause.Host
 MovesOver d old new mode fresh s files left asked script text NoMemory =
-    AskedHasStopped d served_line_of old new mode fresh s files left asked script text Cause.Memory ⊎ (IsUnmade fresh Cause.Memory old new text × IsIdle files left asked)
+    AskedHasStopped d host_line_of old new mode fresh s files left asked script text Cause.Memory ⊎ (IsUnmade fresh Cause.Memory old new text × IsIdle files left asked)
 MovesOver d old new mode fresh s files left asked script text end = ⊥
 
 -- by what the image opens as
@@ -79,19 +79,19 @@ HostPromise d old new gives files left asked image script text (Some r) end = Mo
 
 -- Lines as steps with the files of the host.
 abbrev pub ToldOver : {D : Type 0} → Ghosts D → D → D → Mode → Bool → State → Option Files → Option Files → List ℕ → List ℕ → End → Type 0
-ToldOver d old new mode fresh s files left script text Done = ToldRun d served_line_of old new mode fresh s files left script text false
-ToldOver d old new mode fresh s files left script text Refused = ToldRun d served_line_of old new mode fresh s files left script text true
-ToldOver d old new mode fresh s files left script text DiskFault = ToldStop d served_line_of old new mode fresh s files left script text Cause.Disk ⊎ (IsUnmade fresh Cause.Disk old new text × (left ≡ files))
-ToldOver d old new mode fresh s files left script text OutFault = ToldStop d served_line_of old new mode fresh s files left script text Cause.Out
-ToldOver d old new mode fresh s files left script text HostFault = ToldStop d served_line_of old new mode fresh s files left script text Cause.Host
-ToldOver d old new mode fresh s files left script text NoMemory = ToldStop d served_line_of old new mode fresh s files left script text Cause.Memory ⊎ (IsUnmade fresh Cause.Memory old new text × (left ≡ files))
+ToldOver d old new mode fresh s files left script text Done = ToldRun d host_line_of old new mode fresh s files left script text false
+ToldOver d old new mode fresh s files left script text Refused = ToldRun d host_line_of old new mode fresh s files left script text true
+ToldOver d old new mode fresh s files left script text DiskFault = ToldStop d host_line_of old new mode fresh s files left script text Cause.Disk ⊎ (IsUnmade fresh Cause.Disk old new text × (left ≡ files))
+ToldOver d old new mode fresh s files left script text OutFault = ToldStop d host_line_of old new mode fresh s files left script text Cause.Out
+ToldOver d old new mode fresh s files left script text HostFault = ToldStop d host_line_of old new mode fresh s files left script text Cause.Host
+ToldOver d old new mode fresh s files left script text NoMemory = ToldStop d host_line_of old new mode fresh s files left script text Cause.Memory ⊎ (IsUnmade fresh Cause.Memory old new text × (left ≡ files))
 ToldOver d old new mode fresh s files left script text end = left ≡ files
 
 -- ---- what holds whatever is known
 
 -- The lines of a script write nothing: each reads or copies a file to the host. Those of a demo are commands alone.
 abbrev pub script_spares : Option ℕ → List ℕ → Bool
-script_spares None text = list_all (λ line. host_leaves_image false (served_line_of line)) (commands_in text)
+script_spares None text = list_all (λ line. host_leaves_image false (host_line_of line)) (commands_in text)
 script_spares (Some n) text = only_reads text
 
 -- Nothing is written over an image that is there: it may not be changed, or the script, which is known, writes nothing.

@@ -24,3 +24,4 @@ pub mod Getting
 pub mod HostPromise
 pub mod HostHeadline
 pub mod Program
+pub mod Putting

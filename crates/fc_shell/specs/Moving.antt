@@ -12,11 +12,10 @@ use Rattle.fc_host.specs.Files.{Files}
 use Rattle.fc_record.specs.declared.Kind.{Kind}
 use Rattle.fc_names.specs.declared.refusal.Refusal.{Refusal}
 use Rattle.fc_image.specs.effects.Effect.{State}
-use Rattle.fc_script.specs.HostLines.{HostLine}
+use Rattle.fc_script.specs.HostLines.{HostLine, host_line_of}
 use Rattle.fc_runs.specs.Early.{host_reply_begun}
 use Rattle.fc_runs.specs.HostAsks.{LinesAsk}
 use Rattle.fc_runs.specs.HostPromises.{AskedHasRun, AskedHasStopped}
-use Rattle.fc_runs.specs.HostRun.{served_line_of}
 use Rattle.fc_runs.specs.HostServing.{AreMoved, IsBrokenOff, IsMoved}
 use Rattle.fc_runs.specs.Meanwhile.{GoesOn}
 use Rattle.fc_runs.specs.Promises.{Cause, cuts_replies}
@@ -95,21 +94,21 @@ pub record KeepsServing {D : Type 0} (d : Ghosts D) (old new : D) (was v : Volum
 -- All lines were done; or some were, and then a call failed or memory was short.
 abbrev pub LinesMove : {D : Type 0} → Ghosts D → D → D → Kind → Bool → State → List ℕ → Option (List ℕ) → Option (List ℕ) → List Asked → Option Files → Option Files → Result Tally MoveFault → Type 0
 LinesMove d old new kind read_only s script before after asked files left (Ok tally) =
-    (text : List ℕ) × Wrote before after text × AskedHasRun d served_line_of old new (plain_mode kind read_only) false s files left asked script text (has_refused tally)
+    (text : List ℕ) × Wrote before after text × AskedHasRun d host_line_of old new (plain_mode kind read_only) false s files left asked script text (has_refused tally)
 LinesMove d old new kind read_only s script before after asked files left (Err fault) =
-    (text : List ℕ) × Wrote before after text × AskedHasStopped d served_line_of old new (plain_mode kind read_only) false s files left asked script text (move_cause fault)
+    (text : List ℕ) × Wrote before after text × AskedHasStopped d host_line_of old new (plain_mode kind read_only) false s files left asked script text (move_cause fault)
 
 -- Each line in turn asked of the host what it may.
 abbrev pub ScriptAsks : List ℕ → List Asked → Type 0
-ScriptAsks script asked = (asks : List (List Asked)) × (asked ≡ all_asked asks) × LinesAsk served_line_of (commands_in script) asks
+ScriptAsks script asked = (asks : List (List Asked)) × (asked ≡ all_asked asks) × LinesAsk host_line_of (commands_in script) asks
 
 -- These lines write nothing to the disk: each reads or copies a file to the host, or the volume may not be changed.
 abbrev pub HostSpares : Bool → List (List ℕ) → Type 0
-HostSpares read_only lines = (read_only ≡ true) ⊎ (list_all (λ line. host_leaves_image false (served_line_of line)) lines ≡ true)
+HostSpares read_only lines = (read_only ≡ true) ⊎ (list_all (λ line. host_leaves_image false (host_line_of line)) lines ≡ true)
 
 -- The lines before those that are left were done, and their replies written; the volume's parts are those of the state after them.
 pub record HasMoved {D : Type 0} (d : Ghosts D) (old now : D) (kind : Kind) (read_only : Bool) (s : State) (script : List ℕ) (left : List (List ℕ)) (v : Volume) (tally : Tally) (before after : Option (List ℕ)) (asked : List Asked) (files held : Option Files) : Type 0 where
-  pub lines : AreMoved d served_line_of old now (plain_mode kind read_only) s files held asked (commands_in script) left
+  pub lines : AreMoved d host_line_of old now (plain_mode kind read_only) s files held asked (commands_in script) left
   pub counted : AreCounted lines.replies tally
   pub wrote : Wrote before after (text_of lines.replies)
   pub parts : ArePartsOf (parts_of v) lines.state.view

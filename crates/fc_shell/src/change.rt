@@ -1,5 +1,6 @@
 // Commands that change the disc.
 ghost use Rattle.std.specs.Prelude.{◌≡◌, ◌≤◌, List, ℕ, length, true, false, Ok, Err, IsFalse, IsTrue};
+ghost use Rattle.fc_course.specs.Run.{IsMapIn};
 ghost use Rattle.fc_image.specs.Stays.{IsNewLayout};
 ghost use Rattle.fc_oldvolume.specs.Changing.{IsOldLayout};
 ghost use Rattle.fc_runs.specs.Run.{keeps_tree};
@@ -66,6 +67,18 @@ pub fn has_old_map(volume: &Volume) -> bool
     ensures new_map { result ≡ false → IsNewLayout (parts_of volume.now).layout }
 {
     matches!(volume.space(), Space::OldMapped(_))
+}
+
+/// A law: the map of a volume is one.
+pub fn has_map(volume: &Volume)
+    ensures { IsMapIn (parts_of volume.now).layout }
+{
+    match volume.space() {
+        Space::NewMapped(map) => map.is_map(),
+        Space::OldMapped(map) => {
+            let _ = map.holes();
+        }
+    }
 }
 
 // The words of a file.
@@ -146,6 +159,7 @@ pub fn answer_change<D: Disk, K: Sink>(
     ensures keeps { (line : List ℕ) → command_of line ≡ Ok (command asked.now)
         → KeepsGoing D.Disk K.Sink disk.old disk.new out.old out.new volume.old volume.new line result }
 {
+    has_map(volume);
     let changed = change(alloc, volume, disk, asked);
     tell_change(alloc, out, changed)
 }

@@ -1,7 +1,7 @@
 // The answer to a line that may move a file of the host.
 ghost use Rattle.std.specs.Prelude.{◌≡◌, ◌≤◌, length, IsFalse, IsTrue};
 ghost use Rattle.fc_runs.specs.HostAsks.{LineAsks};
-ghost use Rattle.fc_runs.specs.HostRun.{served_line_of};
+ghost use Rattle.fc_script.specs.HostLines.{host_line_of};
 ghost use Rattle.fc_volume.specs.Volume.{StandsFor};
 ghost use Rattle.fc_shell.specs.Answered.{ForState};
 ghost use Rattle.fc_shell.specs.Moving.{AreCaused, AsksMore, KeepsServing, LineMoves};
@@ -10,6 +10,7 @@ ghost use Rattle.fc_shell.specs.Replies.{script_limit};
 use crate::answer::answer_command;
 use crate::get::get;
 use crate::moving::{MoveFault, moved};
+use crate::put::{Target, put};
 use crate::reply::{refusal, tell};
 use fc_device::{Disk, Sink};
 use fc_host::Host;
@@ -19,7 +20,7 @@ use fc_volume::Volume;
 use std::alloc::Global;
 
 /// Answers a command line of the script, which may move a file between the volume and the host: does it, and writes its whole reply.
-/// Answers whether the reply is an error line. A `put` isn't served yet: its line is refused.
+/// Answers whether the reply is an error line.
 pub fn answer_host_line<D: Disk, K: Sink, H: Host>(
     alloc: Global,
     volume: &mut Volume,
@@ -34,9 +35,9 @@ pub fn answer_host_line<D: Disk, K: Sink, H: Host>(
     requires settled { IsFalse (D.pending disk.old) }
     requires short { length line.now ≤ script_limit }
     ensures step { ForState (D.bytes disk.old) volume.old (λ kind s. AsksMore H.Host host.old host.new (λ asked.
-        LineMoves D.Disk disk.old disk.new kind volume.old.read_only s volume.new (served_line_of line.now) (K.taken out.old) (K.taken out.new) asked (H.files host.old) (H.files host.new) result)) }
-    ensures asks { AsksMore H.Host host.old host.new (LineAsks (served_line_of line.now)) }
-    ensures keeps { KeepsServing D.Disk disk.old disk.new volume.old volume.new (served_line_of line.now) result }
+        LineMoves D.Disk disk.old disk.new kind volume.old.read_only s volume.new (host_line_of line.now) (K.taken out.old) (K.taken out.new) asked (H.files host.old) (H.files host.new) result)) }
+    ensures asks { AsksMore H.Host host.old host.new (LineAsks (host_line_of line.now)) }
+    ensures keeps { KeepsServing D.Disk disk.old disk.new volume.old volume.new (host_line_of line.now) result }
     ensures caused { AreCaused D.Disk K.Sink H.Host disk.old disk.new out.old out.new host.old host.new result }
 {
     match read_host_line(alloc, line) {
@@ -44,7 +45,21 @@ pub fn answer_host_line<D: Disk, K: Sink, H: Host>(
             volume.renew_index(alloc);
             get(alloc, volume, disk, out, host, &path, name.bytes())
         }
-        Ok(HostLine::Put { .. }) => moved(tell(out, refusal(alloc, Refusal::BadCommand))),
+        Ok(
+            HostLine::Put {
+                host: name,
+                path,
+                load,
+                exec,
+            },
+        ) => {
+            let target = Target {
+                path: &path,
+                load,
+                exec,
+            };
+            put(alloc, volume, disk, out, host, name.bytes(), &target)
+        }
         Ok(HostLine::Other(asked)) => moved(answer_command(alloc, volume, disk, out, &asked)),
         Err(LineError::BadCommand) => moved(tell(out, refusal(alloc, Refusal::BadCommand))),
         Err(LineError::BadName) => moved(tell(out, refusal(alloc, Refusal::BadName))),

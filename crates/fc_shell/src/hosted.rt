@@ -165,11 +165,13 @@ fn run_request_with<D: Disk, S: Source, K: Sink, H: Host>(
     }
 }
 
-/// Runs a script as `run` does, and lines may also copy files of the disc to the host: `get PATH HOST` makes a file of the host with
-/// an object's bytes. `put` isn't served yet: its line is refused.
+/// Runs a script as `run` does, and lines may also copy files between the disc and the host: `get PATH HOST` makes a file of the host
+/// with an object's bytes, and `put HOST PATH LOAD EXEC` saves the bytes of a file of the host, in blocks.
 ///
-/// A `get` is refused as `load` is, and then if the host has a file of that name. A call of the host that fails ends the run as
-/// `HostFault`. If a `get` breaks off, its file is taken back; a part of it stays only if that fails too.
+/// A `get` is refused as `load` is, and then if the host has a file of that name. A `put` is refused as `save` is for its path, then if
+/// the host has no such file, then if that is longer than an entry can say, and then as `save` is for want of space. A call of the host
+/// that fails ends the run as `HostFault`. If a `get` breaks off, its file is taken back; a part of it stays only if that fails too. If
+/// a `put` does, what was written lies where nothing is, and is synced.
 pub fn run_with<D: Disk, S: Source, K: Sink, H: Host>(
     alloc: Global,
     words: &Vec<String>,
@@ -184,7 +186,8 @@ pub fn run_with<D: Disk, S: Source, K: Sink, H: Host>(
     // If the contents of disk and source are known: for each end, what was written, what the disk has then, and what was asked of the
     // host, unless the disk failed. At Done and Refused the lines are steps from the image as it opened, or from the fresh one, and
     // for each line it is told what it asked of the host: a `get` that is done made its file, and added the object's bytes and no
-    // others. If all writes were synced before, a crash leaves what `AskedStops` of fc_runs says: `get` leaves the image.
+    // others, and a `put` saved just the bytes that were taken of its file. If the host fails in a `put`, the image opens as the very
+    // same. If all writes were synced before, a crash leaves what `AskedStops` of fc_runs says: `get` leaves the image.
     ensures promise { ForSome (D.gives disk.old) (λ gives. ForSome (asked_script (request_of (map string_bytes words.now.items)) (S.left script.old)) (λ lines. ForSome (D.bytes disk.old) (λ image.
         AsksMore H.Host host.old host.new (λ asked. (text : List ℕ) × Wrote (K.taken out.old) (K.taken out.new) text
         × HostPromise D.Disk disk.old disk.new gives (H.files host.old) (H.files host.new) asked image lines text (request_of (map string_bytes words.now.items)) result)))) }
@@ -196,14 +199,15 @@ pub fn run_with<D: Disk, S: Source, K: Sink, H: Host>(
         (text : List ℕ) × Wrote (K.taken out.old) (K.taken out.new) text × IsServedWithHost D.Disk disk.old disk.new r image lines text (H.files host.old) (H.files host.new) result))) }
 
     // The headline, if all lines were done: each line is answered by two maps, the disc's from paths to attributes and bytes and the
-    // host's from names to bytes. `get` is refused as `load` is by the first, then if the second has its name; else it adds that.
+    // host's from names to bytes. `get` is refused as `load` is by the first, then if the second has its name; else it adds that. `put`
+    // is refused as `save` is by the first, then for want of the file in the second or for its length; else it is that `save`.
     ensures headline { (r : Request) → request_of (map string_bytes words.now.items) ≡ Some r → r.demo ≡ None → (result ≡ End.Done) ⊎ (result ≡ End.Refused)
         → ForSome (D.gives disk.old) (λ gives. ForSome (S.left script.old) (λ lines. ForSome (D.bytes disk.old) (λ image. ForSome (H.files host.old) (λ files.
         (text : List ℕ) × Wrote (K.taken out.old) (K.taken out.new) text × IsAnsweredByMaps D.Disk disk.new r image lines text files (H.files host.new))))) }
 
-    // Whatever is known: each line in turn asks of the host what it may, and nothing else is asked. A line names only its own file,
-    // makes it before it adds to it or removes it, and so changes no file that was there. A demo asks nothing. A failure is the
-    // host's only if its count of faults rose.
+    // Whatever is known: each line in turn asks of the host what it may, and nothing else is asked. A line names only its own file. A
+    // `put` only looks at it; a `get` makes it before it adds to it or removes it, and so changes no file that was there. A demo asks
+    // nothing. A failure is the host's only if its count of faults rose.
     ensures host { HostKeeps H.Host (asked_script (request_of (map string_bytes words.now.items)) (S.left script.old)) host.old host.new result }
 
     // What `run` keeps and causes of disk and sink. Lines write nothing if each reads or copies a file to the host.

@@ -1,7 +1,7 @@
 //! The top of the filing system: a run of a script over an image.
 //!
-//! Every command is served, over images of every kind and over fresh volumes, and `get` with a host's files; `put` isn't yet. The
-//! option `--safe` isn't implemented: a run that asks for it ends as `End::NotBuilt`, before the script is read.
+//! Every command is served, over images of every kind and over fresh volumes, and `put` and `get` with a host's files. The option
+//! `--safe` isn't implemented: a run that asks for it ends as `End::NotBuilt`, before the script is read.
 #![tactic(auto)]
 
 mod answer;
@@ -23,6 +23,7 @@ mod image;
 mod lines;
 mod load;
 mod moving;
+mod put;
 mod reclaim;
 mod reply;
 mod script;

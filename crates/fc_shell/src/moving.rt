@@ -4,7 +4,7 @@ ghost use Rattle.fc_shell.specs.MoveFaults.{moved_result};
 ghost use Rattle.fc_shell.specs.declared.moving.MoveFault.TheVariants as errors;
 
 use crate::answer::LineFault;
-use fc_device::NoMemory;
+use fc_device::{Failed, NoMemory};
 use fc_export::ExportFault;
 
 /// Why a line that may move a file of the host isn't answered.
@@ -31,6 +31,17 @@ impl From<ExportFault> for MoveFault {
             ExportFault::Disk => MoveFault::Disk,
             ExportFault::Host => MoveFault::Host,
         }
+    }
+}
+
+/// A failure is the host's, since those of disk and output are told by other types.
+impl From<Failed> for MoveFault {
+    ghost from_gives = { λ _ e. e ≡ errors.Host };
+
+    fn from(_: Failed) -> Self
+        ensures { result ≡ errors.Host }
+    {
+        MoveFault::Host
     }
 }
 

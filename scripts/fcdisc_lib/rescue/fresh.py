@@ -6,6 +6,7 @@ from argparse import Namespace
 from typing import Iterator
 
 from ..changes import tell_lost_access
+from ..contents import Content, held
 from ..conversion import Conversion
 from ..editing import NOT_COPIED, tell_failures
 from ..fresh import fresh_disc
@@ -27,11 +28,11 @@ class Filling(Conversion):
         super().__init__(program, sound_tree(reading, image), name)
         self.reading = reading
 
-    def contents(self) -> Iterator[bytes]:
+    def contents(self) -> Iterator[Content]:
         found = {one.path: one for one in self.reading.files}
         progress = Progress("bytes copied", sum(entry.length for entry in self.files))
         for entry in self.files:
-            yield b"".join(progress.passed(pieces_of(self.reading.source, found[entry.path])))
+            yield held(progress.passed(pieces_of(self.reading.source, found[entry.path])), entry.length)[0]
 
 
 def put_onto_fresh(reading: Reading, words: Namespace) -> int:
@@ -44,11 +45,10 @@ def put_onto_fresh(reading: Reading, words: Namespace) -> int:
     with fresh_disc(program, new, form) as file:
         filling.run(file.fileno())
         write_new(new, pieces_from(file, 0))
-    filling.complain.sum_up()
     tell_failures(new, filling.failures)
     tell_lost_access(new, filling.lost_access)
     refused = {failure.step.path for failure in filling.failures if failure.step.failure == NOT_COPIED}
     copied = sum(filling.places[entry.path] not in refused for entry in filling.files)
     say("%s; %s put onto %s" % (summary(reading), counted(copied, "file"), shown(new)))
-    whole = copied == len(reading.files) and not (filling.failures or filling.complain.count or filling.lost_access)
+    whole = copied == len(reading.files) and not (filling.failures or filling.lost_access)
     return 0 if whole else FAILED

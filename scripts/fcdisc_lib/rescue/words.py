@@ -17,7 +17,7 @@ def add_rescuing(added: Jobs) -> None:
     add_order(job)
     job.add_argument("--as", dest="form", metavar="FORMAT", type=str.upper, choices=FORMATS, help="what the disc is, if fcdisc "
                      "takes it for another: " + ", ".join(FORMATS))
-    job.add_argument("--deleted", action="store_true", help="also files of directories that lie in free space")
+    job.add_argument("--deleted", action="store_true", help="also what is in deleted directories: those that lie in free space")
     job.add_argument("--all", action="store_true", help="also if more than 8 times the disc's size would be written")
     job.add_argument("--report", action="store_true", help="write no files, and print the report")
     job.add_argument("--to", nargs=2, metavar=("FORMAT", "NEW"), help="put the sound files onto a fresh disc instead")

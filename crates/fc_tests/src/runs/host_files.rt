@@ -1,4 +1,4 @@
-// Whole runs whose lines copy files of the disc to a host in memory.
+// Whole runs whose lines copy files between the disc and a host in memory.
 use super::{FRESH, copied, hello, texts};
 use fc_device::{ListSink, ListSource, PlainDisk};
 use fc_host::ListHost;
@@ -54,13 +54,36 @@ const HOSTED: &[HostedRun] = &[
         b"ok\nerror 3 NotFound\n",
         b"Hello",
     ),
-    // names that are none, and `put`, which isn't served yet
+    // names that are none
     (
-        b"get $.Hello .txt\nget $.Hello a/b\nget $.Hello\nput b.txt $.A 00000000 00000000\n",
+        b"get $.Hello .txt\nget $.Hello a/b\nget $.Hello\nput a/b $.A 00000000 00000000\n",
         &[],
         1,
         b"error 1 BadCommand\nerror 1 BadCommand\nerror 1 BadCommand\nerror 1 BadCommand\n",
         b"",
+    ),
+    // a file that is put; one that isn't there; paths that are refused before the host is asked
+    (
+        b"get $.Hello b.txt\nput b.txt $.A 00000000 00000000\nload $.A\nput c.txt $.C 00000000 00000000\nput c.txt $.None.C 00000000 00000000\nput c.txt $ 00000000 00000000\n",
+        &[],
+        1,
+        b"ok\nok\n48656c6c6f\nok\nerror 18 NoHostFile\nerror 3 NotFound\nerror 5 IsDirectory\n",
+        b"Hello",
+    ),
+    // its length isn't told; its bytes aren't given
+    (
+        b"get $.Hello b.txt\nput b.txt $.A 00000000 00000000\nfree\n",
+        &[3],
+        11,
+        b"ok\n",
+        b"Hello",
+    ),
+    (
+        b"get $.Hello b.txt\nput b.txt $.A 00000000 00000000\nfree\n",
+        &[4],
+        11,
+        b"ok\n",
+        b"Hello",
     ),
     // the file can't be made; the bytes can't be added; nor can it be taken back
     (

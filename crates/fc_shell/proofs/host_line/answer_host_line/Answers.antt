@@ -12,8 +12,7 @@ use Rattle.fc_script.specs.Texts.{refusal_line}
 use Rattle.fc_script.specs.declared.command.LineError.{LineError}
 use Rattle.fc_script.specs.declared.host_line.HostLine.{HostLine as Told}
 use Rattle.fc_runs.specs.HostAsks.{LineAsks}
-use Rattle.fc_runs.specs.HostRun.{served_line_of, without_put}
-use Rattle.fc_shell.proofs.HostLineLemmas.{get_name, other_command}
+use Rattle.fc_shell.proofs.HostLineLemmas.{get_name, other_command, put_name}
 use Rattle.fc_tree.specs.Parts.{ArePartsOf}
 use Rattle.fc_volume.specs.Volume.{StandsFor, Volume, parts_of}
 use Rattle.fc_shell.specs.declared.moving.MoveFault.{MoveFault}
@@ -28,8 +27,8 @@ use Rattle.fc_shell.proofs.host_line.answer_host_line.Goals as goal
 line_is : (line : List ℕ) (told other : Told) → host_line_of line ≡ Ok (host_line told) → told ≡ other → host_line_of line ≡ Ok (host_line other)
 line_is line told other read is = read ∙ ap (λ (t : Told). let r : Result HostLine Refusal = Ok (host_line t) in r) is
 
-get_line : (line : List ℕ) (path : List (List ℕ)) (name other : List ℕ) → host_line_of line ≡ Ok (HostLine.Get path name) → other ≡ name → Ok (HostLine.Get path other) ≡ served_line_of line
-get_line line path name other is same = ap (λ (n : List ℕ). let r : Result HostLine Refusal = Ok (HostLine.Get path n) in r) same ∙ sym (ap without_put is)
+get_line : (line : List ℕ) (path : List (List ℕ)) (name other : List ℕ) → host_line_of line ≡ Ok (HostLine.Get path name) → other ≡ name → Ok (HostLine.Get path other) ≡ host_line_of line
+get_line line path name other is same = ap (λ (n : List ℕ). let r : Result HostLine Refusal = Ok (HostLine.Get path n) in r) same ∙ sym is
 
 pub get-requires-clause-fit : goal.get-requires-clause-fit
 get-requires-clause-fit g c = ap (λ (v : Volume). v.fit) c.renew_index.ensures ∙ c.requires.fit
@@ -66,49 +65,52 @@ returns-in-Ok-Get-clause-asks g c =
 
 pub returns-in-Ok-Get-clause-keeps : goal.returns-in-Ok-Get-clause-keeps
 returns-in-Ok-Get-clause-keeps g c =
-    subst (λ (v : Volume). KeepsServing g.D.Disk c.args.disk.now c.get.new.disk c.args.volume.now v (served_line_of c.args.line.now) c.get.result) (sym c.renew_index.ensures)
-    (reading_serves (laws g.met.D.Disk) c.args.volume.now (served_line_of c.args.line.now) c.args.disk.now c.get.new.disk c.get.result c.requires.settled c.requires.fit c.requires.stands c.get.ensures.reads)
+    subst (λ (v : Volume). KeepsServing g.D.Disk c.args.disk.now c.get.new.disk c.args.volume.now v (host_line_of c.args.line.now) c.get.result) (sym c.renew_index.ensures)
+    (reading_serves (laws g.met.D.Disk) c.args.volume.now (host_line_of c.args.line.now) c.args.disk.now c.get.new.disk c.get.result c.requires.settled c.requires.fit c.requires.stands c.get.ensures.reads)
 
 -- ---- `put`
 
-abbrev is_put : Told → Bool
-is_put (Told.Put host path load exec) = true
-is_put told = false
+put_line : (line name other : List ℕ) (path : List (List ℕ)) (load exec : ℕ) → host_line_of line ≡ Ok (HostLine.Put name path load exec) → other ≡ name → Ok (HostLine.Put other path load exec) ≡ host_line_of line
+put_line line name other path load exec is same = ap (λ (n : List ℕ). let r : Result HostLine Refusal = Ok (HostLine.Put n path load exec) in r) same ∙ sym is
 
-put_told : (line : List ℕ) (told : Told) → host_line_of line ≡ Ok (host_line told) → is_put told ≡ true → served_line_of line ≡ Err refusals.BadCommand
-put_told line (Told.Put host path load exec) read is = ap without_put read
-put_told line (Told.Get path host) read is = absurd (cc)
-put_told line (Told.Other c) read is = absurd (cc)
+pub put-requires-clause-some : goal.put-requires-clause-some
+put-requires-clause-some g c =
+    subst (λ (n : List ℕ). 0 < length n) (sym c.bytes-in-Ok-Put.ensures.same)
+    (put_name c.args.line.now c.in-Ok-Put.name c.in-Ok-Put.path c.in-Ok-Put.load c.in-Ok-Put.exec (line_is c.args.line.now c.in-Ok-Put.field-0 (Told.Put c.in-Ok-Put.name c.in-Ok-Put.path c.in-Ok-Put.load c.in-Ok-Put.exec) c.in-Ok-Put.ensures c.in-Ok-Put.field-0-is)).0
+
+pub put-requires-clause-most : goal.put-requires-clause-most
+put-requires-clause-most g c =
+    subst (λ (n : List ℕ). length n ≤ 64) (sym c.bytes-in-Ok-Put.ensures.same)
+    (put_name c.args.line.now c.in-Ok-Put.name c.in-Ok-Put.path c.in-Ok-Put.load c.in-Ok-Put.exec (line_is c.args.line.now c.in-Ok-Put.field-0 (Told.Put c.in-Ok-Put.name c.in-Ok-Put.path c.in-Ok-Put.load c.in-Ok-Put.exec) c.in-Ok-Put.ensures c.in-Ok-Put.field-0-is)).1
 
 pub returns-in-Ok-Put-clause-step : goal.returns-in-Ok-Put-clause-step
 returns-in-Ok-Put-clause-step g c image told kind view opens parts =
     let s : State = record { image = image; view = view } in
     let taken = g.K.Sink.taken in
-    let files = g.H.Host.files c.args.host.now in
-    let line = served_line_of c.args.line.now in
-    let is : line ≡ Err refusals.BadCommand = put_told c.args.line.now c.in-Ok-Put.field-0 c.in-Ok-Put.ensures (ap is_put c.in-Ok-Put.field-0-is) in
-    let v = c.args.volume.now in (
-      [],
-      sym (append-nil (g.H.Host.asked c.args.host.now)),
-      subst (λ (r : Result Bool MoveFault). LineMoves g.D.Disk c.args.disk.now c.args.disk.now kind v.read_only s v line (taken c.args.out.now) (taken c.tell.new.out) [] files files r) (sym c.moved.ensures)
-          (refused_moves (laws g.met.D.Disk) kind v s line c.args.disk.now c.args.disk.now (taken c.args.out.now) (taken c.tell.new.out) c.requires.settled told opens (reads_start (laws g.met.D.Disk) c.args.disk.now)
-          refusals.BadCommand files is parts c.tell.result c.tell.ensures.only.no_disk (c.tell.ensures.answered (refusal_line refusals.BadCommand) c.refusal.ensures)),
+    let files = g.H.Host.files in
+    let own =
+    put_line c.args.line.now c.in-Ok-Put.name c.bytes-in-Ok-Put.result.now c.in-Ok-Put.path c.in-Ok-Put.load c.in-Ok-Put.exec
+    (line_is c.args.line.now c.in-Ok-Put.field-0 (Told.Put c.in-Ok-Put.name c.in-Ok-Put.path c.in-Ok-Put.load c.in-Ok-Put.exec) c.in-Ok-Put.ensures c.in-Ok-Put.field-0-is) c.bytes-in-Ok-Put.ensures.same in
+    let m = c.put.ensures.step image told kind view opens parts in (
+      m.0,
+      m.1,
+      subst (λ (l : Result HostLine Refusal). LineMoves g.D.Disk c.args.disk.now c.put.new.disk kind c.args.volume.now.read_only s c.put.new.volume l (taken c.args.out.now) (taken c.put.new.out) m.0 (files c.args.host.now) (files c.put.new.host) c.put.result) own m.2,
     )
 
 pub returns-in-Ok-Put-clause-asks : goal.returns-in-Ok-Put-clause-asks
 returns-in-Ok-Put-clause-asks g c =
-    ([], sym (append-nil (g.H.Host.asked c.args.host.now)), subst (λ (l : Result HostLine Refusal). LineAsks l []) (sym (put_told c.args.line.now c.in-Ok-Put.field-0 c.in-Ok-Put.ensures (ap is_put c.in-Ok-Put.field-0-is))) refl)
+    let own =
+    put_line c.args.line.now c.in-Ok-Put.name c.bytes-in-Ok-Put.result.now c.in-Ok-Put.path c.in-Ok-Put.load c.in-Ok-Put.exec
+    (line_is c.args.line.now c.in-Ok-Put.field-0 (Told.Put c.in-Ok-Put.name c.in-Ok-Put.path c.in-Ok-Put.load c.in-Ok-Put.exec) c.in-Ok-Put.ensures c.in-Ok-Put.field-0-is) c.bytes-in-Ok-Put.ensures.same in
+    let m = c.put.ensures.asks in
+    (m.0, m.1, subst (λ (l : Result HostLine Refusal). LineAsks l m.0) own m.2)
 
 pub returns-in-Ok-Put-clause-keeps : goal.returns-in-Ok-Put-clause-keeps
 returns-in-Ok-Put-clause-keeps g c =
-    reading_serves (laws g.met.D.Disk) c.args.volume.now (served_line_of c.args.line.now) c.args.disk.now c.args.disk.now c.moved.result c.requires.settled c.requires.fit c.requires.stands
-    (reads_start (laws g.met.D.Disk) c.args.disk.now)
-
-pub returns-in-Ok-Put-clause-caused : goal.returns-in-Ok-Put-clause-caused
-returns-in-Ok-Put-clause-caused g c =
-    subst (λ (r : Result Bool MoveFault). AreCaused g.D.Disk g.K.Sink g.H.Host c.args.disk.now c.args.disk.now c.args.out.now c.tell.new.out c.args.host.now c.args.host.now r) (sym c.moved.ensures)
-    (caused_moved g.D.Disk g.K.Sink g.H.Host c.args.disk.now c.args.disk.now c.args.out.now c.tell.new.out c.args.host.now c.tell.result
-    (caused_alone g.D.Disk g.K.Sink c.args.disk.now c.args.disk.now c.args.out.now c.tell.new.out c.tell.result c.tell.ensures.only))
+    let own =
+    put_line c.args.line.now c.in-Ok-Put.name c.bytes-in-Ok-Put.result.now c.in-Ok-Put.path c.in-Ok-Put.load c.in-Ok-Put.exec
+    (line_is c.args.line.now c.in-Ok-Put.field-0 (Told.Put c.in-Ok-Put.name c.in-Ok-Put.path c.in-Ok-Put.load c.in-Ok-Put.exec) c.in-Ok-Put.ensures c.in-Ok-Put.field-0-is) c.bytes-in-Ok-Put.ensures.same in
+    subst (λ (l : Result HostLine Refusal). KeepsServing g.D.Disk c.args.disk.now c.put.new.disk c.args.volume.now c.put.new.volume l c.put.result) own c.put.ensures.keeps
 
 -- ---- a command
 
@@ -129,15 +131,15 @@ returns-in-Ok-Other-clause-step g c image told kind view opens parts =
     (c.answer_command.ensures.step line is image told kind view opens parts) in (
       [],
       sym (append-nil (g.H.Host.asked c.args.host.now)),
-      subst (λ (l : Result HostLine Refusal). LineMoves g.D.Disk c.args.disk.now c.answer_command.new.disk kind ro s now l (taken c.args.out.now) (taken c.answer_command.new.out) [] files files c.moved-in-Ok-Other.result)
-          (sym (ap without_put (line_is c.args.line.now c.in-Ok-Other.field-0 (Told.Other c.in-Ok-Other.asked) c.in-Ok-Other.ensures c.in-Ok-Other.field-0-is)))
+      subst (λ (l : Result HostLine Refusal). LineMoves g.D.Disk c.args.disk.now c.answer_command.new.disk kind ro s now l (taken c.args.out.now) (taken c.answer_command.new.out) [] files files c.moved.result)
+          (sym (line_is c.args.line.now c.in-Ok-Other.field-0 (Told.Other c.in-Ok-Other.asked) c.in-Ok-Other.ensures c.in-Ok-Other.field-0-is))
           (subst (λ (r : Result Bool MoveFault). LineMoves g.D.Disk c.args.disk.now c.answer_command.new.disk kind ro s now (Ok (HostLine.Other asked)) (taken c.args.out.now) (taken c.answer_command.new.out) [] files files r)
-          (sym c.moved-in-Ok-Other.ensures) moves),
+          (sym c.moved.ensures) moves),
     )
 
 pub returns-in-Ok-Other-clause-asks : goal.returns-in-Ok-Other-clause-asks
 returns-in-Ok-Other-clause-asks g c =
-    ([], sym (append-nil (g.H.Host.asked c.args.host.now)), subst (λ (l : Result HostLine Refusal). LineAsks l []) (sym (ap without_put (line_is c.args.line.now c.in-Ok-Other.field-0 (Told.Other c.in-Ok-Other.asked) c.in-Ok-Other.ensures c.in-Ok-Other.field-0-is))) refl)
+    ([], sym (append-nil (g.H.Host.asked c.args.host.now)), subst (λ (l : Result HostLine Refusal). LineAsks l []) (sym (line_is c.args.line.now c.in-Ok-Other.field-0 (Told.Other c.in-Ok-Other.asked) c.in-Ok-Other.ensures c.in-Ok-Other.field-0-is)) refl)
 
 pub returns-in-Ok-Other-clause-keeps : goal.returns-in-Ok-Other-clause-keeps
 returns-in-Ok-Other-clause-keeps g c =
@@ -148,15 +150,15 @@ returns-in-Ok-Other-clause-keeps g c =
     let new = c.answer_command.new.disk in
     let v = c.args.volume.now in
     let now = c.answer_command.new.volume in
-    subst (λ (l : Result HostLine Refusal). KeepsServing g.D.Disk old new v now l c.moved-in-Ok-Other.result) (sym (ap without_put (line_is c.args.line.now c.in-Ok-Other.field-0 (Told.Other c.in-Ok-Other.asked) c.in-Ok-Other.ensures c.in-Ok-Other.field-0-is)))
-    (subst (λ (r : Result Bool MoveFault). KeepsServing g.D.Disk old new v now (Ok (HostLine.Other asked)) r) (sym c.moved-in-Ok-Other.ensures)
+    subst (λ (l : Result HostLine Refusal). KeepsServing g.D.Disk old new v now l c.moved.result) (sym (line_is c.args.line.now c.in-Ok-Other.field-0 (Told.Other c.in-Ok-Other.asked) c.in-Ok-Other.ensures c.in-Ok-Other.field-0-is))
+    (subst (λ (r : Result Bool MoveFault). KeepsServing g.D.Disk old new v now (Ok (HostLine.Other asked)) r) (sym c.moved.ensures)
     (command_serves g.D.Disk g.K.Sink old new c.args.out.now c.answer_command.new.out v now line asked c.answer_command.result is (c.answer_command.ensures.keeps line is)))
 
 pub returns-in-Ok-Other-clause-caused : goal.returns-in-Ok-Other-clause-caused
 returns-in-Ok-Other-clause-caused g c =
     let line = c.args.line.now in
     let is = other_command line (command c.in-Ok-Other.asked) (line_is c.args.line.now c.in-Ok-Other.field-0 (Told.Other c.in-Ok-Other.asked) c.in-Ok-Other.ensures c.in-Ok-Other.field-0-is) in
-    subst (λ (r : Result Bool MoveFault). AreCaused g.D.Disk g.K.Sink g.H.Host c.args.disk.now c.answer_command.new.disk c.args.out.now c.answer_command.new.out c.args.host.now c.args.host.now r) (sym c.moved-in-Ok-Other.ensures)
+    subst (λ (r : Result Bool MoveFault). AreCaused g.D.Disk g.K.Sink g.H.Host c.args.disk.now c.answer_command.new.disk c.args.out.now c.answer_command.new.out c.args.host.now c.args.host.now r) (sym c.moved.ensures)
     (caused_moved g.D.Disk g.K.Sink g.H.Host c.args.disk.now c.answer_command.new.disk c.args.out.now c.answer_command.new.out c.args.host.now c.answer_command.result (c.answer_command.ensures.keeps line is).caused)
 
 -- ---- lines that spell nothing
@@ -166,55 +168,55 @@ returns-in-Err-BadCommand-clause-step g c image told kind view opens parts =
     let s : State = record { image = image; view = view } in
     let taken = g.K.Sink.taken in
     let files = g.H.Host.files c.args.host.now in
-    let line = served_line_of c.args.line.now in
+    let line = host_line_of c.args.line.now in
     let wrong = subst (λ (f : LineError). Gives {X = Told} host_line (Err f) (host_line_of c.args.line.now)) c.in-Err-BadCommand.field-0-is c.in-Err-BadCommand.ensures in
     let v = c.args.volume.now in (
       [],
       sym (append-nil (g.H.Host.asked c.args.host.now)),
-      subst (λ (r : Result Bool MoveFault). LineMoves g.D.Disk c.args.disk.now c.args.disk.now kind v.read_only s v line (taken c.args.out.now) (taken c.tell-in-Err-BadCommand.new.out) [] files files r) (sym c.moved-in-Err-BadCommand.ensures)
-          (refused_moves (laws g.met.D.Disk) kind v s line c.args.disk.now c.args.disk.now (taken c.args.out.now) (taken c.tell-in-Err-BadCommand.new.out) c.requires.settled told opens (reads_start (laws g.met.D.Disk) c.args.disk.now)
-          refusals.BadCommand files (ap without_put wrong) parts c.tell-in-Err-BadCommand.result c.tell-in-Err-BadCommand.ensures.only.no_disk (c.tell-in-Err-BadCommand.ensures.answered (refusal_line refusals.BadCommand) c.refusal-in-Err-BadCommand.ensures)),
+      subst (λ (r : Result Bool MoveFault). LineMoves g.D.Disk c.args.disk.now c.args.disk.now kind v.read_only s v line (taken c.args.out.now) (taken c.tell.new.out) [] files files r) (sym c.moved-in-Err-BadCommand.ensures)
+          (refused_moves (laws g.met.D.Disk) kind v s line c.args.disk.now c.args.disk.now (taken c.args.out.now) (taken c.tell.new.out) c.requires.settled told opens (reads_start (laws g.met.D.Disk) c.args.disk.now)
+          refusals.BadCommand files wrong parts c.tell.result c.tell.ensures.only.no_disk (c.tell.ensures.answered (refusal_line refusals.BadCommand) c.refusal.ensures)),
     )
 
 pub returns-in-Err-BadCommand-clause-asks : goal.returns-in-Err-BadCommand-clause-asks
 returns-in-Err-BadCommand-clause-asks g c =
     let wrong = subst (λ (f : LineError). Gives {X = Told} host_line (Err f) (host_line_of c.args.line.now)) c.in-Err-BadCommand.field-0-is c.in-Err-BadCommand.ensures in
-    ([], sym (append-nil (g.H.Host.asked c.args.host.now)), subst (λ (l : Result HostLine Refusal). LineAsks l []) (sym (ap without_put wrong)) refl)
+    ([], sym (append-nil (g.H.Host.asked c.args.host.now)), subst (λ (l : Result HostLine Refusal). LineAsks l []) (sym wrong) refl)
 
 pub returns-in-Err-BadCommand-clause-keeps : goal.returns-in-Err-BadCommand-clause-keeps
 returns-in-Err-BadCommand-clause-keeps g c =
-    reading_serves (laws g.met.D.Disk) c.args.volume.now (served_line_of c.args.line.now) c.args.disk.now c.args.disk.now c.moved-in-Err-BadCommand.result c.requires.settled c.requires.fit c.requires.stands
+    reading_serves (laws g.met.D.Disk) c.args.volume.now (host_line_of c.args.line.now) c.args.disk.now c.args.disk.now c.moved-in-Err-BadCommand.result c.requires.settled c.requires.fit c.requires.stands
     (reads_start (laws g.met.D.Disk) c.args.disk.now)
 
 pub returns-in-Err-BadCommand-clause-caused : goal.returns-in-Err-BadCommand-clause-caused
 returns-in-Err-BadCommand-clause-caused g c =
-    subst (λ (r : Result Bool MoveFault). AreCaused g.D.Disk g.K.Sink g.H.Host c.args.disk.now c.args.disk.now c.args.out.now c.tell-in-Err-BadCommand.new.out c.args.host.now c.args.host.now r) (sym c.moved-in-Err-BadCommand.ensures)
-    (caused_moved g.D.Disk g.K.Sink g.H.Host c.args.disk.now c.args.disk.now c.args.out.now c.tell-in-Err-BadCommand.new.out c.args.host.now c.tell-in-Err-BadCommand.result
-    (caused_alone g.D.Disk g.K.Sink c.args.disk.now c.args.disk.now c.args.out.now c.tell-in-Err-BadCommand.new.out c.tell-in-Err-BadCommand.result c.tell-in-Err-BadCommand.ensures.only))
+    subst (λ (r : Result Bool MoveFault). AreCaused g.D.Disk g.K.Sink g.H.Host c.args.disk.now c.args.disk.now c.args.out.now c.tell.new.out c.args.host.now c.args.host.now r) (sym c.moved-in-Err-BadCommand.ensures)
+    (caused_moved g.D.Disk g.K.Sink g.H.Host c.args.disk.now c.args.disk.now c.args.out.now c.tell.new.out c.args.host.now c.tell.result
+    (caused_alone g.D.Disk g.K.Sink c.args.disk.now c.args.disk.now c.args.out.now c.tell.new.out c.tell.result c.tell.ensures.only))
 
 pub returns-in-Err-BadName-clause-step : goal.returns-in-Err-BadName-clause-step
 returns-in-Err-BadName-clause-step g c image told kind view opens parts =
     let s : State = record { image = image; view = view } in
     let taken = g.K.Sink.taken in
     let files = g.H.Host.files c.args.host.now in
-    let line = served_line_of c.args.line.now in
+    let line = host_line_of c.args.line.now in
     let wrong = subst (λ (f : LineError). Gives {X = Told} host_line (Err f) (host_line_of c.args.line.now)) c.in-Err-BadName.field-0-is c.in-Err-BadName.ensures in
     let v = c.args.volume.now in (
       [],
       sym (append-nil (g.H.Host.asked c.args.host.now)),
       subst (λ (r : Result Bool MoveFault). LineMoves g.D.Disk c.args.disk.now c.args.disk.now kind v.read_only s v line (taken c.args.out.now) (taken c.tell-in-Err-BadName.new.out) [] files files r) (sym c.moved-in-Err-BadName.ensures)
           (refused_moves (laws g.met.D.Disk) kind v s line c.args.disk.now c.args.disk.now (taken c.args.out.now) (taken c.tell-in-Err-BadName.new.out) c.requires.settled told opens (reads_start (laws g.met.D.Disk) c.args.disk.now)
-          refusals.BadName files (ap without_put wrong) parts c.tell-in-Err-BadName.result c.tell-in-Err-BadName.ensures.only.no_disk (c.tell-in-Err-BadName.ensures.answered (refusal_line refusals.BadName) c.refusal-in-Err-BadName.ensures)),
+          refusals.BadName files wrong parts c.tell-in-Err-BadName.result c.tell-in-Err-BadName.ensures.only.no_disk (c.tell-in-Err-BadName.ensures.answered (refusal_line refusals.BadName) c.refusal-in-Err-BadName.ensures)),
     )
 
 pub returns-in-Err-BadName-clause-asks : goal.returns-in-Err-BadName-clause-asks
 returns-in-Err-BadName-clause-asks g c =
     let wrong = subst (λ (f : LineError). Gives {X = Told} host_line (Err f) (host_line_of c.args.line.now)) c.in-Err-BadName.field-0-is c.in-Err-BadName.ensures in
-    ([], sym (append-nil (g.H.Host.asked c.args.host.now)), subst (λ (l : Result HostLine Refusal). LineAsks l []) (sym (ap without_put wrong)) refl)
+    ([], sym (append-nil (g.H.Host.asked c.args.host.now)), subst (λ (l : Result HostLine Refusal). LineAsks l []) (sym wrong) refl)
 
 pub returns-in-Err-BadName-clause-keeps : goal.returns-in-Err-BadName-clause-keeps
 returns-in-Err-BadName-clause-keeps g c =
-    reading_serves (laws g.met.D.Disk) c.args.volume.now (served_line_of c.args.line.now) c.args.disk.now c.args.disk.now c.moved-in-Err-BadName.result c.requires.settled c.requires.fit c.requires.stands
+    reading_serves (laws g.met.D.Disk) c.args.volume.now (host_line_of c.args.line.now) c.args.disk.now c.args.disk.now c.moved-in-Err-BadName.result c.requires.settled c.requires.fit c.requires.stands
     (reads_start (laws g.met.D.Disk) c.args.disk.now)
 
 pub returns-in-Err-BadName-clause-caused : goal.returns-in-Err-BadName-clause-caused
@@ -223,13 +225,13 @@ returns-in-Err-BadName-clause-caused g c =
     (caused_moved g.D.Disk g.K.Sink g.H.Host c.args.disk.now c.args.disk.now c.args.out.now c.tell-in-Err-BadName.new.out c.args.host.now c.tell-in-Err-BadName.result
     (caused_alone g.D.Disk g.K.Sink c.args.disk.now c.args.disk.now c.args.out.now c.tell-in-Err-BadName.new.out c.tell-in-Err-BadName.result c.tell-in-Err-BadName.ensures.only))
 
-pub returns-clause-step : goal.returns-clause-step
-returns-clause-step g c image told kind view opens parts =
+pub returns-in-Err-NoMemory-clause-step : goal.returns-in-Err-NoMemory-clause-step
+returns-in-Err-NoMemory-clause-step g c image told kind view opens parts =
     let s : State = record { image = image; view = view } in
     let taken = g.K.Sink.taken c.args.out.now in (
       [],
       sym (append-nil (g.H.Host.asked c.args.host.now)),
-      unbegun_moves (laws g.met.D.Disk) kind c.args.volume.now s (served_line_of c.args.line.now) c.args.disk.now c.args.disk.now taken taken c.requires.settled told opens
+      unbegun_moves (laws g.met.D.Disk) kind c.args.volume.now s (host_line_of c.args.line.now) c.args.disk.now c.args.disk.now taken taken c.requires.settled told opens
           (reads_start (laws g.met.D.Disk) c.args.disk.now) MoveFault.NoMemory (g.H.Host.files c.args.host.now) refl,
     )
 
@@ -239,10 +241,10 @@ none_asks (Ok (HostLine.Get path host)) = inl refl
 none_asks (Ok (HostLine.Put host path load exec)) = λ k d below. absurd (omega (arith, below))
 none_asks (Ok (HostLine.Other command)) = refl
 
-pub returns-clause-asks : goal.returns-clause-asks
-returns-clause-asks g c = ([], sym (append-nil (g.H.Host.asked c.args.host.now)), none_asks (served_line_of c.args.line.now))
+pub returns-in-Err-NoMemory-clause-asks : goal.returns-in-Err-NoMemory-clause-asks
+returns-in-Err-NoMemory-clause-asks g c = ([], sym (append-nil (g.H.Host.asked c.args.host.now)), none_asks (host_line_of c.args.line.now))
 
-pub returns-clause-keeps : goal.returns-clause-keeps
-returns-clause-keeps g c =
-    reading_serves (laws g.met.D.Disk) c.args.volume.now (served_line_of c.args.line.now) c.args.disk.now c.args.disk.now (Err MoveFault.NoMemory) c.requires.settled c.requires.fit c.requires.stands
+pub returns-in-Err-NoMemory-clause-keeps : goal.returns-in-Err-NoMemory-clause-keeps
+returns-in-Err-NoMemory-clause-keeps g c =
+    reading_serves (laws g.met.D.Disk) c.args.volume.now (host_line_of c.args.line.now) c.args.disk.now c.args.disk.now (Err MoveFault.NoMemory) c.requires.settled c.requires.fit c.requires.stands
     (reads_start (laws g.met.D.Disk) c.args.disk.now)

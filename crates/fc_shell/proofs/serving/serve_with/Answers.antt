@@ -6,7 +6,7 @@ use Rattle.fc_device.proofs.StopLemmas.{reads_start, reads_then}
 use Rattle.fc_host.specs.Answers.{all_asked}
 use Rattle.fc_image.specs.effects.Effect.{State}
 use Rattle.fc_runs.specs.HostAsks.{LinesAsk}
-use Rattle.fc_runs.specs.HostRun.{served_line_of}
+use Rattle.fc_script.specs.HostLines.{host_line_of}
 use Rattle.fc_runs.specs.Run.{commands_in}
 use Rattle.fc_runs.proofs.MeanwhileLemmas.{goes_same, goes_then}
 use Rattle.fc_shell.specs.declared.moving.MoveFault.{MoveFault}
@@ -105,7 +105,7 @@ loop-line-preserved g c =
         asks.1 ++ mine.0 ∷ [],
         asks.2 ∙ ap (λ (lines : List (List ℕ)). asks.0 ++ lines) cut ∙ sym (append_assoc asks.0 (line ∷ []) left),
         all_asked_more (asked c.args.host.now) (asked c.loop-line.host) (asked c.answer_host_line.new.host) asks.1 mine.0 asks.3 mine.1,
-        all_ask_more served_line_of asks.0 asks.1 line mine.0 asks.4 mine.2,
+        all_ask_more host_line_of asks.0 asks.1 line mine.0 asks.4 mine.2,
       );
       served = λ image told kind view opens parts.
           let s : State = record { image = image; view = view } in
@@ -115,14 +115,14 @@ loop-line-preserved g c =
           subst (λ (lines : List (List ℕ)). HasMoved g.D.Disk c.args.disk.now c.loop-line.disk kind v.read_only s c.args.script.now lines c.loop-line.volume c.loop-line.tally (taken c.args.out.now) (taken c.loop-line.out) was.0 (files c.args.host.now) (files c.loop-line.host)) cut was.2 in
           let at = has.lines.state in
           let step = c.answer_host_line.ensures.step at.image has.lines.holds kind at.view has.lines.opens has.parts in
-          let ends = subst (λ (ro : Bool). LineMoves g.D.Disk c.loop-line.disk c.answer_host_line.new.disk kind ro at c.answer_host_line.new.volume (served_line_of line) (taken c.loop-line.out) (taken c.answer_host_line.new.out) step.0 (files c.loop-line.host) (files c.answer_host_line.new.host) c.answer_host_line.result)
+          let ends = subst (λ (ro : Bool). LineMoves g.D.Disk c.loop-line.disk c.answer_host_line.new.disk kind ro at c.answer_host_line.new.volume (host_line_of line) (taken c.loop-line.out) (taken c.answer_host_line.new.out) step.0 (files c.loop-line.host) (files c.answer_host_line.new.host) c.answer_host_line.result)
           so_far.ready.read_only step.2 in (
             was.0 ++ step.0,
             asked_then (asked c.args.host.now) (asked c.loop-line.host) (asked c.answer_host_line.new.host) was.0 step.0 was.1 step.1,
             host_more (laws g.met.D.Disk) kind v.read_only s (files c.args.host.now) c.args.script.now c.args.disk.now told c.requires.settled opens line left c.loop-line.volume c.answer_host_line.new.volume
                 c.in_ok-refused.refused c.loop-line.tally c.count.new.self (taken c.args.out.now) (taken c.loop-line.out) (taken c.answer_host_line.new.out) c.loop-line.disk c.answer_host_line.new.disk
                 was.0 step.0 (files c.loop-line.host) (files c.answer_host_line.new.host) has so_far.goes keeps.goes
-                (subst (λ (r : Result Bool MoveFault). LineMoves g.D.Disk c.loop-line.disk c.answer_host_line.new.disk kind v.read_only at c.answer_host_line.new.volume (served_line_of line) (taken c.loop-line.out) (taken c.answer_host_line.new.out) step.0 (files c.loop-line.host) (files c.answer_host_line.new.host) r) is ends)
+                (subst (λ (r : Result Bool MoveFault). LineMoves g.D.Disk c.loop-line.disk c.answer_host_line.new.disk kind v.read_only at c.answer_host_line.new.volume (host_line_of line) (taken c.loop-line.out) (taken c.answer_host_line.new.out) step.0 (files c.loop-line.host) (files c.answer_host_line.new.host) r) is ends)
                 c.count.ensures.replies c.count.ensures.refused,
           );
     }
@@ -145,7 +145,7 @@ returns-in_err-refused-clause-served g c image told kind view opens parts =
     subst (λ (lines : List (List ℕ)). HasMoved g.D.Disk c.args.disk.now c.loop-line.disk kind v.read_only s c.args.script.now lines c.loop-line.volume c.loop-line.tally (taken c.args.out.now) (taken c.loop-line.out) before.0 (files c.args.host.now) (files c.loop-line.host)) c.in-Some.ensures before.2 in
     let at = has.lines.state in
     let step = c.answer_host_line.ensures.step at.image has.lines.holds kind at.view has.lines.opens has.parts in
-    let ends = subst (λ (ro : Bool). LineMoves g.D.Disk c.loop-line.disk c.answer_host_line.new.disk kind ro at c.answer_host_line.new.volume (served_line_of line) (taken c.loop-line.out) (taken c.answer_host_line.new.out) step.0 (files c.loop-line.host) (files c.answer_host_line.new.host) c.answer_host_line.result)
+    let ends = subst (λ (ro : Bool). LineMoves g.D.Disk c.loop-line.disk c.answer_host_line.new.disk kind ro at c.answer_host_line.new.volume (host_line_of line) (taken c.loop-line.out) (taken c.answer_host_line.new.out) step.0 (files c.loop-line.host) (files c.answer_host_line.new.host) c.answer_host_line.result)
     so_far.ready.read_only step.2 in (
       before.0 ++ step.0,
       asked_then (asked c.args.host.now) (asked c.loop-line.host) (asked c.answer_host_line.new.host) before.0 step.0 before.1 step.1,
@@ -155,7 +155,7 @@ returns-in_err-refused-clause-served g c image told kind view opens parts =
           c.loop-line.tally (taken c.args.out.now) (taken c.loop-line.out) (taken c.answer_host_line.new.out) c.loop-line.disk c.answer_host_line.new.disk fault
           before.0 step.0 (files c.loop-line.host) (files c.answer_host_line.new.host) has so_far.goes keeps.goes
           (λ never. keeps.settled (λ is. never (one_move c.answer_host_line.result fault MoveFault.Disk was is)))
-          (subst (λ (r : Result Bool MoveFault). LineMoves g.D.Disk c.loop-line.disk c.answer_host_line.new.disk kind v.read_only at c.answer_host_line.new.volume (served_line_of line) (taken c.loop-line.out) (taken c.answer_host_line.new.out) step.0 (files c.loop-line.host) (files c.answer_host_line.new.host) r) was ends)),
+          (subst (λ (r : Result Bool MoveFault). LineMoves g.D.Disk c.loop-line.disk c.answer_host_line.new.disk kind v.read_only at c.answer_host_line.new.volume (host_line_of line) (taken c.loop-line.out) (taken c.answer_host_line.new.out) step.0 (files c.loop-line.host) (files c.answer_host_line.new.host) r) was ends)),
     )
 
 pub returns-in_err-refused-clause-asks : goal.returns-in_err-refused-clause-asks
@@ -171,8 +171,8 @@ returns-in_err-refused-clause-asks g c =
       (
         asks.1 ++ mine.0 ∷ [],
         refl,
-        subst (λ (lines : List (List ℕ)). LinesAsk served_line_of lines (asks.1 ++ mine.0 ∷ [])) (sym cut)
-            (all_ask_lines served_line_of (asks.0 ++ line ∷ []) left (asks.1 ++ mine.0 ∷ []) (all_ask_more served_line_of asks.0 asks.1 line mine.0 asks.4 mine.2)),
+        subst (λ (lines : List (List ℕ)). LinesAsk host_line_of lines (asks.1 ++ mine.0 ∷ [])) (sym cut)
+            (all_ask_lines host_line_of (asks.0 ++ line ∷ []) left (asks.1 ++ mine.0 ∷ []) (all_ask_more host_line_of asks.0 asks.1 line mine.0 asks.4 mine.2)),
       ),
     )
 
@@ -223,7 +223,7 @@ returns-clause-asks g c =
     let asks = c.loop-line.invariant.asks in (
       all_asked asks.1,
       asks.3,
-      (asks.1, refl, subst (λ (lines : List (List ℕ)). LinesAsk served_line_of lines asks.1) (sym asks.2) (all_ask_lines served_line_of asks.0 (commands_left c.loop-line.lines) asks.1 asks.4)),
+      (asks.1, refl, subst (λ (lines : List (List ℕ)). LinesAsk host_line_of lines asks.1) (sym asks.2) (all_ask_lines host_line_of asks.0 (commands_left c.loop-line.lines) asks.1 asks.4)),
     )
 
 pub returns-clause-goes : goal.returns-clause-goes

@@ -2,7 +2,7 @@ use Rattle.std.proofs.Common.{◌≡◌, ◌≤◌, ◌+◌, ◌++◌, List, ℕ
 use Rattle.fc_device.specs.Calls.{OnlyReads}
 use Rattle.fc_host.specs.Answers.{all_asked}
 use Rattle.fc_host.specs.Asked.{Asked}
-use Rattle.fc_runs.specs.HostRun.{served_line_of}
+use Rattle.fc_script.specs.HostLines.{host_line_of}
 use Rattle.fc_runs.specs.Meanwhile.{GoesOn}
 use Rattle.fc_runs.specs.Run.{commands_in}
 use Rattle.fc_shell.specs.Answered.{ForState}
@@ -25,7 +25,7 @@ invariant-loop-line g l = record {
   counted : l.tally.replies + length (commands_left l.lines) ≡ length (commands_in l.script);
   within : l.tally.refused ≤ l.tally.replies;
   asks : (done : List (List ℕ)) × (asks : List (List Asked)) × (commands_in l.script ≡ done ++ commands_left l.lines)
-      × (g.H.Host.asked l.host ≡ g.H.Host.asked l.fn.host ++ all_asked asks) × AllAsk served_line_of done asks;
+      × (g.H.Host.asked l.host ≡ g.H.Host.asked l.fn.host ++ all_asked asks) × AllAsk host_line_of done asks;
   served : ForState (g.D.Disk.bytes l.fn.disk) l.fn.volume (λ kind s. AsksMore g.H.Host l.fn.host l.host (λ asked.
       HasMoved g.D.Disk l.fn.disk l.disk kind l.fn.volume.read_only s l.script (commands_left l.lines) l.volume l.tally (g.K.Sink.taken l.fn.out) (g.K.Sink.taken l.out) asked (g.H.Host.files l.fn.host) (g.H.Host.files l.host)));
 }
