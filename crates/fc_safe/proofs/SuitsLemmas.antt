@@ -25,7 +25,7 @@ use Rattle.fc_safe.proofs.ListLemmas.{any_of, found_of}
 abbrev entry_in : Object → Entry
 entry_in o = o.entry
 
-abbrev low_of : Option Node → Bool
+abbrev pub low_of : Option Node → Bool
 low_of o = option_map_or (λ (node : Node). is_low_directory node.entry) o false
 
 one_number : (a b : ℕ) → (let x : Option ℕ = Some a in x) ≡ Some b → a ≡ b

@@ -24,6 +24,7 @@ pub use extents::{Stretch, extents_at};
 pub use first::place_first;
 pub use gone::gone_ids;
 pub use laws::{plain, stirred};
+pub use lists::push;
 pub use moving::{Moved, moved_of, moving_of, needs_of};
 pub use needs::{Need, plan_needs};
 pub use planned::{Planned, plan_job};

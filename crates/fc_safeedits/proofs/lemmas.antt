@@ -4,11 +4,14 @@ pub mod RelocatedNodesLemmas
 pub mod AlongLemmas
 pub mod RelocatedOwnersLemmas
 pub mod SafePlacesLemmas
+pub mod SafePartsLemmas
 pub mod SafeBytesLemmas
 pub mod SafeImageLemmas
 pub mod SafeOutcomeLemmas
 pub mod SafeChangeLemmas
+pub mod DeletedPartsLemmas
 pub mod SafeDeletionLemmas
+pub mod RewordedPartsLemmas
 pub mod RewordedImageLemmas
 pub mod SafeRewordingLemmas
 pub mod SafeSpaceLemmas

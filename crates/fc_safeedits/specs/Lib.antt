@@ -1,5 +1,6 @@
 pub mod Relocation
 pub mod SafePlaces
+pub mod SafeParts
 pub mod SafeImage
 pub mod SafeOutcome
 pub mod SafeChange

@@ -1,4 +1,4 @@
--- A change in the safe mode, whatever its edit: an image with a new map, and another one, to which it is written.
+-- A change in the safe mode, whatever its edit: parts with a new map, an image of theirs, and another one, to which it is written.
 use Rattle.std.specs.Prelude.{◌≡◌, ◌<◌, ℕ, Bool, true, List, [], map, Some, Contains}
 use Rattle.fc_record.specs.declared.DiscRecord.{DiscRecord}
 use Rattle.fc_record.specs.declared.Kind.{Kind}
@@ -24,14 +24,11 @@ use Rattle.fc_edits.specs.NewPlaces.{IsSpaceChange, Taking, ids_of, is_taken}
 use Rattle.fc_safelaws.specs.Free.{ChangesFree, IsFreeSector}
 use Rattle.fc_safeedits.specs.SafePlaces.{moves_by}
 
--- Parts are taken for `takings`, of which the identifiers that had runs move, and the identifiers `gone` go back: m is the map before, and
--- m' the one that counts afterwards. Beside the map the sectors `written` are written, in which nothing lay. `root` is the root's node,
--- and `top` its object.
-pub record SafeChange : Type 0 where
+-- Parts of a volume with a new map, and those after a change, with no image at hand. Parts of holes are taken for `takings`, of which the
+-- identifiers that had runs move, and the identifiers `gone` go back: m is the map before, and m' the one afterwards. `root` is the
+-- root's node, and `top` its object.
+pub record MovedParts : Type 0 where
   pub kind : Kind
-  pub r : DiscRecord
-  pub image : List ℕ
-  pub image' : List ℕ
   pub m : Map
   pub m' : Map
   pub nodes : Nodes
@@ -43,9 +40,6 @@ pub record SafeChange : Type 0 where
   pub listings : List Listing
   pub takings : List Taking
   pub gone : List ℕ
-  pub written : List ℕ
-  pub new_kind : IsNewKind kind r
-  pub opens : OpensAs image kind (record { kind = kind; layout = Layout.New m; listings = listings })
   pub agreed : AgreeOn kind m nodes owners root listings
   pub top_in : Contains (objects_of listings) top
   pub top_path : top.path ≡ []
@@ -53,23 +47,34 @@ pub record SafeChange : Type 0 where
   pub geometry : m'.geometry ≡ m.geometry
   pub space : IsSpaceChange m m' takings gone
   pub movable : (k : ℕ) → moves_by m takings k ≡ true → is_movable (objects_of listings) k ≡ true
-  pub changes : ChangesFree m.geometry written image image'
-  pub free : (s : ℕ) → is_among written s ≡ true → IsFreeSector m (objects_of listings) s
-  pub chosen : Chooses m.geometry m'.zones image'
 
 -- the identifiers that move
-abbrev pub moves_in : SafeChange → ℕ → Bool
+abbrev pub moves_in : MovedParts → ℕ → Bool
 moves_in x = moves_by x.m x.takings
 
--- the image as it opens before
-abbrev pub view_before : SafeChange → Opened
+-- the view that they are of
+abbrev pub view_before : MovedParts → Opened
 view_before x = record { kind = x.kind; layout = Layout.New x.m; listings = x.listings }
+
+-- An image with these parts, and another one, in which the map afterwards counts. Beside the map the sectors `written` are written, in which
+-- nothing lay.
+pub record SafeChange : Type 0 where
+  pub parts : MovedParts
+  pub r : DiscRecord
+  pub image : List ℕ
+  pub image' : List ℕ
+  pub written : List ℕ
+  pub new_kind : IsNewKind parts.kind r
+  pub opens : OpensAs image parts.kind (record { kind = parts.kind; layout = Layout.New parts.m; listings = parts.listings })
+  pub changes : ChangesFree parts.m.geometry written image image'
+  pub free : (s : ℕ) → is_among written s ≡ true → IsFreeSector parts.m (objects_of parts.listings) s
+  pub chosen : Chooses parts.m.geometry parts.m'.zones image'
 
 -- ---- a command that makes no object, and no directory grow
 
 -- The parts that are taken are those of its needs, and all are for identifiers that hold a changed directory. What goes back makes the holes
 -- that the command's own makes.
-pub record TakesForChanged (x : SafeChange) (c : Command) : Type 0 where
+pub record TakesForChanged (x : MovedParts) (c : Command) : Type 0 where
   pub parts : List (List ZoneRun)
   pub fitted : fitted_needs x.m (view_before x) c ≡ Some parts
   pub takes : map (λ (t : Taking). t.parts) x.takings ≡ parts
@@ -82,10 +87,10 @@ pub record TakesForChanged (x : SafeChange) (c : Command) : Type 0 where
 
 -- Both copies of the map are the new map. It is the old one but for its runs, FreeLink and the checks.
 pub record IsWholeMap (x : SafeChange) : Type 0 where
-  pub copies : HoldsCopies x.m.geometry x.m'.zones x.image'
-  pub zones : (z : ℕ) → z < x.m.geometry.zones → ZoneSteady x.m.geometry z (sector_of x.m z) (sector_of x.m' z)
-  pub links : (z : ℕ) → z < x.m.geometry.zones → KeepsOrWritesLinks x.m x.m' z
+  pub copies : HoldsCopies x.parts.m.geometry x.parts.m'.zones x.image'
+  pub zones : (z : ℕ) → z < x.parts.m.geometry.zones → ZoneSteady x.parts.m.geometry z (sector_of x.parts.m z) (sector_of x.parts.m' z)
+  pub links : (z : ℕ) → z < x.parts.m.geometry.zones → KeepsOrWritesLinks x.parts.m x.parts.m' z
 
 -- The record of the map stays, with the root's place.
-abbrev pub KeepsRecord : SafeChange → Type 0
+abbrev pub KeepsRecord : MovedParts → Type 0
 KeepsRecord x = map_record (sector_of x.m' 0) ≡ map_record (sector_of x.m 0)

@@ -8,6 +8,7 @@ use Rattle.fc_image.specs.Walk.{Object, object_bytes}
 use Rattle.fc_image.specs.Objects.{tree_of}
 use Rattle.fc_image.specs.Moves.{object_in}
 use Rattle.fc_image.specs.safe.SafeEffect.{HasTree}
+use Rattle.fc_tree.specs.Agree.{Agree}
 use Rattle.fc_laws.specs.nodes.Edits.{OwnersEdited, owners_with}
 use Rattle.fc_laws.specs.agree.Agreed.{parts_with}
 use Rattle.fc_edits.specs.Deletion.{Deletion, IsDeletion, edit}
@@ -17,31 +18,36 @@ use Rattle.fc_edits.specs.Places.{Stays}
 use Rattle.fc_outcomes.specs.Deletion.{LeavesOut}
 use Rattle.fc_safelaws.specs.Relaid.{AreCopied, Reaches}
 use Rattle.fc_safeedits.specs.Relocation.{is_moved}
-use Rattle.fc_safeedits.specs.SafeChange.{IsWholeMap, KeepsRecord, SafeChange, TakesForChanged, moves_in, view_before}
+use Rattle.fc_safeedits.specs.SafeChange.{IsWholeMap, KeepsRecord, MovedParts, SafeChange, TakesForChanged, moves_in, view_before}
 use Rattle.fc_safeedits.specs.SafeOutcome.{SafeOutcome}
 
--- The object goes. Its directory, without the entry, lies in new runs of its identifier, with `bytes`; what else stays in an identifier that
--- moves has its place there, and is copied.
-pub record SafeDeletion : Type 0 where
-  pub x : SafeChange
+-- The object goes, and its directory is in an identifier that moves; so may be others that stay, and each has its place there.
+pub record DeletedParts (x : MovedParts) : Type 0 where
   pub c : Deletion
-  pub path : Path
-  pub bytes : List ℕ
   pub deletion : IsDeletion x.nodes (Layout.New x.m) x.listings c
   pub nodes_edited : AreEdited x.nodes x.nodes' (edit c)
   pub owners_edited : OwnersEdited x.owners x.owners' (owners_with (Layout.New x.m) c.dir c.number c.o) []
   pub gives : GivesBack x.m x.takings x.gone x.listings (edit c)
-  pub record_stays : KeepsRecord x
-  pub leaves : LeavesOut path (Layout.New x.m) x.listings c bytes
   pub moves : is_moved (moves_in x) c.l.object ≡ true
   pub reaches : (o : Object) → Stays x.nodes x.listings (edit c) o → is_moved (moves_in x) o ≡ true → Reaches x.m' o
-  pub there : object_bytes x.image' (Layout.New x.m') (object_in (Layout.New x.m') c.l.object) ≡ bytes
-  pub copied : (o : Object) → Stays x.nodes x.listings (edit c) o → is_moved (moves_in x) o ≡ true → (c.l.object ≡ o → ⊥)
-      → AreCopied x.m.geometry.sector x.image x.image' o.sectors (object_in (Layout.New x.m') o).sectors
+
+-- Its directory, without the entry, has these bytes in its new sectors; what else stays in an identifier that moves is copied.
+pub record SafeDeletion : Type 0 where
+  pub x : SafeChange
+  pub parts : DeletedParts x.parts
+  pub path : Path
+  pub bytes : List ℕ
+  pub record_stays : KeepsRecord x.parts
+  pub leaves : LeavesOut path (Layout.New x.parts.m) x.parts.listings parts.c bytes
+  pub there : object_bytes x.image' (Layout.New x.parts.m') (object_in (Layout.New x.parts.m') parts.c.l.object) ≡ bytes
+  pub copied : (o : Object) → Stays x.parts.nodes x.parts.listings (edit parts.c) o → is_moved (moves_in x.parts) o ≡ true → (parts.c.l.object ≡ o → ⊥)
+      → AreCopied x.parts.m.geometry.sector x.image x.image' o.sectors (object_in (Layout.New x.parts.m') o).sectors
 
 pub record SafeDeletionLaw : Type 0 where
+  -- The parts after it agree.
+  pub agrees : (x : MovedParts) → DeletedParts x → Agree x.kind (parts_with x.m' x.nodes' x.owners')
   -- If the copy of the map that counts is the new one, the image has the tree after the command,
-  pub tree : (d : SafeDeletion) → HasTree d.x.kind (changed (tree_of d.x.image (Layout.New d.x.m) d.x.listings) (Command.Delete d.path)) d.x.image'
+  pub tree : (d : SafeDeletion) → HasTree d.x.parts.kind (changed (tree_of d.x.image (Layout.New d.x.parts.m) d.x.parts.listings) (Command.Delete d.path)) d.x.image'
   -- and if both are, the command has done what it promises.
-  pub outcome : (d : SafeDeletion) → TakesForChanged d.x (Command.Delete d.path) → IsWholeMap d.x
-      → SafeOutcome d.x.kind d.x.image d.x.image' (view_before d.x) (Command.Delete d.path) (parts_with d.x.m' d.x.nodes' d.x.owners')
+  pub outcome : (d : SafeDeletion) → TakesForChanged d.x.parts (Command.Delete d.path) → IsWholeMap d.x
+      → SafeOutcome d.x.parts.kind d.x.image d.x.image' (view_before d.x.parts) (Command.Delete d.path) (parts_with d.x.parts.m' d.x.parts.nodes' d.x.parts.owners')

@@ -2,12 +2,10 @@
 use Rattle.std.specs.Prelude.{◌≡◌, ◌⊎◌, ◌<◌, ℕ, true, false, List, [], ◌++◌, length, map, Ok, Contains, IsPermutation}
 use Rattle.fc_names.specs.Names.{Path, is_same_path}
 use Rattle.fc_record.specs.declared.DiscRecord.{DiscRecord}
-use Rattle.fc_record.specs.declared.Kind.{Kind}
 use Rattle.fc_record.specs.Kinds.{map_record}
 use Rattle.fc_newmap.specs.Map.{sector_of}
 use Rattle.fc_copies.specs.Copies.{Chooses}
 use Rattle.fc_dirs.specs.Directory.{directory_size}
-use Rattle.fc_alloc.specs.declared.owner.Owner.{Owner}
 use Rattle.fc_image.specs.Layout.{Layout, dir_form, is_among}
 use Rattle.fc_image.specs.Walk.{Listing, Object, is_directory_object, object_bytes, object_size, reader_of, root_entry}
 use Rattle.fc_image.specs.Objects.{objects_of}
@@ -15,17 +13,13 @@ use Rattle.fc_image.specs.Opening.{agreement, difference}
 use Rattle.fc_image.specs.Stays.{IsNewKind, OpensAs}
 use Rattle.fc_image.specs.TreeEdits.{IsMove, IsObjectEdit}
 use Rattle.fc_image.specs.Commanded.{moved_name, moved_path}
-use Rattle.fc_tree.specs.declared.node.Node.{Node}
-use Rattle.fc_laws.specs.nodes.Edits.{OwnersEdited}
-use Rattle.fc_laws.specs.agree.Agreed.{AgreeOn}
-use Rattle.fc_edits.specs.Edit.{Amended, Edit, TopStays, objects, owners_joined, owners_left}
-use Rattle.fc_edits.specs.NewPlaces.{Taking}
-use Rattle.fc_edits.specs.Places.{CanSayAll, Stays}
+use Rattle.fc_edits.specs.Edit.{Amended, Edit, TopStays, objects}
+use Rattle.fc_edits.specs.Places.{Stays}
 use Rattle.fc_outcomes.specs.Done.{IsDone}
 use Rattle.fc_safelaws.specs.Free.{ChangesFree, IsFreeSector, MappedImage}
 use Rattle.fc_safelaws.specs.Relaid.{AreCopied}
 use Rattle.fc_safeedits.specs.Relocation.{Relocation, is_moved, relocated, turned_in}
-use Rattle.fc_safeedits.specs.SafePlaces.{SafePlaces}
+use Rattle.fc_safeedits.specs.SafeParts.{SafeParts}
 
 -- ---- the record of the disc
 
@@ -65,31 +59,21 @@ pub record KeepsBody (x : Relocation) (o : Object) : Type 0 where
 
 -- The edit of an image, and another image, which has what is written for it. Its map that counts is m'.
 pub record SafeImage : Type 0 where
-  pub kind : Kind
+  pub parts : SafeParts
   pub r : DiscRecord
   pub image : List ℕ
   pub image' : List ℕ
-  pub move : Relocation
-  pub owners : List Owner
-  pub owners' : List Owner
-  pub root : Node
-  pub takings : List Taking
-  pub gone : List ℕ
   pub written : List ℕ
-  pub new_kind : IsNewKind kind r
-  pub opens : OpensAs image kind (record { kind = kind; layout = Layout.New move.m; listings = move.listings })
-  pub agreed : AgreeOn kind move.m move.nodes owners root move.listings
-  pub can : CanSayAll (Layout.New move.m) move.listings move.edit
-  pub owners_edited : OwnersEdited owners owners' (owners_left (Layout.New move.m) move.edit) (owners_joined (Layout.New move.m') move.edit)
-  pub places : SafePlaces move takings gone
-  pub bodies : (o : Object) → Contains (objects move.edit.moving) o → IsUnamended move.edit o → KeepsBody move o
-  pub is_written : IsSafeWritten move written image image'
-  pub chosen : Chooses move.m.geometry move.m'.zones image'
-  pub root_is : RootKept move ⊎ RootAnew move r
+  pub new_kind : IsNewKind parts.kind r
+  pub opens : OpensAs image parts.kind (record { kind = parts.kind; layout = Layout.New parts.move.m; listings = parts.move.listings })
+  pub bodies : (o : Object) → Contains (objects parts.move.edit.moving) o → IsUnamended parts.move.edit o → KeepsBody parts.move o
+  pub is_written : IsSafeWritten parts.move written image image'
+  pub chosen : Chooses parts.move.m.geometry parts.move.m'.zones image'
+  pub root_is : RootKept parts.move ⊎ RootAnew parts.move r
 
 -- the image before, as it opens
 abbrev pub before_image : SafeImage → MappedImage
-before_image y = record { kind = y.kind; r = y.r; m = y.move.m; listings = y.move.listings; image = y.image; new_kind = y.new_kind; opens = y.opens }
+before_image y = record { kind = y.parts.kind; r = y.r; m = y.parts.move.m; listings = y.parts.move.listings; image = y.image; new_kind = y.new_kind; opens = y.opens }
 
 -- ---- what it is to the tree
 
@@ -129,15 +113,15 @@ pub record MovesAllPaths (x : Relocation) (from to : Path) : Type 0 where
 
 pub record SafeImageLaw : Type 0 where
   -- A file that doesn't go has its bytes: one that stays, and one that moves or gets another entry.
-  pub staying_bytes : (y : SafeImage) (o : Object) → Stays y.move.nodes y.move.listings y.move.edit o → is_directory_object o ≡ false
-      → object_bytes y.image' (Layout.New y.move.m') (turned_in y.move o) ≡ object_bytes y.image (Layout.New y.move.m) o
-  pub moving_bytes : (y : SafeImage) (o : Object) → Contains (objects y.move.edit.moving) o → is_directory_object o ≡ false
-      → object_bytes y.image' (Layout.New y.move.m') (turned_in y.move o) ≡ object_bytes y.image (Layout.New y.move.m) o
+  pub staying_bytes : (y : SafeImage) (o : Object) → Stays y.parts.move.nodes y.parts.move.listings y.parts.move.edit o → is_directory_object o ≡ false
+      → object_bytes y.image' (Layout.New y.parts.move.m') (turned_in y.parts.move o) ≡ object_bytes y.image (Layout.New y.parts.move.m) o
+  pub moving_bytes : (y : SafeImage) (o : Object) → Contains (objects y.parts.move.edit.moving) o → is_directory_object o ≡ false
+      → object_bytes y.image' (Layout.New y.parts.move.m') (turned_in y.parts.move o) ≡ object_bytes y.image (Layout.New y.parts.move.m) o
   -- The other image opens by the new map, and these are its parts: if no path changes, and if all at or below one moves.
-  pub kept : (y : SafeImage) (changing : List Object) → KeepsAllPaths y.move changing
-      → (d : IsDone y.kind y.image' (Layout.New y.move.m') y.move.nodes' y.owners' (relocated y.move))
-      × IsObjectEdit y.image y.image' (Layout.New y.move.m) (Layout.New y.move.m') y.move.listings d.found (changing ++ objects y.move.edit.gone)
-      (map (turned_in y.move) changing ++ objects y.move.edit.come)
-  pub moved : (y : SafeImage) (from to : Path) → MovesAllPaths y.move from to
-      → (d : IsDone y.kind y.image' (Layout.New y.move.m') y.move.nodes' y.owners' (relocated y.move))
-      × IsMove y.image y.image' (Layout.New y.move.m) (Layout.New y.move.m') y.move.listings d.found from to
+  pub kept : (y : SafeImage) (changing : List Object) → KeepsAllPaths y.parts.move changing
+      → (d : IsDone y.parts.kind y.image' (Layout.New y.parts.move.m') y.parts.move.nodes' y.parts.owners' (relocated y.parts.move))
+      × IsObjectEdit y.image y.image' (Layout.New y.parts.move.m) (Layout.New y.parts.move.m') y.parts.move.listings d.found (changing ++ objects y.parts.move.edit.gone)
+      (map (turned_in y.parts.move) changing ++ objects y.parts.move.edit.come)
+  pub moved : (y : SafeImage) (from to : Path) → MovesAllPaths y.parts.move from to
+      → (d : IsDone y.parts.kind y.image' (Layout.New y.parts.move.m') y.parts.move.nodes' y.parts.owners' (relocated y.parts.move))
+      × IsMove y.image y.image' (Layout.New y.parts.move.m) (Layout.New y.parts.move.m') y.parts.move.listings d.found from to

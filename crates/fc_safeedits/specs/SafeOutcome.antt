@@ -39,10 +39,10 @@ SafeOutcome kind image image' v c now = (after : Opened)
 
 -- the image as it opened before, and as it opens now
 abbrev pub was : SafeImage → Opened
-was y = record { kind = y.kind; layout = Layout.New y.move.m; listings = y.move.listings }
+was y = record { kind = y.parts.kind; layout = Layout.New y.parts.move.m; listings = y.parts.move.listings }
 
 abbrev pub is_now : SafeImage → List Listing → Opened
-is_now y found = record { kind = y.kind; layout = Layout.New y.move.m'; listings = found }
+is_now y found = record { kind = y.parts.kind; layout = Layout.New y.parts.move.m'; listings = found }
 
 -- ---- what the command asks of the edit
 
@@ -50,31 +50,31 @@ is_now y found = record { kind = y.kind; layout = Layout.New y.move.m'; listings
 pub record IsAskedAnew (y : SafeImage) (c : Command) (found : List Listing) (a : Amended) : Type 0 where
   pub entries : entries_of a.content ≡ entries_after (was y) (is_now y found) c a.was
   pub may : may_be_rewritten (was y) c a.was.object.path ≡ true
-  pub says : IsRewritten c a.was.object.path (holder_address found (turned_in y.move a.was.object).path) a.was.content a.content
-  pub bytes : AreWritten (object_bytes y.image' (Layout.New y.move.m') (turned_in y.move a.was.object)) a.content
+  pub says : IsRewritten c a.was.object.path (holder_address found (turned_in y.parts.move a.was.object).path) a.was.content a.content
+  pub bytes : AreWritten (object_bytes y.image' (Layout.New y.parts.move.m') (turned_in y.parts.move a.was.object)) a.content
 
 -- What goes is deleted, each other directory is where the command puts it, and says what it asks; all that change are written anew.
 pub record AreSafelyAsked (y : SafeImage) (c : Command) (found : List Listing) : Type 0 where
-  pub out : (k : Listing) → Contains y.move.edit.out k → is_gone c k.object.path ≡ true
-  pub paths : (k : Listing) → Contains (map (λ (a : Amended). a.was) y.move.edit.amended ++ y.move.edit.same) k → is_same_path (path_after c k.object.path) (y.move.edit.turn k.object).path ≡ true
-  pub amended : (a : Amended) → Contains y.move.edit.amended a → IsAskedAnew y c found a
-  pub same : (k : Listing) → Contains y.move.edit.same k → AsksNothing (was y) (is_now y found) c y.move.edit k
-  pub all : (k : Listing) → Contains y.move.edit.same k → is_changed_directory (was y) c k.object ≡ false
+  pub out : (k : Listing) → Contains y.parts.move.edit.out k → is_gone c k.object.path ≡ true
+  pub paths : (k : Listing) → Contains (map (λ (a : Amended). a.was) y.parts.move.edit.amended ++ y.parts.move.edit.same) k → is_same_path (path_after c k.object.path) (y.parts.move.edit.turn k.object).path ≡ true
+  pub amended : (a : Amended) → Contains y.parts.move.edit.amended a → IsAskedAnew y c found a
+  pub same : (k : Listing) → Contains y.parts.move.edit.same k → AsksNothing (was y) (is_now y found) c y.parts.move.edit k
+  pub all : (k : Listing) → Contains y.parts.move.edit.same k → is_changed_directory (was y) c k.object ≡ false
 
 -- The parts that are taken are those of the command's needs, for their identifiers; and what goes back makes the holes that its own makes.
 pub record IsSafeSpaceAsked (y : SafeImage) (c : Command) (found : List Listing) : Type 0 where
   pub parts : List (List ZoneRun)
-  pub fitted : fitted_needs y.move.m (was y) c ≡ Some parts
-  pub takes : map (λ (t : Taking). t.parts) y.takings ≡ parts
-  pub ids : ids_of y.takings ≡ need_ids y.move.m (was y) (is_now y found) c
-  pub fresh : (k : ℕ) → is_taken y.takings k ≡ true → is_used y.move.m k ≡ false → 3 ≤ k
-  pub needs_met : HaveRuns y.move.m' (need_ids y.move.m (was y) (is_now y found) c) parts
-  pub least : AreLeast y.move.m (new_id_list y.move.m (was y) (is_now y found) c)
-  pub object : SafeObjectPlaced y.move.m y.move.m' (object_units y.move.m (was y) c) (slack_for (was y) c) (made_object (is_now y found) c)
+  pub fitted : fitted_needs y.parts.move.m (was y) c ≡ Some parts
+  pub takes : map (λ (t : Taking). t.parts) y.parts.takings ≡ parts
+  pub ids : ids_of y.parts.takings ≡ need_ids y.parts.move.m (was y) (is_now y found) c
+  pub fresh : (k : ℕ) → is_taken y.parts.takings k ≡ true → is_used y.parts.move.m k ≡ false → 3 ≤ k
+  pub needs_met : HaveRuns y.parts.move.m' (need_ids y.parts.move.m (was y) (is_now y found) c) parts
+  pub least : AreLeast y.parts.move.m (new_id_list y.parts.move.m (was y) (is_now y found) c)
+  pub object : SafeObjectPlaced y.parts.move.m y.parts.move.m' (object_units y.parts.move.m (was y) c) (slack_for (was y) c) (made_object (is_now y found) c)
   pub grown : SafeGrown (was y) (is_now y found) c
-  pub back : (z : ℕ) → z < y.move.m.geometry.zones
-      → holes_with (zone_holes (holes_unneeded y.move.m parts) z) (zone_holes (runs_that (is_one_of y.gone) y.move.m) z)
-      ≡ holes_with (zone_holes (holes_unneeded y.move.m parts) z) (zone_holes (places_given_up y.move.m (was y) c) z)
+  pub back : (z : ℕ) → z < y.parts.move.m.geometry.zones
+      → holes_with (zone_holes (holes_unneeded y.parts.move.m parts) z) (zone_holes (runs_that (is_one_of y.parts.gone) y.parts.move.m) z)
+      ≡ holes_with (zone_holes (holes_unneeded y.parts.move.m parts) z) (zone_holes (places_given_up y.parts.move.m (was y) c) z)
 
 pub record IsSafelyAsked (y : SafeImage) (c : Command) (found : List Listing) : Type 0 where
   pub directories : AreSafelyAsked y c found
@@ -83,35 +83,35 @@ pub record IsSafelyAsked (y : SafeImage) (c : Command) (found : List Listing) : 
   pub entry : NamedEntrySteady (was y) (is_now y found) c
   pub made : NewDirectory y.image' (is_now y found) c
   pub empty : is_written_empty c ≡ true → HasAddress (made_object (is_now y found) c) 0
-  pub zones : (z : ℕ) → z < y.move.m.geometry.zones → ZoneSteady y.move.m.geometry z (expected_zone (was y) (is_now y found) c y.move.m z) (sector_of y.move.m' z)
+  pub zones : (z : ℕ) → z < y.parts.move.m.geometry.zones → ZoneSteady y.parts.move.m.geometry z (expected_zone (was y) (is_now y found) c y.parts.move.m z) (sector_of y.parts.move.m' z)
 
 -- Both copies of the map are the new map, which is the old one but for its runs, FreeLink and the checks, and the root's place; and it is so
 -- of each order in which the listings after the edit may be found.
 pub record IsSafelyDone (y : SafeImage) (c : Command) : Type 0 where
-  pub copies : HoldsCopies y.move.m.geometry y.move.m'.zones y.image'
-  pub links : (z : ℕ) → z < y.move.m.geometry.zones → KeepsOrWritesLinks y.move.m y.move.m' z
-  pub asked : (found : List Listing) → AreSound (Layout.New y.move.m') found → IsPermutation (listings_after (relocated y.move)) found → IsSafelyAsked y c found
+  pub copies : HoldsCopies y.parts.move.m.geometry y.parts.move.m'.zones y.image'
+  pub links : (z : ℕ) → z < y.parts.move.m.geometry.zones → KeepsOrWritesLinks y.parts.move.m y.parts.move.m' z
+  pub asked : (found : List Listing) → AreSound (Layout.New y.parts.move.m') found → IsPermutation (listings_after (relocated y.parts.move)) found → IsSafelyAsked y c found
 
 -- ---- the law
 
 pub record SafeOutcomeLaw : Type 0 where
   -- The other image has the tree that these objects make, if no path changes, and if all at or below one moves.
-  pub kept_tree : (y : SafeImage) (changing : List Object) (t : Tree) → KeepsAllPaths y.move changing
+  pub kept_tree : (y : SafeImage) (changing : List Object) (t : Tree) → KeepsAllPaths y.parts.move changing
       → ((found : List Listing)
-      → IsObjectEdit y.image y.image' (Layout.New y.move.m) (Layout.New y.move.m') y.move.listings found (changing ++ objects y.move.edit.gone)
-      (map (turned_in y.move) changing ++ objects y.move.edit.come)
-      → tree_of y.image' (Layout.New y.move.m') found ≡ t) → HasTree y.kind t y.image'
-  pub moved_tree : (y : SafeImage) (from to : Path) (t : Tree) → MovesAllPaths y.move from to
-      → ((found : List Listing) → IsMove y.image y.image' (Layout.New y.move.m) (Layout.New y.move.m') y.move.listings found from to → tree_of y.image' (Layout.New y.move.m') found ≡ t)
-      → HasTree y.kind t y.image'
+      → IsObjectEdit y.image y.image' (Layout.New y.parts.move.m) (Layout.New y.parts.move.m') y.parts.move.listings found (changing ++ objects y.parts.move.edit.gone)
+      (map (turned_in y.parts.move) changing ++ objects y.parts.move.edit.come)
+      → tree_of y.image' (Layout.New y.parts.move.m') found ≡ t) → HasTree y.parts.kind t y.image'
+  pub moved_tree : (y : SafeImage) (from to : Path) (t : Tree) → MovesAllPaths y.parts.move from to
+      → ((found : List Listing) → IsMove y.image y.image' (Layout.New y.parts.move.m) (Layout.New y.parts.move.m') y.parts.move.listings found from to → tree_of y.image' (Layout.New y.parts.move.m') found ≡ t)
+      → HasTree y.parts.kind t y.image'
   -- The command does what it promises.
-  pub kept : (y : SafeImage) (c : Command) (changing : List Object) → KeepsAllPaths y.move changing → IsSafelyDone y c
+  pub kept : (y : SafeImage) (c : Command) (changing : List Object) → KeepsAllPaths y.parts.move changing → IsSafelyDone y c
       → ((found : List Listing)
-      → IsObjectEdit y.image y.image' (Layout.New y.move.m) (Layout.New y.move.m') y.move.listings found (changing ++ objects y.move.edit.gone)
-      (map (turned_in y.move) changing ++ objects y.move.edit.come)
-      → tree_of y.image' (Layout.New y.move.m') found ≡ changed (tree_of y.image (Layout.New y.move.m) y.move.listings) c)
-      → SafeOutcome y.kind y.image y.image' (was y) c (parts_with y.move.m' y.move.nodes' y.owners')
-  pub moved : (y : SafeImage) (c : Command) (from to : Path) → MovesAllPaths y.move from to → IsSafelyDone y c
-      → ((found : List Listing) → IsMove y.image y.image' (Layout.New y.move.m) (Layout.New y.move.m') y.move.listings found from to
-      → tree_of y.image' (Layout.New y.move.m') found ≡ changed (tree_of y.image (Layout.New y.move.m) y.move.listings) c)
-      → SafeOutcome y.kind y.image y.image' (was y) c (parts_with y.move.m' y.move.nodes' y.owners')
+      → IsObjectEdit y.image y.image' (Layout.New y.parts.move.m) (Layout.New y.parts.move.m') y.parts.move.listings found (changing ++ objects y.parts.move.edit.gone)
+      (map (turned_in y.parts.move) changing ++ objects y.parts.move.edit.come)
+      → tree_of y.image' (Layout.New y.parts.move.m') found ≡ changed (tree_of y.image (Layout.New y.parts.move.m) y.parts.move.listings) c)
+      → SafeOutcome y.parts.kind y.image y.image' (was y) c (parts_with y.parts.move.m' y.parts.move.nodes' y.parts.owners')
+  pub moved : (y : SafeImage) (c : Command) (from to : Path) → MovesAllPaths y.parts.move from to → IsSafelyDone y c
+      → ((found : List Listing) → IsMove y.image y.image' (Layout.New y.parts.move.m) (Layout.New y.parts.move.m') y.parts.move.listings found from to
+      → tree_of y.image' (Layout.New y.parts.move.m') found ≡ changed (tree_of y.image (Layout.New y.parts.move.m) y.parts.move.listings) c)
+      → SafeOutcome y.parts.kind y.image y.image' (was y) c (parts_with y.parts.move.m' y.parts.move.nodes' y.parts.owners')

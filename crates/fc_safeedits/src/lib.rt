@@ -6,6 +6,7 @@ ghost use Rattle.fc_safeedits.specs.Relocation.{RelocationLaw};
 ghost use Rattle.fc_safeedits.specs.SafeDeletion.{SafeDeletionLaw};
 ghost use Rattle.fc_safeedits.specs.SafeImage.{SafeImageLaw};
 ghost use Rattle.fc_safeedits.specs.SafeOutcome.{SafeOutcomeLaw};
+ghost use Rattle.fc_safeedits.specs.SafeParts.{SafePartsLaw};
 ghost use Rattle.fc_safeedits.specs.SafePlaces.{SafePlacesLaw};
 ghost use Rattle.fc_safeedits.specs.SafeRewording.{SafeRewordingLaw};
 ghost use Rattle.fc_safeedits.specs.SafeSpace.{SafeSpaceLaw};
@@ -19,6 +20,11 @@ pub fn relocation()
 /// It has its places on the new map.
 pub fn safe_places()
     ensures { SafePlacesLaw }
+{}
+
+/// The parts of a volume agree after it.
+pub fn safe_parts()
+    ensures { SafePartsLaw }
 {}
 
 /// An image to which all is written opens by the new map, with the objects after the edit.

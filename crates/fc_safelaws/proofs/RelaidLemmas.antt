@@ -39,13 +39,13 @@ first_is k ys xs e = by (nat_le k (length ys)) refl e
     by false h g = absurd (cc)
 
 -- the sectors of some bytes are so many of the identifier's
-record Within (m : Map) (a n : ℕ) (xs : List ℕ) : Type 0 where
-  some : (n == 0) ≡ false
-  room : div_ceil n m.geometry.sector ≤ length (drop (low_start m (low_of a)) (id_sectors m (id_of a)))
-  is : take (div_ceil n m.geometry.sector) (drop (low_start m (low_of a)) (id_sectors m (id_of a))) ≡ xs
+pub record Within (m : Map) (a n : ℕ) (xs : List ℕ) : Type 0 where
+  pub some : (n == 0) ≡ false
+  pub room : div_ceil n m.geometry.sector ≤ length (drop (low_start m (low_of a)) (id_sectors m (id_of a)))
+  pub is : take (div_ceil n m.geometry.sector) (drop (low_start m (low_of a)) (id_sectors m (id_of a))) ≡ xs
 
 -- of no bytes there are none
-within : (m : Map) (a n : ℕ) (xs : List ℕ) → sectors_at (Layout.New m) a n ≡ Some xs → (((n == 0) ≡ true) × (xs ≡ [])) ⊎ Within m a n xs
+pub within : (m : Map) (a n : ℕ) (xs : List ℕ) → sectors_at (Layout.New m) a n ≡ Some xs → (((n == 0) ≡ true) × (xs ≡ [])) ⊎ Within m a n xs
 unfolding sectors_at
 within m a n xs e = by (n == 0) refl (is_object_id m (id_of a)) e
   where
@@ -175,9 +175,10 @@ bytes' m m' o o' was image geometry h copied =
 
 -- ---- places
 
-placed_at : (m : Map) (a n : ℕ) → is_object_id m (id_of a) ≡ true → low_start m (low_of a) + div_ceil n m.geometry.sector ≤ length (id_sectors m (id_of a)) → (xs : List ℕ) × (sectors_at (Layout.New m) a n ≡ Some xs)
+placed_at : (m : Map) (a n : ℕ) → (0 < n → is_object_id m (id_of a) ≡ true) → (0 < n → low_start m (low_of a) + div_ceil n m.geometry.sector ≤ length (id_sectors m (id_of a)))
+    → (xs : List ℕ) × (sectors_at (Layout.New m) a n ≡ Some xs)
 unfolding sectors_at
-placed_at m a n id long = by (n == 0) (is_object_id m (id_of a)) id
+placed_at m a n id long = by (n == 0) refl
   where
     some : (k : ℕ) (ys : List ℕ) → k ≤ length ys → (xs : List ℕ) × (first_part k ys ≡ Some xs)
     some k ys low = (take k ys, ap (λ (b : Bool). cond b (Some (take k ys)) None) (le-leb k (length ys) low))
@@ -185,11 +186,19 @@ placed_at m a n id long = by (n == 0) (is_object_id m (id_of a)) id
     behind : (k j : ℕ) (ys : List ℕ) → k + j ≤ length ys → j ≤ length (drop k ys)
     behind k j ys low = let e = length-drop k ys in omega (arith, low, e)
 
-    by : (b i : Bool) → i ≡ true
-        → (xs : List ℕ) × (cond b (Some []) (cond i (first_part (div_ceil n m.geometry.sector) (drop (low_start m (low_of a)) (id_sectors m (id_of a)))) None) ≡ Some xs)
-    by true i h = ([], refl)
-    by false true h = some (div_ceil n m.geometry.sector) (drop (low_start m (low_of a)) (id_sectors m (id_of a))) (behind (low_start m (low_of a)) (div_ceil n m.geometry.sector) (id_sectors m (id_of a)) long)
-    by false false h = absurd (cc)
+    positive : (k : ℕ) → (k == 0) ≡ false → 0 < k
+    positive zero e = absurd (cc)
+    positive (suc k) e = omega arith
+
+    there : 0 < n → (i : Bool) → i ≡ true
+        → (xs : List ℕ) × (cond i (first_part (div_ceil n m.geometry.sector) (drop (low_start m (low_of a)) (id_sectors m (id_of a)))) None ≡ Some xs)
+    there more true h = some (div_ceil n m.geometry.sector) (drop (low_start m (low_of a)) (id_sectors m (id_of a))) (behind (low_start m (low_of a)) (div_ceil n m.geometry.sector) (id_sectors m (id_of a)) (long more))
+    there more false h = absurd (cc)
+
+    by : (b : Bool) → (n == 0) ≡ b
+        → (xs : List ℕ) × (cond b (Some []) (cond (is_object_id m (id_of a)) (first_part (div_ceil n m.geometry.sector) (drop (low_start m (low_of a)) (id_sectors m (id_of a)))) None) ≡ Some xs)
+    by true e = ([], refl)
+    by false e = there (positive n e) (is_object_id m (id_of a)) (id (positive n e))
 
 placed' : (m : Map) (o : Object) → Reaches m o → IsAt (Layout.New m) (object_in (Layout.New m) o)
 placed' m o h =

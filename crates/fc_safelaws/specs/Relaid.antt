@@ -16,10 +16,11 @@ pub record IsRelaid (m m' : Map) (o o' : Object) : Type 0 where
   pub before : IsAt (Layout.New m) o
   pub now : IsAt (Layout.New m') o'
 
--- The identifier has the object's sectors by the map.
+-- The identifier has the object's sectors by the map. Of an object of no bytes the address says nothing.
 pub record Reaches (m : Map) (o : Object) : Type 0 where
-  pub id : is_object_id m (id_of o.entry.address) ≡ true
-  pub long : low_start m (low_of o.entry.address) + div_ceil (object_size (dir_form (Layout.New m)) o.entry) m.geometry.sector ≤ length (id_sectors m (id_of o.entry.address))
+  pub id : 0 < object_size (dir_form (Layout.New m)) o.entry → is_object_id m (id_of o.entry.address) ≡ true
+  pub long : 0 < object_size (dir_form (Layout.New m)) o.entry
+      → low_start m (low_of o.entry.address) + div_ceil (object_size (dir_form (Layout.New m)) o.entry) m.geometry.sector ≤ length (id_sectors m (id_of o.entry.address))
 
 -- Each sector of `to` has the bytes that the sector of `from` of the same place had.
 abbrev pub AreCopied : ℕ → List ℕ → List ℕ → List ℕ → List ℕ → Type 0

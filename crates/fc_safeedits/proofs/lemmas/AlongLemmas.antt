@@ -19,7 +19,7 @@ use Rattle.fc_edits.proofs.lemmas.ListLemmas.{map_map}
 use Rattle.fc_edits.proofs.lemmas.LeavingLemmas.{left_among, left_number, left_other}
 use Rattle.fc_edits.proofs.lemmas.NumberLemmas as n_
 use Rattle.fc_safeedits.specs.Relocation.{Relocation, is_moved, laid_at, laid_in, number_at, relocated, turned_at, turned_in}
-use Rattle.fc_safeedits.proofs.lemmas.LaidLemmas.{ne, number_is}
+use Rattle.fc_safeedits.proofs.lemmas.LaidLemmas.{number_is}
 use Rattle.fc_safeedits.proofs.lemmas.RelocatedLemmas.{e', extra, is_edit', joined', left', moved_leaves}
 use Rattle.fc_safeedits.proofs.lemmas.RelocatedNodesLemmas.{carried_stays, nodes_now, top_still}
 use Rattle.fc_image.proofs.TreeLemmas.{map_both as map_append}

@@ -18,7 +18,7 @@ use Rattle.fc_tree.proofs.MemberLemmas.{contains_here, in_map, no_element}
 use Rattle.fc_tree.proofs.WalkedLemmas.{child_path, holder-push, root_path}
 use Rattle.fc_laws.specs.nodes.Edits.{Nodes, OwnersEdited, owner_with, owners_with}
 use Rattle.fc_laws.proofs.lemmas.nodes.ListLemmas.{in_first}
-use Rattle.fc_laws.proofs.lemmas.nodes.OwnerLemmas.{among-append, among_one, among_permuted, owner_known, owners_among}
+use Rattle.fc_laws.proofs.lemmas.nodes.OwnerLemmas.{among-append, among_permuted, owner_known, owners_among}
 use Rattle.fc_edits.specs.Edit.{Amended, Edit, IsEdit, TopStays, TopTurns, joined_in, joining, leaving, left_in, objects, owners_in, owners_joined, owners_left}
 use Rattle.fc_edits.specs.NodesEdit.{NodesEdit}
 use Rattle.fc_edits.specs.Places.{Stays}

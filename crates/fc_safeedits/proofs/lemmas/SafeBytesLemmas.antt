@@ -12,12 +12,10 @@ use Rattle.fc_image.specs.Layout.{Layout, bytes_in, dir_form}
 use Rattle.fc_image.specs.Walk.{Listing, Object, is_directory_object, object_bytes, object_size, reader_of}
 use Rattle.fc_image.specs.Objects.{objects_of}
 use Rattle.fc_image.specs.Stays.{HasSectorsOf}
-use Rattle.fc_image.specs.Order.{held}
 use Rattle.fc_image.proofs.FreeLemmas.{object_same}
 use Rattle.fc_tree.specs.Nodes.{number_of}
 use Rattle.fc_tree.proofs.MemberLemmas.{from_map, in_map, no_element}
 use Rattle.fc_tree.proofs.WalkedLemmas.{listed_directory}
-use Rattle.fc_laws.proofs.lemmas.agree.BeforeLemmas.{had}
 use Rattle.fc_laws.proofs.lemmas.nodes.ListLemmas.{in_first}
 use Rattle.fc_edits.specs.Edit.{Amended, Edit, KeepsEntry, TopStays, TopTurns, joined_in, joining, leaving, left_in, numbers, objects, turned}
 use Rattle.fc_edits.specs.Places.{Stays}
@@ -38,7 +36,7 @@ use Rattle.fc_safeedits.proofs.lemmas.SafePlacesLemmas.{joining', staying'}
 
 module _ (y : SafeImage) where
   abbrev pub x : Relocation
-  x = y.move
+  x = y.parts.move
 
   abbrev pub m : Map
   m = x.m
@@ -56,14 +54,14 @@ module _ (y : SafeImage) where
   before = before_image y
 
   pub geometry : m'.geometry ≡ m.geometry
-  geometry = y.places.geometry
+  geometry = y.parts.places.geometry
 
   pub form : dir_form (Layout.New m') ≡ dir_form (Layout.New m)
   form = ap (λ (g : Geometry). let f : NameForm = cond (g.version == 0) Ten Long in f) geometry
 
   -- ---- bytes
 
-  pub free : AreFree y.kind m (objects_of listings) y.written
+  pub free : AreFree y.parts.kind m (objects_of listings) y.written
   free = free_space_law.sectors before y.written y.is_written.free
 
   pub object_stays : (o : Object) → Contains (objects_of listings) o → HasSectorsOf m.geometry.sector o.sectors y.image y.image'
@@ -88,7 +86,7 @@ module _ (y : SafeImage) where
       by : (b : Bool) → is_moved x.moves (e.turn o) ≡ b → object_bytes y.image' (Layout.New m') (turned_in x o) ≡ object_bytes y.image (Layout.New m) o
       by true t =
           relaid_law.bytes m m' o (turned_in x o) y.image y.image' geometry
-          (staying' x y.kind y.owners y.root y.takings y.gone y.agreed y.places o s (sym (moved_entry x.moves (e.turn o) o (keeps o s).entry) ∙ t))
+          (staying' x y.parts.kind y.parts.owners y.parts.root y.parts.takings y.parts.gone y.parts.agreed y.parts.places o s (sym (moved_entry x.moves (e.turn o) o (keeps o s).entry) ∙ t))
           (y.is_written.copied o s (sym (moved_entry x.moves (e.turn o) o (keeps o s).entry) ∙ t) other)
       by false t =
           ap (object_bytes y.image' (Layout.New m')) (laid_still m' x.moves (e.turn o) t)
@@ -121,7 +119,7 @@ module _ (y : SafeImage) where
           let joins : Contains (joining e) (p.0.0, e.turn o) = subst (λ (q : Object). Contains (joining e) (p.0.0, e.turn q)) p.2 (moving_joins p.0 p.1) in
           let copied = y.is_written.copied_too o at t other in
           relaid_law.bytes m m' (e.turn o) (turned_in x o) y.image y.image' geometry
-          (joining' x y.kind y.owners y.root y.takings y.gone y.agreed y.places (p.0.0, e.turn o) joins t)
+          (joining' x y.parts.kind y.parts.owners y.parts.root y.parts.takings y.parts.gone y.parts.agreed y.parts.places (p.0.0, e.turn o) joins t)
           (subst (λ (ss : List ℕ). AreCopied m.geometry.sector y.image y.image' ss (turned_in x o).sectors) (sym body.sectors) copied)
           ∙ (λ i. bytes_in m.geometry.sector y.image (body.sectors i) (body.size i))
       by false t = ap (object_bytes y.image' (Layout.New m')) (laid_still m' x.moves (e.turn o) t) ∙ lying_bytes o (e.turn o) body.sectors body.size among
@@ -160,7 +158,7 @@ module _ (y : SafeImage) where
 
   pub said : (k : Listing) → Contains listings k → reader_of y.image (Layout.New m) k.object ≡ Ok k.content
   said k at =
-      (stays_listed (reader_of y.image (Layout.New m)) (Layout.New m) listings k (opened.had y.kind y.image (Layout.New m) listings y.opens).say at).0
+      (stays_listed (reader_of y.image (Layout.New m)) (Layout.New m) listings k (opened.had y.parts.kind y.image (Layout.New m) listings y.opens).say at).0
 
   pub told_says : (k : Listing) → Contains e.same k → reader_of y.image' (Layout.New m') (turned_in x k.object) ≡ Ok k.content
   told_says k at = (λ i. directory_of (form i) (told_body k at i)) ∙ said k (same_listed x k at)

@@ -22,20 +22,20 @@ use Rattle.fc_laws.specs.nodes.Laws.{IsHeld}
 use Rattle.fc_laws.specs.agree.Agreed.{CanSay}
 use Rattle.fc_laws.proofs.lemmas.agree.BeforeLemmas.{sound}
 use Rattle.fc_outcomes.proofs.lemmas.PutLemmas.{reads}
-use Rattle.fc_safeedits.specs.SafeChange.{SafeChange}
+use Rattle.fc_safeedits.specs.SafeChange.{MovedParts, SafeChange}
 
-pub held : (x : SafeChange) → IsHeld x.nodes (Layout.New x.m) x.listings
+pub held : (x : MovedParts) → IsHeld x.nodes (Layout.New x.m) x.listings
 held x = record { sound = sound x.kind x.m x.nodes x.owners x.root x.listings x.agreed; held = x.agreed.walked.held }
 
-pub form_same : (x : SafeChange) → dir_form (Layout.New x.m') ≡ dir_form (Layout.New x.m)
+pub form_same : (x : MovedParts) → dir_form (Layout.New x.m') ≡ dir_form (Layout.New x.m)
 form_same x = ap (λ (g : Geometry). let f : NameForm = cond (g.version == 0) Ten Long in f) x.geometry
 
 -- a directory that has all its bytes says what they say
-pub says_there : (x : SafeChange) (o : Object) (content : Directory) (bytes : List ℕ) → CanSay (Layout.New x.m) o content → AreWritten bytes content
-    → object_bytes x.image' (Layout.New x.m') o ≡ bytes → reader_of x.image' (Layout.New x.m') o ≡ Ok content
+pub says_there : (x : SafeChange) (o : Object) (content : Directory) (bytes : List ℕ) → CanSay (Layout.New x.parts.m) o content → AreWritten bytes content
+    → object_bytes x.image' (Layout.New x.parts.m') o ≡ bytes → reader_of x.image' (Layout.New x.parts.m') o ≡ Ok content
 says_there x o content bytes can written there =
-    ap (directory_of (dir_form (Layout.New x.m'))) there
-    ∙ reads (dir_form (Layout.New x.m')) o.entry.len bytes content (subst (λ (f : NameForm). HasForm f o.entry.len content) (sym (form_same x)) can.form) written
+    ap (directory_of (dir_form (Layout.New x.parts.m'))) there
+    ∙ reads (dir_form (Layout.New x.parts.m')) o.entry.len bytes content (subst (λ (f : NameForm). HasForm f o.entry.len content) (sym (form_same x.parts)) can.form) written
 
 -- objects of one address and one length have the same sectors by a map
 pub sectors_as : (m : Map) (o p : Object) → p.entry.address ≡ o.entry.address → object_size (dir_form (Layout.New m)) p.entry ≡ object_size (dir_form (Layout.New m)) o.entry

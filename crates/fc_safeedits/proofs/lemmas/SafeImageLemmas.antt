@@ -8,10 +8,10 @@ use Rattle.fc_names.specs.Names.{Path}
 use Rattle.fc_names.specs.declared.name.NameForm.{NameForm}
 use Rattle.fc_record.specs.declared.DiscRecord.{DiscRecord}
 use Rattle.fc_dirs.specs.declared.Entry.{Entry}
-use Rattle.fc_dirs.specs.Directory.{Directory, directory_size}
+use Rattle.fc_dirs.specs.Directory.{directory_size}
 use Rattle.fc_newmap.specs.Map.{Map}
 use Rattle.fc_model.specs.Tree.{last_name}
-use Rattle.fc_image.specs.Layout.{Layout, dir_form}
+use Rattle.fc_image.specs.Layout.{Layout}
 use Rattle.fc_image.specs.Walk.{Listing, Object, reader_of, root_entry}
 use Rattle.fc_image.specs.Objects.{objects_of}
 use Rattle.fc_image.specs.Opening.{agreement, difference, reserved_in}
@@ -20,33 +20,26 @@ use Rattle.fc_image.specs.Commanded.{IsKept, IsMoved}
 use Rattle.fc_image.specs.Order.{held}
 use Rattle.fc_image.proofs.OpenedLemmas.{edited_image_law}
 use Rattle.fc_image.proofs.OrderLemmas.{order_law}
-use Rattle.fc_tree.specs.Agree.{HasForm}
 use Rattle.fc_tree.proofs.MemberLemmas.{contains_here, from_map, no_element}
-use Rattle.fc_laws.specs.agree.Agreed.{CanSay}
-use Rattle.fc_laws.proofs.lemmas.agree.BeforeLemmas.{had}
-use Rattle.fc_laws.proofs.lemmas.agree.WalkedLemmas as on_any
 use Rattle.fc_laws.proofs.lemmas.nodes.ListLemmas.{in_first}
-use Rattle.fc_edits.specs.Edit.{Amended, Edit, TopStays, TopTurns, objects}
-use Rattle.fc_edits.specs.NewPlaces.{NewPlaces}
-use Rattle.fc_edits.specs.PartsEdit.{NewPartsEdit}
-use Rattle.fc_edits.specs.Places.{CanSayAll, IsRootEntry, Stays}
-use Rattle.fc_edits.proofs.lemmas.NewPlaceLemmas.{new_places_law}
+use Rattle.fc_edits.specs.Edit.{Amended, Edit, objects}
+use Rattle.fc_edits.specs.Places.{Stays}
 use Rattle.fc_outcomes.specs.Done.{IsDone}
 use Rattle.fc_outcomes.specs.Written.{IsEditWritten, IsNewMapWritten, KeepsPaths, MovesPaths}
 use Rattle.fc_outcomes.proofs.lemmas.NewDoneLemmas.{done_new, done_new_moved}
 use Rattle.fc_safelaws.proofs.FreeLemmas.{free_space_law}
 use Rattle.fc_safeedits.specs.Relocation.{Relocation, all_amended, amended_in, relocated, turned_in}
 use Rattle.fc_safeedits.specs.SafeImage.{KeepsAllPaths, MovesAllPaths, RootAnew, RootKept, SafeImage, SafeImageLaw, before_image}
-use Rattle.fc_safeedits.proofs.lemmas.LaidLemmas.{amended_or_told, same_listed}
-use Rattle.fc_safeedits.proofs.lemmas.RelocatedLemmas.{extra, is_edit', the_top, turned_entry, turned_path}
-use Rattle.fc_safeedits.proofs.lemmas.RelocatedNodesLemmas.{carried_stays, nodes_now, relocation_law}
+use Rattle.fc_safeedits.proofs.lemmas.LaidLemmas.{amended_or_told}
+use Rattle.fc_safeedits.proofs.lemmas.RelocatedLemmas.{extra, the_top, turned_entry, turned_path}
+use Rattle.fc_safeedits.proofs.lemmas.RelocatedNodesLemmas.{carried_stays, relocation_law}
 use Rattle.fc_safeedits.proofs.lemmas.SafeBytesLemmas as b_
-use Rattle.fc_safeedits.proofs.lemmas.SafePlacesLemmas.{places', safe_places_law}
+use Rattle.fc_safeedits.proofs.lemmas.SafePartsLemmas.{parts}
 use Rattle.fc_image.proofs.TreeLemmas.{map_both as map_append}
 
 module _ (y : SafeImage) where
   abbrev x : Relocation
-  x = y.move
+  x = y.parts.move
 
   abbrev m : Map
   m = x.m
@@ -62,7 +55,7 @@ module _ (y : SafeImage) where
 
   pub written : IsEditWritten y.image y.image' (Layout.New m) (Layout.New m') x.nodes listings (relocated x)
   written = record {
-    sector = λ i. (y.places.geometry i).sector;
+    sector = λ i. (y.parts.places.geometry i).sector;
     length_stays = y.is_written.changes.same_length;
     says = λ b at.
         (let a = from_map (amended_in x) (all_amended x) b at in
@@ -76,16 +69,16 @@ module _ (y : SafeImage) where
 
   -- ---- the map
 
-  pub map_now : IsNewMapWritten y.kind y.r y.image y.image' m m' listings (relocated x)
+  pub map_now : IsNewMapWritten y.parts.kind y.r y.image y.image' m m' listings (relocated x)
   map_now = by y.root_is
     where
       turned_top : (o : Object) → Contains (objects_of listings) o → o.path ≡ [] → (turned_in x o).entry ≡ (e.turn x.top).entry
       turned_top o at path = turned_entry x o ∙ ap (λ (p : Object). (e.turn p).entry) (sym (the_top x o at path))
 
-      by : RootKept x ⊎ RootAnew x y.r → IsNewMapWritten y.kind y.r y.image y.image' m m' listings (relocated x)
+      by : RootKept x ⊎ RootAnew x y.r → IsNewMapWritten y.parts.kind y.r y.image y.image' m m' listings (relocated x)
       by (inl t) =
-          let k = edited_image_law.map y.image y.kind y.r (record { kind = y.kind; layout = Layout.New m; listings = listings }) m y.new_kind y.opens refl in
-          let h = order_law.gives (reader_of y.image (Layout.New m)) (Layout.New m) (reserved_in y.kind (Layout.New m)) k.own.root k.own.root_size listings k.walked in
+          let k = edited_image_law.map y.image y.parts.kind y.r (record { kind = y.parts.kind; layout = Layout.New m; listings = listings }) m y.new_kind y.opens refl in
+          let h = order_law.gives (reader_of y.image (Layout.New m)) (Layout.New m) (reserved_in y.parts.kind (Layout.New m)) k.own.root k.own.root_size listings k.walked in
           let there : Contains (objects_of listings) h.0 = subst (λ (os : List Object). Contains os h.0) (sym h.4) (contains_here h.0 (held listings)) in
           let one : x.top ≡ h.0 = the_top x h.0 there h.1.path in
           record {
@@ -103,75 +96,6 @@ module _ (y : SafeImage) where
         boot_stays = free_space_law.boot (before_image y) y.written y.image' (b_.free y) y.is_written.changes;
         root_now = λ o at path. turned_top o at path ∙ t.entry;
       }
-
-  -- ---- the parts
-
-  pub places : NewPlaces y.kind m m' x.nodes listings (relocated x) y.takings y.gone
-  places = places' x y.kind y.owners y.root y.takings y.gone y.agreed y.places
-
-  pub can : CanSayAll (Layout.New m) listings (relocated x)
-  can = record {
-    few = y.can.few;
-    amended = λ b at.
-        (let a = from_map (amended_in x) (all_amended x) b at in
-        subst (λ (c : Amended). CanSay (Layout.New m) (turned_in x c.was.object) c.content) a.2
-        (⊎_elim (λ amended. says_as a.0.was.object a.0.content (y.can.amended a.0 amended))
-        (λ k. subst (λ (c : Amended). CanSay (Layout.New m) (turned_in x c.was.object) c.content) k.2 (says_as k.0.object k.0.content (told_can k.0 k.1))) (amended_or_told x a.0 a.1)));
-    into = y.can.into;
-    into_none = y.can.into_none;
-    same = λ k at. absurd (no_element k at);
-    root = λ o at path t. root_can o at path;
-  }
-    where
-      says_as : (o : Object) (content : Directory) → CanSay (Layout.New m) (e.turn o) content → CanSay (Layout.New m) (turned_in x o) content
-      says_as o content c =
-          record { form = subst (λ (z : Entry). HasForm (dir_form (Layout.New m)) z.len content) (sym (turned_entry x o)) c.form; body = c.body }
-
-      told_can : (k : Listing) → Contains e.same k → CanSay (Layout.New m) (e.turn k.object) k.content
-      told_can k at = record {
-        form = subst (λ (n : ℕ). HasForm (dir_form (Layout.New m)) n k.content) (sym (y.can.same k at)) (y.agreed.walked.forms k (same_listed x k at));
-        body = y.agreed.walked.bodies k (same_listed x k at);
-      }
-
-      root_as : (o o' : Object) → o'.entry ≡ o.entry → IsRootEntry (Layout.New m) o → IsRootEntry (Layout.New m) o'
-      root_as o o' same r = record { address = r.address; size = r.size; entry = same ∙ r.entry; whole = r.whole }
-
-      root_can : (o : Object) → Contains (objects_of listings) o → o.path ≡ [] → IsRootEntry (Layout.New m) (turned_in x o)
-      root_can o at path = root_as (e.turn o) (turned_in x o) (turned_entry x o) (by (x.is_edit.top o at path))
-        where
-          by : TopStays e o ⊎ TopTurns e o → IsRootEntry (Layout.New m) (e.turn o)
-          by (inr t) = y.can.root o at path t
-          by (inl t) =
-              let w = had y.kind m x.nodes y.owners y.root listings y.agreed in
-              let there : Contains (objects_of listings) w.top = subst (λ (os : List Object). Contains os w.top) (sym w.objects) (contains_here w.top (held listings)) in
-              let one : o ≡ w.top = sym (the_top x o at path) ∙ the_top x w.top there w.is_root.path in
-              let whole' = on_any.root_size y.kind (Layout.New m) x.nodes y.root listings y.agreed.walked y.agreed.root_is in
-              record {
-                address = y.root.entry.address;
-                size = y.root.entry.len;
-                entry = t.keeps.entry ∙ ap (λ (p : Object). p.entry) one ∙ w.is_root.entry ∙ ap (root_entry y.root.entry.address) whole';
-                whole = whole';
-              }
-
-  abbrev pub parts : NewPartsEdit
-  parts = record {
-    kind = y.kind;
-    m = m;
-    m' = m';
-    nodes = x.nodes;
-    nodes' = x.nodes';
-    owners = y.owners;
-    owners' = y.owners';
-    root = y.root;
-    listings = listings;
-    edit = relocated x;
-    agreed = y.agreed;
-    is_edit = is_edit' x;
-    nodes_edited = nodes_now x;
-    fit = new_places_law.fit y.kind m m' x.nodes y.owners y.root listings (relocated x) y.takings y.gone y.agreed (is_edit' x) places;
-    can = can;
-    owners_edited = safe_places_law.owners x y.kind y.owners y.owners' y.root y.takings y.gone y.agreed y.places y.owners_edited;
-  }
 
   -- ---- what it is to the tree
 
@@ -258,13 +182,13 @@ module _ (y : SafeImage) where
           }
 
   pub kept' : (changing : List Object) → KeepsAllPaths x changing
-      → (d : IsDone y.kind y.image' (Layout.New m') x.nodes' y.owners' (relocated x))
+      → (d : IsDone y.parts.kind y.image' (Layout.New m') x.nodes' y.parts.owners' (relocated x))
       × IsObjectEdit y.image y.image' (Layout.New m) (Layout.New m') listings d.found (changing ++ objects e.gone) (map (turned_in x) changing ++ objects e.come)
-  kept' changing k = done_new parts y.r y.image y.image' y.new_kind y.opens written map_now changing (keeps_paths changing k)
+  kept' changing k = done_new (parts y.parts) y.r y.image y.image' y.new_kind y.opens written map_now changing (keeps_paths changing k)
 
   pub moved' : (from to : Path) → MovesAllPaths x from to
-      → (d : IsDone y.kind y.image' (Layout.New m') x.nodes' y.owners' (relocated x)) × IsMove y.image y.image' (Layout.New m) (Layout.New m') listings d.found from to
-  moved' from to k = done_new_moved parts y.r y.image y.image' y.new_kind y.opens written map_now from to (moves_paths from to k)
+      → (d : IsDone y.parts.kind y.image' (Layout.New m') x.nodes' y.parts.owners' (relocated x)) × IsMove y.image y.image' (Layout.New m) (Layout.New m') listings d.found from to
+  moved' from to k = done_new_moved (parts y.parts) y.r y.image y.image' y.new_kind y.opens written map_now from to (moves_paths from to k)
 
 pub safe_image_law : SafeImageLaw
 safe_image_law = record {

@@ -1,5 +1,5 @@
 -- What a command in the safe mode has done.
-use Rattle.std.proofs.Common.{◌≡◌, ◌<◌, ◌≤◌, ◌⊎◌, inl, inr, ⊎_elim, ℕ, Bool, true, false, not, cond, ◌&&◌, ◌||◌, List, [], ◌∷◌, ◌++◌, drop, map, refl, sym, ap, ap₂, subst, ◌∙◌, arith, Option}
+use Rattle.std.proofs.Common.{◌≡◌, ◌<◌, ◌≤◌, inl, inr, ⊎_elim, ℕ, Bool, true, false, not, cond, ◌&&◌, ◌||◌, List, [], ◌∷◌, ◌++◌, drop, map, refl, sym, ap, ap₂, subst, ◌∙◌, arith, Option}
 use Rattle.std.specs.Prelude.{Contains, IsPermutation, IsSomeAnd, nat_le, ◌==◌}
 use Rattle.std.specs.List.{fold, list_any}
 use Rattle.std.proofs.lemmas.Bool.{leb-true, false_from_ne_true as unless}
@@ -49,7 +49,8 @@ use Rattle.fc_safecrash.proofs.BusyLemmas.{free_busy, the_map}
 use Rattle.fc_safeedits.proofs.lemmas.LaidLemmas.{amended_or_told, was_all}
 use Rattle.fc_safeedits.proofs.lemmas.RelocatedLemmas.{turned_path}
 use Rattle.fc_safeedits.proofs.lemmas.SafeBytesLemmas.{free, told_body}
-use Rattle.fc_safeedits.proofs.lemmas.SafeImageLemmas.{kept', moved', parts, places, written}
+use Rattle.fc_safeedits.proofs.lemmas.SafeImageLemmas.{kept', moved', written}
+use Rattle.fc_safeedits.proofs.lemmas.SafePartsLemmas.{parts, places}
 use Rattle.fc_record.proofs.KindLemmas.{and_second}
 use Rattle.fc_outcomes.proofs.lemmas.NewSpaceLemmas.{lost_not_owned}
 
@@ -62,7 +63,7 @@ stays_of false b c h g = cc
 
 module _ (y : SafeImage) where
   abbrev x : Relocation
-  x = y.move
+  x = y.parts.move
 
   abbrev m : Map
   m = x.m
@@ -77,7 +78,7 @@ module _ (y : SafeImage) where
   e' = relocated x
 
   abbrev mem : PartsEdit
-  mem = na.held_edit (parts y)
+  mem = na.held_edit (parts y.parts)
 
   abbrev before : List Object
   before = objects_of x.listings
@@ -139,16 +140,16 @@ module _ (y : SafeImage) where
   some : 1 ≤ m.geometry.zones
   some = (the_map (before_image y)).some
 
-  gone_movable : (k : ℕ) → is_used m k ≡ true → is_one_of y.gone k ≡ true → is_movable before k ≡ true
-  gone_movable = np_.gone_movable y.kind m m' x.nodes y.owners y.root x.listings e' y.takings y.gone y.agreed (parts y).is_edit (places y)
+  gone_movable : (k : ℕ) → is_used m k ≡ true → is_one_of y.parts.gone k ≡ true → is_movable before k ≡ true
+  gone_movable = np_.gone_movable y.parts.kind m m' x.nodes y.parts.owners y.parts.root x.listings e' y.parts.takings y.parts.gone y.parts.agreed (parts y.parts).is_edit (places y.parts)
 
-  runs_stay : (k : ℕ) → is_used m k ≡ true → is_one_of y.gone k ≡ false → keeps_runs m m' k
-  runs_stay k used stays = np_.runs_keep m m' y.takings y.gone x.listings e' k (places y).space (places y).gives used stays
+  runs_stay : (k : ℕ) → is_used m k ≡ true → is_one_of y.parts.gone k ≡ false → keeps_runs m m' k
+  runs_stay k used stays = np_.runs_keep m m' y.parts.takings y.parts.gone x.listings e' k (places y.parts).space (places y.parts).gives used stays
 
-  none_stay : (k : ℕ) → is_used m k ≡ false → is_taken y.takings k ≡ false → keeps_runs m m' k
+  none_stay : (k : ℕ) → is_used m k ≡ false → is_taken y.parts.takings k ≡ false → keeps_runs m m' k
   none_stay k unused none =
       let empty = no_runs m k some unused in
-      y.places.space.others k none ∙ ap (λ (runs : List ZoneRun). cond (is_one_of y.gone k) [] runs) empty ∙ kept_none (is_one_of y.gone k) ∙ sym empty
+      y.parts.places.space.others k none ∙ ap (λ (runs : List ZoneRun). cond (is_one_of y.parts.gone k) [] runs) empty ∙ kept_none (is_one_of y.parts.gone k) ∙ sym empty
     where
       kept_none : (b : Bool) → cond b [] [] ≡ (let runs : List ZoneRun = [] in runs)
       kept_none true = refl
@@ -162,28 +163,28 @@ module _ (y : SafeImage) where
     low_stays k low = by (is_used m k) refl
       where
         by : (b : Bool) → is_used m k ≡ b → keeps_runs m m' k
-        by true used = runs_stay k used (unless (is_one_of y.gone k) (λ goes. let high = movable_high k (gone_movable k used goes) in omega (arith, low, high)))
-        by false unused = none_stay k unused (unless (is_taken y.takings k) (λ taken. let high = s.fresh k taken unused in omega (arith, low, high)))
+        by true used = runs_stay k used (unless (is_one_of y.parts.gone k) (λ goes. let high = movable_high k (gone_movable k used goes) in omega (arith, low, high)))
+        by false unused = none_stay k unused (unless (is_taken y.parts.takings k) (λ taken. let high = s.fresh k taken unused in omega (arith, low, high)))
 
     lost_stays : (k : ℕ) → is_lost before k ≡ true → is_used m k ≡ true → keeps_runs m m' k
     lost_stays k lost used =
         let none = lost_not_owned before k lost in
-        runs_stay k used (unless (is_one_of y.gone k) (λ goes. let m1 = gone_movable k used goes in let m2 : is_movable before k ≡ false = ap (λ (b : Bool). b && nat_le 3 k) none in cc))
+        runs_stay k used (unless (is_one_of y.parts.gone k) (λ goes. let m1 = gone_movable k used goes in let m2 : is_movable before k ≡ false = ap (λ (b : Bool). b && nat_le 3 k) none in cc))
 
     -- what is owned, and has no need of its own
     others_stay : (k : ℕ) → is_owned (objects_of found) k ≡ true → list_any (λ n. n == k) (need_ids m (was y) (is_now y found) c) ≡ false → keeps_runs m m' k
     others_stay k own needless = by (is_used m k) refl
       where
-        not_taken : is_taken y.takings k ≡ false
+        not_taken : is_taken y.parts.takings k ≡ false
         not_taken = ap (λ (ns : List ℕ). list_any (λ n. n == k) ns) s.ids ∙ needless
 
-        own_now : is_owned (objects (joining e') ++ (places y).gives.stay) k ≡ true
-        own_now = sym (owned_now mem (places y).gives.stay (places y).gives.others found sound order k) ∙ own
+        own_now : is_owned (objects (joining e') ++ (places y.parts).gives.stay) k ≡ true
+        own_now = sym (owned_now mem (places y.parts).gives.stay (places y.parts).gives.others found sound order k) ∙ own
 
         by : (b : Bool) → is_used m k ≡ b → keeps_runs m m' k
         by true used =
             runs_stay k used
-            ((places y).gives.exactly k used
+            ((places y.parts).gives.exactly k used
             ∙ ap₂ (λ (a b : Bool). a || b) (ap (λ (b : Bool). is_owned before k && not b) own_now ∙ and_none (is_owned before k)) not_taken)
           where
             and_none : (a : Bool) → (a && not true) ≡ false
@@ -205,9 +206,9 @@ module _ (y : SafeImage) where
       lost = lost_stays;
       one = low_stays 1 (omega arith);
       two = low_stays 2 (omega arith);
-      holes = λ z low. y.places.space.holes z low
-          ∙ ap (λ (hs : List ZoneRun). holes_with (zone_holes hs z) (zone_holes (runs_that (is_one_of y.gone) m) z))
-          (untaken_is (hole_runs m) y.takings ∙ ap (λ (ps : List (List ZoneRun)). fold holes_left (hole_runs m) ps) s.takes) ∙ s.back z low;
+      holes = λ z low. y.parts.places.space.holes z low
+          ∙ ap (λ (hs : List ZoneRun). holes_with (zone_holes hs z) (zone_holes (runs_that (is_one_of y.parts.gone) m) z))
+          (untaken_is (hole_runs m) y.parts.takings ∙ ap (λ (ps : List (List ZoneRun)). fold holes_left (hole_runs m) ps) s.takes) ∙ s.back z low;
     }
 
     space : SafeSpaceSteady (was y) (is_now y found) c (Layout.New m) (Layout.New m')
@@ -215,31 +216,31 @@ module _ (y : SafeImage) where
 
   -- ---- what is outside
 
-  outside : (c : Command) (found : List Listing) → IsSafelyDone y c → IsSafelyAsked y c found → MapOutside y.image y.image' y.kind (expected_zone (was y) (is_now y found) c m) (idle_sectors (was y) m) m m'
+  outside : (c : Command) (found : List Listing) → IsSafelyDone y c → IsSafelyAsked y c found → MapOutside y.image y.image' y.parts.kind (expected_zone (was y) (is_now y found) c m) (idle_sectors (was y) m) m m'
   outside c found done asked =
       let o = the_map (before_image y) in
       record {
-        geometry = y.places.geometry;
+        geometry = y.parts.places.geometry;
         zones = asked.zones;
         links = done.links;
-        boot = same_sectors m.geometry.sector y.image y.image' (boot_place y.kind m.geometry.sector) (free_space_law.boot (before_image y) y.written y.image' (free y) y.is_written.changes);
+        boot = same_sectors m.geometry.sector y.image y.image' (boot_place y.parts.kind m.geometry.sector) (free_space_law.boot (before_image y) y.written y.image' (free y) y.is_written.changes);
         kept_stay = idle_stay m before o.some o.shape o.zones y.image y.image' y.written busy y.is_written.changes.outside;
       }
 
-  behind : drop (disc_size y.kind) y.image' ≡ drop (disc_size y.kind) y.image
+  behind : drop (disc_size y.parts.kind) y.image' ≡ drop (disc_size y.parts.kind) y.image
   behind =
-      behind_stays y.kind y.r y.image m x.listings y.new_kind y.opens y.image' y.written (record { length_stays = y.is_written.changes.same_length; writes = y.is_written.changes.outside }) busy
+      behind_stays y.parts.kind y.r y.image m x.listings y.new_kind y.opens y.image' y.written (record { length_stays = y.is_written.changes.same_length; writes = y.is_written.changes.outside }) busy
 
   -- ---- all of it
 
-  outcome : (c : Command) (d : IsDone y.kind y.image' (Layout.New m') x.nodes' y.owners' e') → IsSafelyDone y c
-      → tree_of y.image' (Layout.New m') d.found ≡ changed (tree_of y.image (Layout.New m) x.listings) c → SafeOutcome y.kind y.image y.image' (was y) c (parts_with m' x.nodes' y.owners')
+  outcome : (c : Command) (d : IsDone y.parts.kind y.image' (Layout.New m') x.nodes' y.parts.owners' e') → IsSafelyDone y c
+      → tree_of y.image' (Layout.New m') d.found ≡ changed (tree_of y.image (Layout.New m) x.listings) c → SafeOutcome y.parts.kind y.image y.image' (was y) c (parts_with m' x.nodes' y.parts.owners')
   outcome c d done tree =
-      let sound = tree_edit_law.opened y.image' y.kind (is_now y d.found) d.opens in
+      let sound = tree_edit_law.opened y.image' y.parts.kind (is_now y d.found) d.opens in
       let q = done.asked d.found sound d.order in (
         is_now y d.found,
         record {
-          opens = record { opens = d.opens; copies = subst (λ (g : Geometry). HoldsCopies g m'.zones y.image') (sym y.places.geometry) done.copies };
+          opens = record { opens = d.opens; copies = subst (λ (g : Geometry). HoldsCopies g m'.zones y.image') (sym y.parts.places.geometry) done.copies };
           tree = tree;
           steady = record {
             directories = directories_steady mem d.found y.image y.image' c y.opens (written y) sound d.order (asked_of c d.found sound d.order q.directories);

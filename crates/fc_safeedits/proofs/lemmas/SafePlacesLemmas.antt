@@ -1,5 +1,5 @@
 -- An edit with identifiers that move has its places on the new map.
-use Rattle.std.proofs.Common.{◌≡◌, ◌≤◌, ◌⊎◌, inl, inr, ⊎_elim, ℕ, ◌+◌, ◌-◌, ◌*◌, ◌/◌, Bool, true, false, not, cond, ◌&&◌, ◌||◌, List, [], ◌∷◌, ◌++◌, length, map, refl, sym, ap, ap₂, subst, ◌∙◌}
+use Rattle.std.proofs.Common.{◌≡◌, ◌<◌, ◌≤◌, ◌⊎◌, inl, inr, ⊎_elim, ℕ, ◌+◌, ◌-◌, ◌*◌, ◌/◌, Bool, true, false, not, cond, ◌&&◌, ◌||◌, List, [], ◌∷◌, ◌++◌, length, map, refl, sym, ap, ap₂, subst, ◌∙◌}
 use Rattle.std.specs.Prelude.{Contains, nat_lt, ◌==◌}
 use Rattle.std.specs.List.{list_any}
 use Rattle.std.specs.Int.{div_ceil}
@@ -51,16 +51,14 @@ use Rattle.fc_image.proofs.EntriesLemmas.{later as contains_later, cases as cont
 -- an object of the same address and size
 pub reaches_by : (m : Map) (o p : Object) → p.entry.address ≡ o.entry.address → object_size (dir_form (Layout.New m)) p.entry ≡ object_size (dir_form (Layout.New m)) o.entry → Reaches m o → Reaches m p
 reaches_by m o p address size h = record {
-  id = ap (λ (a : ℕ). is_object_id m (id_of a)) address ∙ h.id;
-  long = subst (λ (n : ℕ). n ≤ length (id_sectors m (id_of p.entry.address))) (ap₂ (λ (a k : ℕ). low_start m (low_of a) + div_ceil k m.geometry.sector) (sym address) (sym size))
-      (subst (λ (a : ℕ). low_start m (low_of o.entry.address) + div_ceil (object_size (dir_form (Layout.New m)) o.entry) m.geometry.sector ≤ length (id_sectors m (id_of a))) (sym address) h.long);
+  id = λ some. ap (λ (a : ℕ). is_object_id m (id_of a)) address ∙ h.id (subst (λ (n : ℕ). 0 < n) size some);
+  long = λ some. subst (λ (n : ℕ). n ≤ length (id_sectors m (id_of p.entry.address))) (ap₂ (λ (a k : ℕ). low_start m (low_of a) + div_ceil k m.geometry.sector) (sym address) (sym size))
+      (subst (λ (a : ℕ). low_start m (low_of o.entry.address) + div_ceil (object_size (dir_form (Layout.New m)) o.entry) m.geometry.sector ≤ length (id_sectors m (id_of a))) (sym address)
+      (h.long (subst (λ (n : ℕ). 0 < n) size some)));
 }
 
 reaches_as : (m : Map) (o p : Object) → o.entry ≡ p.entry → Reaches m o → Reaches m p
-reaches_as m o p same h = record {
-  id = subst (λ (y : Entry). is_object_id m (id_of y.address) ≡ true) same h.id;
-  long = subst (λ (y : Entry). low_start m (low_of y.address) + div_ceil (object_size (dir_form (Layout.New m)) y) m.geometry.sector ≤ length (id_sectors m (id_of y.address))) same h.long;
-}
+reaches_as m o p same = reaches_by m o p (ap (λ (y : Entry). y.address) (sym same)) (ap (λ (y : Entry). object_size (dir_form (Layout.New m)) y) (sym same))
 
 -- an object laid anew by a map that reaches it
 laid_now : (m m' : Map) (o p : Object) → p.entry ≡ o.entry → IsAt (Layout.New m) o → Reaches m' o → IsRelaid m m' o (object_in (Layout.New m') p)

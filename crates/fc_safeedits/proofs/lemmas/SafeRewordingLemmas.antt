@@ -1,8 +1,8 @@
 -- `set` and `mark` in the safe mode.
-use Rattle.std.proofs.Common.{◌≡◌, inl, inr, ℕ, ◌+◌, ◌-◌, ◌*◌, ◌/◌, ◌%◌, Bool, true, false, not, cond, ◌&&◌, ◌||◌, List, [], ◌∷◌, map, refl, sym, ap, ap₂, subst, ◌∙◌, arith, Option, Some}
+use Rattle.std.proofs.Common.{◌≡◌, inl, inr, ℕ, ◌+◌, ◌*◌, ◌/◌, ◌%◌, Bool, true, false, not, cond, ◌&&◌, ◌||◌, List, [], ◌∷◌, map, refl, sym, ap, ap₂, subst, ◌∙◌, arith, Option, Some}
 use Rattle.std.specs.Prelude.{Contains, IfSome, IsPermutation, IsSomeAnd}
 use Rattle.std.proofs.lemmas.List.{append-nil}
-use Rattle.fc_names.specs.Names.{Path, is_directory, is_same_path}
+use Rattle.fc_names.specs.Names.{is_directory, is_same_path}
 use Rattle.fc_model.specs.Command.{Command}
 use Rattle.fc_model.specs.Answer.{changed}
 use Rattle.fc_model.specs.Tree.{holder}
@@ -42,11 +42,13 @@ use Rattle.fc_safeedits.specs.SafeImage.{SafeImage}
 use Rattle.fc_safeedits.specs.SafeOutcome.{AreSafelyAsked, IsAskedAnew, IsSafeSpaceAsked, IsSafelyAsked, SafeOutcome, is_now}
 use Rattle.fc_safeedits.specs.SafeRewording.{SafeRewording, SafeRewordingLaw}
 use Rattle.fc_safeedits.proofs.lemmas.AlongLemmas.{ne'}
+use Rattle.fc_safeedits.proofs.lemmas.RewordedPartsLemmas as m_
 use Rattle.fc_safeedits.proofs.lemmas.RewordedImageLemmas as r_
 use Rattle.fc_safeedits.proofs.lemmas.RelocatedLemmas.{turned_entry, turned_path}
 use Rattle.fc_safeedits.proofs.lemmas.RelocatedNodesLemmas.{joining_more}
 use Rattle.fc_safeedits.proofs.lemmas.SafeChangeLemmas.{IsQuiet, zones_same}
-use Rattle.fc_safeedits.proofs.lemmas.SafeImageLemmas.{parts, safe_image_law}
+use Rattle.fc_safeedits.proofs.lemmas.SafeImageLemmas.{safe_image_law}
+use Rattle.fc_safeedits.proofs.lemmas.SafePartsLemmas.{parts}
 use Rattle.fc_safeedits.proofs.lemmas.SafeOutcomeLemmas.{safe_outcome_law}
 use Rattle.fc_outcomes.proofs.lemmas.RewordedLemmas.{last_same}
 use Rattle.fc_safeedits.proofs.lemmas.SafeDeletionLemmas.{none_and}
@@ -56,13 +58,13 @@ module _ (d : SafeRewording) where
   x = d.x
 
   abbrev c : Rewording
-  c = d.c
+  c = d.parts.c
 
   abbrev y : Layout
-  y = Layout.New x.m
+  y = Layout.New x.parts.m
 
   abbrev y' : Layout
-  y' = Layout.New x.m'
+  y' = Layout.New x.parts.m'
 
   abbrev command : Command
   command = d.command
@@ -76,10 +78,10 @@ module _ (d : SafeRewording) where
   -- ---- the tree of the model
 
   now_path : (turned_in move c.o).path ≡ c.o.path
-  now_path = turned_path move c.o ∙ d.reworded.rewording.same_path c.o
+  now_path = turned_path move c.o ∙ d.parts.reworded.rewording.same_path c.o
 
-  tree_now : (found : List Listing) → IsObjectEdit x.image x.image' y y' x.listings found (c.o ∷ []) (turned_in move c.o ∷ [])
-      → tree_of x.image' y' found ≡ changed (tree_of x.image y x.listings) command
+  tree_now : (found : List Listing) → IsObjectEdit x.image x.image' y y' x.parts.listings found (c.o ∷ []) (turned_in move c.o ∷ [])
+      → tree_of x.image' y' found ≡ changed (tree_of x.image y x.parts.listings) command
   tree_now found edited = by d.has_words.its.words
     where
       e_now : (turned_in move c.o).entry ≡ (c.turn c.o).entry
@@ -91,42 +93,42 @@ module _ (d : SafeRewording) where
       bytes : is_directory_object c.o ≡ false → object_bytes x.image' y' (turned_in move c.o) ≡ object_bytes x.image y c.o
       bytes file = safe_image_law.moving_bytes image c.o (contains_here c.o []) file
 
-      by : Words command d.path c.o.path c.turn → tree_of x.image' y' found ≡ changed (tree_of x.image y x.listings) command
+      by : Words command d.path c.o.path c.turn → tree_of x.image' y' found ≡ changed (tree_of x.image y x.parts.listings) command
       by (inl s) =
           let words : Object → Object = λ o. record o { entry = record o.entry { load = s.0; exec = s.1; attrs = o.entry.attrs / 8 * 8 + s.2 } } in
           let now : (turned_in move c.o).entry ≡ (words c.o).entry =
           e_now ∙ ap (λ (f : Object → Object). (f c.o).entry) s.4 ∙ ap (λ (b : Bool). (cond b (words c.o) c.o).entry) (itself c.o.path) in
-          subst (λ (k : Command). tree_of x.image' y' found ≡ changed (tree_of x.image y x.listings) k) (sym s.3)
-          (command_law.set x.image x.image' y y' x.listings found d.path s.0 s.1 s.2 c.o (turned_in move c.o) edited
+          subst (λ (k : Command). tree_of x.image' y' found ≡ changed (tree_of x.image y x.parts.listings) k) (sym s.3)
+          (command_law.set x.image x.image' y y' x.parts.listings found d.path s.0 s.1 s.2 c.o (turned_in move c.o) edited
           (record {
             was_at = d.has_words.its.path_is;
             at_path = at_path;
-            name = ap (λ (e : Entry). e.name) e_now ∙ d.reworded.rewording.name c.o;
+            name = ap (λ (e : Entry). e.name) e_now ∙ d.parts.reworded.rewording.name c.o;
             attrs_now = ap (λ (e : Entry). e.attrs) now;
             load_now = ap (λ (e : Entry). e.load) now;
             exec_now = ap (λ (e : Entry). e.exec) now;
-            kind = ap (λ (e : Entry). is_directory e.attrs) e_now ∙ d.reworded.rewording.kind c.o;
+            kind = ap (λ (e : Entry). is_directory e.attrs) e_now ∙ d.parts.reworded.rewording.kind c.o;
             bytes = bytes;
           }))
       by (inr s) =
           let marks : Object → Object = λ o. record o { entry = record o.entry { attrs = s.0 / 16 * 16 + 8 * (o.entry.attrs / 8 % 2) + s.0 % 8 } } in
           let now : (turned_in move c.o).entry ≡ (marks c.o).entry =
           e_now ∙ ap (λ (f : Object → Object). (f c.o).entry) s.2 ∙ ap (λ (b : Bool). (cond b (marks c.o) c.o).entry) (itself c.o.path) in
-          subst (λ (k : Command). tree_of x.image' y' found ≡ changed (tree_of x.image y x.listings) k) (sym s.1)
-          (command_law.mark x.image x.image' y y' x.listings found d.path s.0 c.o (turned_in move c.o) edited
+          subst (λ (k : Command). tree_of x.image' y' found ≡ changed (tree_of x.image y x.parts.listings) k) (sym s.1)
+          (command_law.mark x.image x.image' y y' x.parts.listings found d.path s.0 c.o (turned_in move c.o) edited
           (record {
             was_at = d.has_words.its.path_is;
             at_path = at_path;
-            name = ap (λ (e : Entry). e.name) e_now ∙ d.reworded.rewording.name c.o;
+            name = ap (λ (e : Entry). e.name) e_now ∙ d.parts.reworded.rewording.name c.o;
             attrs_now = ap (λ (e : Entry). e.attrs) now;
             load_now = ap (λ (e : Entry). e.load) now;
             exec_now = ap (λ (e : Entry). e.exec) now;
-            kind = ap (λ (e : Entry). is_directory e.attrs) e_now ∙ d.reworded.rewording.kind c.o;
+            kind = ap (λ (e : Entry). is_directory e.attrs) e_now ∙ d.parts.reworded.rewording.kind c.o;
             bytes = bytes;
           }))
 
-  pub tree' : HasTree x.kind (changed (tree_of x.image y x.listings) command) x.image'
-  tree' = safe_outcome_law.kept_tree image (c.o ∷ []) (changed (tree_of x.image y x.listings) command) (r_.keeps d) tree_now
+  pub tree' : HasTree x.parts.kind (changed (tree_of x.image y x.parts.listings) command) x.image'
+  tree' = safe_outcome_law.kept_tree image (c.o ∷ []) (changed (tree_of x.image y x.parts.listings) command) (r_.keeps d) tree_now
 
   -- ---- what the command asks
 
@@ -136,29 +138,29 @@ module _ (d : SafeRewording) where
   lies : LiesIn d.path c.l.object.path c.o.entry.name
   lies =
       lies_in d.path c.l.object.path c.o.entry.name
-      (ap (is_same_path d.path) (sym (child_path y x.listings (r_.h d).sound c.l c.o (r_.l_in d) (memory.kid_in x.nodes y x.listings c (r_.h d) d.reworded))) ∙ d.has_words.its.path_is)
+      (ap (is_same_path d.path) (sym (child_path y x.parts.listings (m_.h x.parts d.parts).sound c.l c.o (m_.l_in x.parts d.parts) (memory.kid_in x.parts.nodes y x.parts.listings c (m_.h x.parts d.parts) d.parts.reworded))) ∙ d.has_words.its.path_is)
 
   other : (k : Listing) → Contains c.rest k → is_same_path (holder d.path) k.object.path ≡ false
-  other k at = unnamed (unmoved move) d.path c.l k c.dir (r_.l_in d) d.reworded.dir_is (contains_here c.dir []) lies.holds at
+  other k at = unnamed (unmoved move) d.path c.l k c.dir (m_.l_in x.parts d.parts) d.parts.reworded.dir_is (contains_here c.dir []) lies.holds at
 
-  was_there : object_at x.listings d.path ≡ Some c.o
-  was_there = lookup_law.object y x.listings d.path c.o (r_.h d).sound (r_.o_in d) d.has_words.its.path_is
+  was_there : object_at x.parts.listings d.path ≡ Some c.o
+  was_there = lookup_law.object y x.parts.listings d.path c.o (m_.h x.parts d.parts).sound (m_.o_in x.parts d.parts) d.has_words.its.path_is
 
   -- no other directory is a changed one
-  still_dir : (k : Listing) → Contains c.rest k → is_changed_directory (view_before x) command k.object ≡ false
+  still_dir : (k : Listing) → Contains c.rest k → is_changed_directory (view_before x.parts) command k.object ≡ false
   still_dir k at = by command d.has_words.its.words
     where
-      by : (j : Command) → Words j d.path c.o.path c.turn → is_changed_directory (view_before x) j k.object ≡ false
+      by : (j : Command) → Words j d.path c.o.path c.turn → is_changed_directory (view_before x.parts) j k.object ≡ false
       by j (inl s) =
-          subst (λ (i : Command). is_changed_directory (view_before x) i k.object ≡ false) (sym s.3)
+          subst (λ (i : Command). is_changed_directory (view_before x.parts) i k.object ≡ false) (sym s.3)
           (ap (λ (t : Bool). is_directory_object k.object && (t || false || false || false) && not false) (other k at) ∙ none_and (is_directory_object k.object) (not false))
       by j (inr s) =
-          subst (λ (i : Command). is_changed_directory (view_before x) i k.object ≡ false) (sym s.1)
+          subst (λ (i : Command). is_changed_directory (view_before x.parts) i k.object ≡ false) (sym s.1)
           (ap (λ (t : Bool). is_directory_object k.object && (t || false || false || false) && not false) (other k at) ∙ none_and (is_directory_object k.object) (not false))
 
   module _ (found : List Listing) (sound : AreSound y' found) (order : IsPermutation (listings_after (relocated move)) found) where
     abbrev v : Opened
-    v = view_before x
+    v = view_before x.parts
 
     abbrev w : Opened
     w = is_now image found
@@ -168,7 +170,7 @@ module _ (d : SafeRewording) where
 
     there_now : Contains (objects_of found) (turned_in move c.o)
     there_now =
-        joins_found (na.held_edit (parts image)) found sound order (c.number, turned_in move c.o)
+        joins_found (na.held_edit (parts image.parts)) found sound order (c.number, turned_in move c.o)
         (joining_more move (c.number, c.turn c.o) (contains_here (c.number, c.turn c.o) []))
 
     is_there : object_at found d.path ≡ Some (turned_in move c.o)
@@ -176,10 +178,10 @@ module _ (d : SafeRewording) where
 
     asked : AreSafelyAsked image command found
     asked =
-        let stays : holder_address found (turned_in move c.l.object).path ≡ holder_address x.listings c.l.object.path =
-        ap (holder_address found) (turned_path move c.l.object ∙ d.reworded.rewording.same_path c.l.object)
+        let stays : holder_address found (turned_in move c.l.object).path ≡ holder_address x.parts.listings c.l.object.path =
+        ap (holder_address found) (turned_path move c.l.object ∙ d.parts.reworded.rewording.same_path c.l.object)
         ∙ holder_same (ne' move) y' found sound order
-        (λ o at. (turned_path move o ∙ d.reworded.rewording.same_path o, ap (λ (e : Entry). e.address) (turned_entry move o) ∙ r_.address_same d o)) c.l (n_.was_in (ne' move) b (contains_here b (map (amended_in move) (map (told_again move) c.rest)))) in
+        (λ o at. (turned_path move o ∙ d.parts.reworded.rewording.same_path o, ap (λ (e : Entry). e.address) (turned_entry move o) ∙ m_.address_same x.parts d.parts o)) c.l (n_.was_in (ne' move) b (contains_here b (map (amended_in move) (map (told_again move) c.rest)))) in
         let says : IsRewritten command c.l.object.path (holder_address found (turned_in move c.l.object).path) c.l.content c.content =
         subst (λ (n : ℕ). IsRewritten command c.l.object.path n c.l.content c.content) (sym stays) d.has_words.says in
         let named : holds_named command c.l.object.path ≡ true = word.holds c.l.object.path ∙ lies.holds in
@@ -190,7 +192,7 @@ module _ (d : SafeRewording) where
         (word.entry w (turned_in move c.o) is_there ∙ ap (λ (e : Entry). Some e) (turned_entry move c.o)))) says (r_.dir_written d) in
         record {
           out = λ k at. absurd (no_element k at);
-          paths = λ k at. ap₂ is_same_path (word.plain.path k.object.path) (d.reworded.rewording.same_path k.object) ∙ itself k.object.path;
+          paths = λ k at. ap₂ is_same_path (word.plain.path k.object.path) (d.parts.reworded.rewording.same_path k.object) ∙ itself k.object.path;
           amended = of_one (IsAskedAnew image command found) (amended c)
               (record {
                 entries = full.entries;
@@ -202,20 +204,20 @@ module _ (d : SafeRewording) where
           all = still_dir;
         }
 
-    same_address : HasSameAddress (object_at x.listings d.path) (object_at found d.path)
+    same_address : HasSameAddress (object_at x.parts.listings d.path) (object_at found d.path)
     same_address =
         subst (λ (q : Option Object). HasSameAddress q (object_at found d.path)) (sym was_there)
-        (subst (λ (q : Option Object). IsSomeAnd q (λ (o : Object). o.entry.address ≡ c.o.entry.address)) (sym is_there) (ap (λ (e : Entry). e.address) (turned_entry move c.o) ∙ r_.address_same d c.o))
+        (subst (λ (q : Option Object). IsSomeAnd q (λ (o : Object). o.entry.address ≡ c.o.entry.address)) (sym is_there) (ap (λ (e : Entry). e.address) (turned_entry move c.o) ∙ m_.address_same x.parts d.parts c.o))
 
-    steady_entry : IfSome (object_at found d.path) (EntrySteady (dir_form y) false (object_at x.listings d.path))
+    steady_entry : IfSome (object_at found d.path) (EntrySteady (dir_form y) false (object_at x.parts.listings d.path))
     steady_entry =
         let last : (turned_in move c.o).entry.last ≡ c.o.entry.last = ap (λ (e : Entry). e.last) (turned_entry move c.o) ∙ last_same command d.path c.o.path c.turn c.o d.has_words.its.words in
-        let len : (turned_in move c.o).entry.len ≡ c.o.entry.len = ap (λ (e : Entry). e.len) (turned_entry move c.o) ∙ d.reworded.rewording.len c.o in
-        subst (λ (q : Option Object). IfSome q (EntrySteady (dir_form y) false (object_at x.listings d.path))) (sym is_there)
+        let len : (turned_in move c.o).entry.len ≡ c.o.entry.len = ap (λ (e : Entry). e.len) (turned_entry move c.o) ∙ d.parts.reworded.rewording.len c.o in
+        subst (λ (q : Option Object). IfSome q (EntrySteady (dir_form y) false (object_at x.parts.listings d.path))) (sym is_there)
         (subst (λ (q : Option Object). EntrySteady (dir_form y) false q (turned_in move c.o)) (sym was_there)
         (record { last = inl last; len = λ dir. same_length (dir_form y) c.o.entry.len (turned_in move c.o).entry.len len }))
 
-  space_of : (k : Command) (found : List Listing) → IsQuiet x.m (view_before x) k → TakesForChanged x k → IsSafeSpaceAsked image k found
+  space_of : (k : Command) (found : List Listing) → IsQuiet x.parts.m (view_before x.parts) k → TakesForChanged x.parts k → IsSafeSpaceAsked image k found
   space_of k found quiet t =
       let w : Opened = is_now image found in
       record {
@@ -224,46 +226,46 @@ module _ (d : SafeRewording) where
         takes = t.takes;
         ids = t.ids ∙ sym (quiet.needs w);
         fresh = λ j taken unused. absurd (let used = t.used j taken in cc);
-        needs_met = subst (λ (ns : List ℕ). HaveRuns x.m' ns t.parts) (sym (quiet.needs w)) t.needs_met;
-        least = subst (AreLeast x.m) (sym (quiet.news w)) refl;
-        object = quiet.object x.m' w;
+        needs_met = subst (λ (ns : List ℕ). HaveRuns x.parts.m' ns t.parts) (sym (quiet.needs w)) t.needs_met;
+        least = subst (AreLeast x.parts.m) (sym (quiet.news w)) refl;
+        object = quiet.object x.parts.m' w;
         grown = quiet.grown w;
         back = t.back;
       }
 
-  asked_of : TakesForChanged x command → IsWholeMap x → (found : List Listing) → AreSound y' found → IsPermutation (listings_after (relocated move)) found → IsSafelyAsked image command found
+  asked_of : TakesForChanged x.parts command → IsWholeMap x → (found : List Listing) → AreSound y' found → IsPermutation (listings_after (relocated move)) found → IsSafelyAsked image command found
   asked_of t whole found sound order =
       by command (asked found sound order) (same_address found sound order) (steady_entry found sound order) t d.has_words.its.words
     where
-      by : (k : Command) → AreSafelyAsked image k found → HasSameAddress (object_at x.listings d.path) (object_at found d.path)
-          → IfSome (object_at found d.path) (EntrySteady (dir_form y) false (object_at x.listings d.path)) → TakesForChanged x k → Words k d.path c.o.path c.turn → IsSafelyAsked image k found
+      by : (k : Command) → AreSafelyAsked image k found → HasSameAddress (object_at x.parts.listings d.path) (object_at found d.path)
+          → IfSome (object_at found d.path) (EntrySteady (dir_form y) false (object_at x.parts.listings d.path)) → TakesForChanged x.parts k → Words k d.path c.o.path c.turn → IsSafelyAsked image k found
       by k dirs address entry takes (inl s) =
-          subst (λ (q : Command). AreSafelyAsked image q found → TakesForChanged x q → IsSafelyAsked image q found) (sym s.3)
+          subst (λ (q : Command). AreSafelyAsked image q found → TakesForChanged x.parts q → IsSafelyAsked image q found) (sym s.3)
           (λ set own. record {
             directories = set;
             space = space_of (Command.Set d.path s.0 s.1 s.2) found
-                (record { needs = λ w. append-nil (changed_ids x.m (view_before x) (Command.Set d.path s.0 s.1 s.2)); news = λ w. refl; object = λ m' w some. absurd (omega (arith, some)); grown = λ w. tt }) own;
+                (record { needs = λ w. append-nil (changed_ids x.parts.m (view_before x.parts) (Command.Set d.path s.0 s.1 s.2)); news = λ w. refl; object = λ m' w some. absurd (omega (arith, some)); grown = λ w. tt }) own;
             named = address;
             entry = entry;
             made = tt;
             empty = λ none. absurd (cc);
-            zones = zones_same (view_before x) (is_now image found) (Command.Set d.path s.0 s.1 s.2) x.m x.m' refl whole.zones;
+            zones = zones_same (view_before x.parts) (is_now image found) (Command.Set d.path s.0 s.1 s.2) x.parts.m x.parts.m' refl whole.zones;
           }) dirs takes
       by k dirs address entry takes (inr s) =
-          subst (λ (q : Command). AreSafelyAsked image q found → TakesForChanged x q → IsSafelyAsked image q found) (sym s.1)
+          subst (λ (q : Command). AreSafelyAsked image q found → TakesForChanged x.parts q → IsSafelyAsked image q found) (sym s.1)
           (λ mark own. record {
             directories = mark;
             space = space_of (Command.Mark d.path s.0) found
-                (record { needs = λ w. append-nil (changed_ids x.m (view_before x) (Command.Mark d.path s.0)); news = λ w. refl; object = λ m' w some. absurd (omega (arith, some)); grown = λ w. tt }) own;
+                (record { needs = λ w. append-nil (changed_ids x.parts.m (view_before x.parts) (Command.Mark d.path s.0)); news = λ w. refl; object = λ m' w some. absurd (omega (arith, some)); grown = λ w. tt }) own;
             named = address;
             entry = entry;
             made = tt;
             empty = λ none. absurd (cc);
-            zones = zones_same (view_before x) (is_now image found) (Command.Mark d.path s.0) x.m x.m' refl whole.zones;
+            zones = zones_same (view_before x.parts) (is_now image found) (Command.Mark d.path s.0) x.parts.m x.parts.m' refl whole.zones;
           }) dirs takes
 
-  pub outcome' : TakesForChanged x command → IsWholeMap x → SafeOutcome x.kind x.image x.image' (view_before x) command (parts_with x.m' x.nodes' x.owners')
+  pub outcome' : TakesForChanged x.parts command → IsWholeMap x → SafeOutcome x.parts.kind x.image x.image' (view_before x.parts) command (parts_with x.parts.m' x.parts.nodes' x.parts.owners')
   outcome' t whole = safe_outcome_law.kept image command (c.o ∷ []) (r_.keeps d) (record { copies = whole.copies; links = whole.links; asked = asked_of t whole }) tree_now
 
 pub safe_rewording_law : SafeRewordingLaw
-safe_rewording_law = record { tree = λ d. tree' d; outcome = λ d t whole. outcome' d t whole }
+safe_rewording_law = record { agrees = λ x d. m_.agrees' x d; tree = λ d. tree' d; outcome = λ d t whole. outcome' d t whole }

@@ -1,0 +1,4 @@
+pub mod AddedPartsLemmas
+pub mod AddedImageLemmas
+pub mod AddedEntryLemmas
+pub mod SafeAdditionLemmas

@@ -1,0 +1,121 @@
+-- A change of the safe mode, ready to be written: each directory that says something is written into the new runs of its identifier, and what
+-- else stays in that identifier is copied there.
+use Rattle.std.specs.Prelude.{◌≡◌, ℕ, ◌==◌, ◌&&◌, not, Bool, false, List, [], ◌∷◌, filter, drop, take, Option, Some, None, Contains, IsSome}
+use Rattle.std.specs.FinMap.{get}
+use Rattle.std.specs.List.{find, list_any}
+use Rattle.std.specs.Option.{option_map_or}
+use Rattle.fc_alloc.specs.declared.owner.Owner.{Owner}
+use Rattle.fc_alloc.specs.Owners.{is_node}
+use Rattle.fc_newmap.specs.Map.{Map}
+use Rattle.fc_image.specs.Layout.{Layout, dir_form, sectors_at}
+use Rattle.fc_image.specs.Walk.{object_size}
+use Rattle.fc_objects.specs.Extents.{sectors_in}
+use Rattle.fc_plan.specs.declared.plan.Plan.{Plan}
+use Rattle.fc_tree.specs.Parts.{Parts}
+use Rattle.fc_tree.specs.declared.node.Node.{Node}
+use Rattle.fc_writing.specs.declared.ready.MapStep.{MapStep}
+use Rattle.fc_writing.specs.declared.ready.MapStep.TheVariants as steps
+use Rattle.fc_writing.specs.declared.ready.Piece.{Piece}
+use Rattle.fc_writing.specs.declared.ready.Ready.{Ready}
+use Rattle.fc_writing.specs.declared.ready.Source.TheVariants as sources
+use Rattle.fc_writing.specs.declared.ready.Transfer.{Transfer}
+use Rattle.fc_change.specs.After.{gone_in}
+use Rattle.fc_change.specs.declared.change.Change.{Change}
+use Rattle.fc_change.specs.declared.change.Says.{Says}
+use Rattle.fc_change.specs.declared.change.Turned.{Turned}
+use Rattle.fc_change.specs.declared.job.Job.{Job}
+use Rattle.fc_change.specs.declared.job.Wants.{Wants}
+use Rattle.fc_change.specs.declared.spaces.Spaces.{Spaces}
+use Rattle.fc_change.specs.Drafts.{IsChangeOf}
+use Rattle.fc_change.specs.GrownSpace.{plan_sectors}
+use Rattle.fc_change.specs.Needs.{AreWants}
+use Rattle.fc_change.specs.Prepared.{HasPlace, IsDrafted}
+use Rattle.fc_course.specs.declared.stages.Prepared.{Prepared}
+use Rattle.fc_safe.specs.FirstNeeds.{first_shortage}
+use Rattle.fc_safe.specs.FirstSpace.{ArePlacedFirst}
+
+-- ---- where an owner lies then
+
+-- the plan of an identifier
+abbrev pub plan_for : List Plan → ℕ → Option Plan
+plan_for plans id = find (λ (p : Plan). p.id == id) plans
+
+-- the owner's sectors in it: as many as it has, from where it begins in its identifier; none if there is no such plan
+abbrev pub laid_by : Map → List Plan → Owner → List ℕ
+laid_by m plans o = option_map_or (λ (p : Plan). take o.sectors (drop o.first (plan_sectors m.geometry p))) (plan_for plans o.id) []
+
+-- ---- what is written there
+
+-- The directory's draft goes to its new sectors.
+pub record IsPieceAnew (m : Map) (h : Parts) (plans : List Plan) (s : Says) (p : Piece) : Type 0 where
+  pub own : Owner
+  pub is_own : find (is_node s.node) h.owners ≡ Some own
+  pub place : sectors_in p.place.items ≡ laid_by m plans own
+  pub drafted : IsDrafted s.draft p
+
+abbrev pub PiecesAnew : Map → Parts → List Plan → List Says → List Piece → Type 0
+PiecesAnew m h plans [] [] = Unit {0}
+PiecesAnew m h plans (s ∷ says) (p ∷ pieces) = IsPieceAnew m h plans s p × PiecesAnew m h plans says pieces
+PiecesAnew m h plans _ _ = ⊥
+
+-- ---- what is copied there
+
+-- The owner's identifier gets new runs, and the owner stays in it and says nothing else.
+abbrev pub has_plan : List Plan → ℕ → Bool
+has_plan plans id = list_any (λ (p : Plan). p.id == id) plans
+
+abbrev pub is_said : List Says → ℕ → Bool
+is_said says n = list_any (λ (s : Says). s.node == n) says
+
+abbrev pub is_gone : Turned → ℕ → Bool
+is_gone object n = option_map_or (λ (k : ℕ). k == n) (gone_in object) false
+
+abbrev pub is_taken_along : List Plan → Change → Owner → Bool
+is_taken_along plans c o = has_plan plans o.id && (not (is_said c.says.items o.node) && not (is_gone c.object o.node))
+
+-- Its sectors are copied one for one.
+pub record IsTakenAlong (m : Map) (h : Parts) (plans : List Plan) (o : Owner) (t : Transfer) : Type 0 where
+  pub node : Node
+  pub there : get h.nodes o.node ≡ Some node
+  pub from : sectors_at (Layout.New m) node.entry.address (object_size (dir_form (Layout.New m)) node.entry) ≡ Some (sectors_in t.from.items)
+  pub to : sectors_in t.to.items ≡ laid_by m plans o
+
+abbrev pub AreTakenAlong : Map → Parts → List Plan → List Owner → List Transfer → Type 0
+AreTakenAlong m h plans [] [] = Unit {0}
+AreTakenAlong m h plans (o ∷ owners) (t ∷ transfers) = IsTakenAlong m h plans o t × AreTakenAlong m h plans owners transfers
+AreTakenAlong m h plans _ _ = ⊥
+
+-- ---- all of it
+
+abbrev pub plans_in : MapStep → List Plan
+plans_in (steps.New s) = s.plans.items
+plans_in (steps.Old space) = []
+plans_in steps.Nothing = []
+
+-- All directories and all that is taken along come early; one step follows, and nothing is late.
+pub record IsReadyAnew (m : Map) (h : Parts) (c : Change) (s : Spaces) (r : Ready) : Type 0 where
+  pub no_source : r.source ≡ sources.Nothing
+  pub early : PiecesAnew m h (plans_in s.take) c.says.items r.early.items
+  pub carried : AreTakenAlong m h (plans_in s.take) (filter (is_taken_along (plans_in s.take) c) h.owners) r.carried.items
+  pub no_late : r.late.items ≡ []
+  pub take : r.take ≡ s.take
+  pub no_give : r.give ≡ steps.Nothing
+
+-- ---- what has to be known
+
+-- Each directory that says something has an owner, and each owner an object with a place.
+pub record CanWriteAnew (h : Parts) (c : Change) : Type 0 where
+  pub told : (s : Says) → Contains c.says.items s → IsSome (find (is_node s.node) h.owners)
+  pub placed : (o : Owner) → Contains h.owners o → HasPlace h o.node
+
+-- ---- a job, made ready
+
+-- The job has these wants, these spaces by first fit, this change, and this is what is to be written of it.
+pub record IsPreparedAnew (m : Map) (h : Parts) (job : Job) (name : List ℕ) (p : Prepared) : Type 0 where
+  pub wants : Wants
+  pub spaces : Spaces
+  pub are_wants : AreWants h job name wants
+  pub placed : ArePlacedFirst m h job wants spaces
+  pub enough : first_shortage m h job wants ≡ None
+  pub change : IsChangeOf h job name spaces p.change
+  pub ready : IsReadyAnew m h p.change spaces p.ready

@@ -1,0 +1,3 @@
+pub mod RenamedPartsLemmas
+pub mod RenamedImageLemmas
+pub mod SafeMovingLemmas
