@@ -23,6 +23,7 @@ use Rattle.fc_image.specs.Objects.{objects_of}
 use Rattle.fc_image.specs.Opening.{misplaced_sector, reserved_in}
 use Rattle.fc_format.specs.declared.Format.TheVariants.{F, FPlus}
 use Rattle.fc_format.specs.Fresh.{big_root, boot_block, f_map, f_plus_map, f_plus_zone2, f_record, f_zone0, f_zone1, f_zone2, f_zone3, front_of, new_root, plus_record, zeros}
+use Rattle.fc_names.specs.declared.name.NameForm.TheVariants.{Ten, Long}
 use Rattle.fc_format.proofs.OpenLemmas.{AreSectors, OpensAlone, boot_fits, boot_kind, first_layout, layout_of, opens_alone, part_at, pieces, sector_is}
 
 -- lists of four, element by element
@@ -134,8 +135,8 @@ module _ (image : List ℕ) (block : bytes_at image 0xC00 512 ≡ boot_block f_r
   unfolding record_F layout_F root_F
   says_F = ap (directory_of Ten) bytes_F ∙ read_F
 
-  opens_image_F : OpensLaw → OpensAlone image
-  unfolding record_F root_F small_dir
+  opens_image_F : OpensLaw → OpensAlone Ten image
+  unfolding record_F root_F small_dir layout_F
   opens_image_F law =
       opens_alone law image (Boot record_F) layout_F 0x209 0 root_F
       (boot_kind image (boot_block f_record) (omega (arith, long)) block check_F valid_F)
@@ -158,7 +159,7 @@ module _ (rest : List ℕ) where
   unfolding sectors_F
   sector_F k m lt is = sector_is sectors_F (before_map (boot_block f_record)) rest 794 k m (length-before (boot_block f_record) refl) are_sectors_F lt is
 
-  opens_parts_F : OpensLaw → 1638400 ≤ length image_F → OpensAlone image_F
+  opens_parts_F : OpensLaw → 1638400 ≤ length image_F → OpensAlone Ten image_F
   unfolding sectors_F
   opens_parts_F law long =
       opens_image_F image_F (block_at (zeros 0xC00) (boot_block f_record) (zeros (0xC6800 - 0xE00)) (pieces sectors_F rest) 0xC00 512 (length-replicate {A = ℕ} 0xC00 0) refl)
@@ -171,9 +172,9 @@ module _ (rest : List ℕ) where
       ap (λ (l : List ℕ). before_map (boot_block f_record) ++ f_map ++ f_map ++ l ++ rest) (sym (take-append-drop 1024 (new_root 0x209)))
       ∙ regrouped (before_map (boot_block f_record)) (f_zone0 f_record) f_zone1 f_zone2 f_zone3 (take 1024 (new_root 0x209)) (drop 1024 (new_root 0x209)) rest
 
-  pub opens_F : OpensLaw → 1638400 ≤ length (front_of F ++ rest) → OpensAlone (front_of F ++ rest)
+  pub opens_F : OpensLaw → 1638400 ≤ length (front_of F ++ rest) → OpensAlone Ten (front_of F ++ rest)
   opens_F law long =
-      subst OpensAlone (sym grouped_F) (opens_parts_F law (subst (λ (l : List ℕ). 1638400 ≤ length l) grouped_F long))
+      subst (OpensAlone Ten) (sym grouped_F) (opens_parts_F law (subst (λ (l : List ℕ). 1638400 ≤ length l) grouped_F long))
 
 -- ---- F+
 
@@ -243,8 +244,8 @@ module _ (image : List ℕ) (block : bytes_at image 0xC00 512 ≡ boot_block (pl
   unfolding record_F+ layout_F+ root_F+
   says_F+ = ap (directory_of Long) bytes_F+ ∙ read_F+
 
-  opens_image_F+ : OpensLaw → OpensAlone image
-  unfolding record_F+ root_F+ big_dir
+  opens_image_F+ : OpensLaw → OpensAlone Long image
+  unfolding record_F+ root_F+ big_dir layout_F+
   opens_image_F+ law =
       opens_alone law image (Boot record_F+) layout_F+ 0x301 2048 root_F+
       (boot_kind image (boot_block (plus_record f_record)) (omega (arith, long)) block check_F+ valid_F+)
@@ -267,7 +268,7 @@ module _ (rest : List ℕ) where
   unfolding sectors_F+
   sector_F+ k m lt is = sector_is sectors_F+ (before_map (boot_block (plus_record f_record))) rest 794 k m (length-before (boot_block (plus_record f_record)) refl) are_sectors_F+ lt is
 
-  opens_parts_F+ : OpensLaw → 1638400 ≤ length image_F+ → OpensAlone image_F+
+  opens_parts_F+ : OpensLaw → 1638400 ≤ length image_F+ → OpensAlone Long image_F+
   unfolding sectors_F+
   opens_parts_F+ law long =
       opens_image_F+ image_F+ (block_at (zeros 0xC00) (boot_block (plus_record f_record)) (zeros (0xC6800 - 0xE00)) (pieces sectors_F+ rest) 0xC00 512 (length-replicate {A = ℕ} 0xC00 0) refl)
@@ -280,6 +281,6 @@ module _ (rest : List ℕ) where
       ap (λ (l : List ℕ). before_map (boot_block (plus_record f_record)) ++ f_plus_map ++ f_plus_map ++ l ++ rest) (sym (take-append-drop 1024 (big_root 0x301)))
       ∙ regrouped (before_map (boot_block (plus_record f_record))) (f_zone0 (plus_record f_record)) f_zone1 f_plus_zone2 f_zone3 (take 1024 (big_root 0x301)) (drop 1024 (big_root 0x301)) rest
 
-  pub opens_F+ : OpensLaw → 1638400 ≤ length (front_of FPlus ++ rest) → OpensAlone (front_of FPlus ++ rest)
+  pub opens_F+ : OpensLaw → 1638400 ≤ length (front_of FPlus ++ rest) → OpensAlone Long (front_of FPlus ++ rest)
   opens_F+ law long =
-      subst OpensAlone (sym grouped_F+) (opens_parts_F+ law (subst (λ (l : List ℕ). 1638400 ≤ length l) grouped_F+ long))
+      subst (OpensAlone Long) (sym grouped_F+) (opens_parts_F+ law (subst (λ (l : List ℕ). 1638400 ≤ length l) grouped_F+ long))

@@ -5,7 +5,7 @@ use Rattle.fc_image.specs.Laws.{OpensLaw}
 use Rattle.fc_format.specs.declared.Format.{Format}
 use Rattle.fc_format.specs.declared.Format.TheVariants.{E, F, D, L, EPlus, FPlus}
 use Rattle.fc_format.specs.Fresh.{format_size, fresh_image, front_of, zeros}
-use Rattle.fc_format.specs.Opens.{FreshLaw}
+use Rattle.fc_format.specs.Opens.{FreshLaw, form_of}
 use Rattle.fc_format.proofs.FourZoneLemmas.{opens_F, opens_F+}
 use Rattle.fc_format.proofs.OldDiscLemmas.{opens_D, opens_L}
 use Rattle.fc_format.proofs.OneZoneLemmas.{opens_E, opens_E+}
@@ -31,8 +31,8 @@ some_zeros front tail n k m is =
     ∙ sym (append_assoc front (zeros k) (zeros m ++ tail))
 
 -- an image that opens so, whatever its parts
-opens_as : (format : Format) (old image : List ℕ) → fresh_image format old ≡ image → (format_size format ≤ length image → OpensAlone image) → OpensAlone (fresh_image format old)
-opens_as format old image is opens = subst OpensAlone (sym is) (opens (subst (λ (l : List ℕ). format_size format ≤ length l) is (fresh_long format old)))
+opens_as : (format : Format) (old image : List ℕ) → fresh_image format old ≡ image → (format_size format ≤ length image → OpensAlone (form_of format) image) → OpensAlone (form_of format) (fresh_image format old)
+opens_as format old image is opens = subst (OpensAlone (form_of format)) (sym is) (opens (subst (λ (l : List ℕ). format_size format ≤ length l) is (fresh_long format old)))
 
 pub opens_fresh : OpensLaw → FreshLaw
 opens_fresh law E old = opens_as E old _ (fresh_rest E old) (opens_E (rest_of E old) law)

@@ -17,6 +17,7 @@ use Rattle.fc_image.specs.Walk.{Listing, children_of, listings_from, reader_of, 
 use Rattle.fc_image.specs.Opening.{map_and_root, reserved_in}
 use Rattle.fc_format.specs.declared.Format.TheVariants.{D, L}
 use Rattle.fc_format.specs.Fresh.{front_of, new_root, old_root, zeros}
+use Rattle.fc_names.specs.declared.name.NameForm.TheVariants.{Ten, Seven}
 use Rattle.fc_format.proofs.OpenLemmas.{OpensAlone, disc_d_fits, disc_d_kind, disc_l_fits, disc_l_kind, is_old, not_boot, opens_alone}
 
 -- ---- D
@@ -72,7 +73,7 @@ module _ (rest : List ℕ) where
   unfolding layout_D root_D with_holes sector_at bytes_in small_fault small_dir accumulated
   says_D = refl
 
-  pub opens_D : OpensLaw → 819200 ≤ length image_D → OpensAlone (front_of D ++ zeros 1024 ++ rest)
+  pub opens_D : OpensLaw → 819200 ≤ length image_D → OpensAlone Ten (front_of D ++ zeros 1024 ++ rest)
   unfolding layout_D root_D small_dir with_holes
   opens_D law reach =
       let old = is_old image_D (omega (arith, reach)) first_D second_D in
@@ -132,7 +133,7 @@ module _ (rest : List ℕ) where
   unfolding layout_L root_L with_holes sector_at bytes_in small_fault small_dir accumulated
   says_L = refl
 
-  pub opens_L : OpensLaw → 655360 ≤ length image_L → OpensAlone (front_of L ++ zeros 2304 ++ rest)
+  pub opens_L : OpensLaw → 655360 ≤ length image_L → OpensAlone Seven (front_of L ++ zeros 2304 ++ rest)
   unfolding layout_L root_L small_dir with_holes
   opens_L law reach =
       let old = is_old image_L (omega (arith, reach)) first_L second_L in

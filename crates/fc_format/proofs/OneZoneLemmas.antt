@@ -21,6 +21,7 @@ use Rattle.fc_image.specs.Objects.{objects_of}
 use Rattle.fc_image.specs.Opening.{map_and_root, misplaced_sector, reserved_in}
 use Rattle.fc_format.specs.declared.Format.TheVariants.{E, EPlus}
 use Rattle.fc_format.specs.Fresh.{big_root, e_map, e_plus_map, front_of, new_root}
+use Rattle.fc_names.specs.declared.name.NameForm.TheVariants.{Ten, Long}
 use Rattle.fc_format.proofs.OpenLemmas.{OpensAlone, not_boot, one_zone_fits, one_zone_kind, opens_alone}
 
 -- ---- E
@@ -73,8 +74,8 @@ module _ (rest : List ℕ) where
   unfolding layout_E root_E sector_at bytes_in small_fault small_dir accumulated
   says_E = refl
 
-  pub opens_E : OpensLaw → 819200 ≤ length image_E → OpensAlone (front_of E ++ rest)
-  unfolding kind_E root_E small_dir
+  pub opens_E : OpensLaw → 819200 ≤ length image_E → OpensAlone Ten (front_of E ++ rest)
+  unfolding kind_E root_E small_dir layout_E
   opens_E law long =
       let is_map : is_whole_map (bytes_at image_E 0 1024) ≡ true = ap is_whole_map whole_E ∙ is_map_E in
       let is = one_zone_kind image_E (not_boot image_E no_record_E) is_map ∙ ap (λ l. Some (OneZone (map_record l))) whole_E in
@@ -131,8 +132,8 @@ module _ (rest : List ℕ) where
   unfolding layout_E+ root_E+ sector_at bytes_in big_fault big_dir accumulated
   says_E+ = refl
 
-  pub opens_E+ : OpensLaw → 819200 ≤ length image_E+ → OpensAlone (front_of EPlus ++ rest)
-  unfolding kind_E+ root_E+ big_dir
+  pub opens_E+ : OpensLaw → 819200 ≤ length image_E+ → OpensAlone Long (front_of EPlus ++ rest)
+  unfolding kind_E+ root_E+ big_dir layout_E+
   opens_E+ law long =
       let is_map : is_whole_map (bytes_at image_E+ 0 1024) ≡ true = ap is_whole_map whole_E+ ∙ is_map_E+ in
       let is = one_zone_kind image_E+ (not_boot image_E+ no_record_E+) is_map ∙ ap (λ l. Some (OneZone (map_record l))) whole_E+ in

@@ -18,7 +18,8 @@ use Rattle.fc_newmap.specs.Map.{first_fault, zone_numbers}
 use Rattle.fc_copies.specs.declared.Which.TheVariants.{One}
 use Rattle.fc_copies.specs.Copies.{chosen, copy_of, is_sound}
 use Rattle.fc_image.specs.declared.ImageFault.{ImageFault}
-use Rattle.fc_image.specs.Layout.{Layout}
+use Rattle.fc_names.specs.declared.name.NameForm.{NameForm}
+use Rattle.fc_image.specs.Layout.{Layout, dir_form}
 use Rattle.fc_image.specs.Laws.{OpensLaw, Tells}
 use Rattle.fc_image.specs.Walk.{◌>>=◌, Listing, Reader, reader_of, walk}
 use Rattle.fc_image.specs.Objects.{objects_of}
@@ -45,20 +46,21 @@ tells_one : (read : Reader) (root : Listing) → read root.object ≡ Ok root.co
 tells_one read root says l (zero, h, e) = subst (λ (x : Listing). read x.object ≡ Ok x.content) e says
 tells_one read root says l (suc k, h, e) = absurd (omega (arith, h))
 
--- it opens, and its tree is the root alone
-abbrev pub OpensAlone : List ℕ → Type 0
-OpensAlone image = (v : Opened) × (open_image image ≡ Ok v) × IsRootAlone v.listings
+-- it opens, its tree is the root alone, and its directories have names of this form
+abbrev pub OpensAlone : NameForm → List ℕ → Type 0
+OpensAlone form image = (v : Opened) × (open_image image ≡ Ok v) × IsRootAlone v.listings × (dir_form v.layout ≡ form)
 
 pub opens_alone : OpensLaw → (image : List ℕ) (kind : Kind) (layout : Layout) (address size : ℕ) (root : Listing) → kind_of image ≡ Some kind → fits_kind image kind ≡ true → disc_size kind ≤ length image
     → map_and_root image kind ≡ Ok (layout, address, size) → walk (λ o. Ok root.content) layout (reserved_in kind layout) address size ≡ Ok (root ∷ [])
     → misplaced_sector kind layout (objects_of (root ∷ [])) ≡ None → reader_of image layout root.object ≡ Ok root.content
-    → root.object.path ≡ [] → entries_of root.content ≡ [] → root.children ≡ [] → OpensAlone image
+    → root.object.path ≡ [] → entries_of root.content ≡ [] → root.children ≡ [] → OpensAlone (dir_form layout) image
 unfolding open_image
 opens_alone law image kind layout address size root is fits long found walked placed says top empty alone = (
   record { kind = kind; layout = layout; listings = root ∷ [] },
   ap (open_as_some image) is
       ∙ law image kind layout address size (λ o. Ok root.content) (root ∷ []) fits long found walked placed (tells_one (reader_of image layout) root says),
   record { root = root; alone = refl; at_top = top; empty = empty; no_children = alone },
+  refl,
 )
 
 -- ---- old maps

@@ -1,0 +1,10 @@
+pub mod FoundLemmas
+pub mod WalkLemmas
+mod AcceptLemmas
+mod MakeLemmas
+pub mod TreeLemmas
+pub mod RisingLemmas
+mod ListedLemmas
+mod JudgedLemmas
+mod ShortLemmas
+pub mod DoingLemmas

@@ -1,0 +1,9 @@
+pub mod Commands
+pub mod Counts
+pub mod Doing
+pub mod Fit
+pub mod Found
+pub mod Makes
+pub mod Misfits
+pub mod Paths
+pub mod Rising
