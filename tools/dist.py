@@ -17,7 +17,8 @@ from typing import Dict, Iterator, Tuple
 
 from tools.files import TOP, read
 
-PLAIN = ("README.md", "LICENSE", "CHANGES.md", "VERSION")
+PLAIN = ("README.md", "LICENSE", "CHANGES.md", "VERSION",
+         "docs/FORMAT.md", "docs/PROVED.md", "docs/RESCUE.md", "docs/SPEED.md")  # README and man pages send keepers there
 END_OF_SHELL = b"'''\n"  # where the lines of the script fcdisc end that are the shell's
 SCRIPT = os.path.join(TOP, "scripts", "fcdisc")
 OLDEST = (1980, 1, 1, 0, 0, 0)  # zip has no earlier time

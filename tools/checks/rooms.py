@@ -4,7 +4,8 @@
 
 usage: tools/run checks/rooms [SECTION]    a part of a section's heading
 The search is the section's line that begins with `$ grep`. Every crate, and every file of tools, scripts and man, that it finds has to be
-named in the section; and each that is named has to be among those, unless it is named with a `+` after it, as `fc_image+`.
+named in the section; and each that is named has to be among those, unless it is named with a `+` after it, as `fc_image+`. A file of a
+crate has to be in the crate that is named before it, as `fc_tree (src/walk.rt, specs/Walk.antt, proofs/WalkLemmas)`.
 """
 import fnmatch
 import os
@@ -19,6 +20,7 @@ from tools.files import TOP
 PAGE = os.path.join(TOP, "docs", "CHANGING.md")
 SEARCH = re.compile(r"^    \$ (grep .*)$", re.MULTILINE)
 CRATE = re.compile(r"\bfc_[a-z]+\b|\bfcore\b(?=/| \(src)")
+IN_CRATE = re.compile(r"\b(fc_[a-z]+|fcore)\b|((?:src|specs|proofs|must-fail)/[\w/.]*\w|\b\w+\.(?:antt|rt)\b|\b\w+Lemmas\b)")
 FILE = re.compile(r"(?<![\w/])((?:\w+/)*[\w*]+\.(?:py|sh|bash|c|1|5))(?!\w|\.\w)")
 FOLDERS = ("tools", "scripts", "man")
 LEFT_OUT = ("tools/checks/bounds.txt", "tools/edits/")  # made from the sources; wrong pieces of them
@@ -57,6 +59,23 @@ def rooms_named(text: str, files: List[str]) -> Dict[str, Set[str]]:
     return found
 
 
+def missing_files(text: str) -> Iterator[str]:
+    """Files that a paragraph or a row names, and that aren't in the crate that it named last."""
+    for part in re.split(r"\n(?=\|)|\n\n", text):
+        crate = ""
+        for named, path in IN_CRATE.findall(part):
+            crate = named or crate
+            if path and crate in sources.crates() and not is_in_crate(crate, path):
+                yield "there is no %s in %s" % (path, crate)
+
+
+def is_in_crate(crate: str, path: str) -> bool:
+    """Whether a file or a folder of the crate has the path, or ends in it; the ending may be left out."""
+    found = [path for place, folders, names in os.walk(os.path.join(TOP, "crates", crate))
+             for path in (os.path.relpath(os.path.join(place, name), TOP) for name in folders + names)]
+    return any(one.endswith(("/" + path, "/" + path + ".antt", "/" + path + ".rt")) for one in found)
+
+
 def differences(search: str, text: str, files: List[str]) -> Iterator[str]:
     found, named = rooms_found(search), rooms_named(text, files)
     besides: Set[str] = set().union(*rooms_named(" ".join(re.findall(r"([\w/.]+)\+", text)), files).values())
@@ -69,6 +88,7 @@ def differences(search: str, text: str, files: List[str]) -> Iterator[str]:
             yield "there is no file %s" % name
         elif not places & (found | besides):
             yield "%s is named, and the sibling doesn't stand there" % name
+    yield from missing_files(text)
 
 
 def main(words: List[str]) -> bool:

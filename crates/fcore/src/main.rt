@@ -1,5 +1,5 @@
 //! `fcore IMAGE < script`: runs a script over an image of an Acorn FileCore disc, and writes the replies. `get` makes files in the
-//! current folder.
+//! current folder, and `put` reads them.
 #![tactic(auto)]
 
 use fc_cache::CachedDisk;
