@@ -34,6 +34,10 @@ use Rattle.fc_fit.proofs.TreeLemmas.{makes_law}
 
 -- ---- what commands leave
 
+pub do_then : (form : NameForm) (kind : Kind) (s mid s' : State) (a b : List Command) → DoAll form kind s a mid → DoAll form kind mid b s' → DoAll form kind s (a ++ b) s'
+do_then form kind s mid s' [] b first second = subst (λ (x : State). DoAll form kind x b s') first second
+do_then form kind s mid s' (c ∷ a) b first second = (first.0, first.1, do_then form kind first.0 mid s' a b first.2 second)
+
 same_ok : (a b : Tree) → (let r : Result Tree Refusal = Ok a in r) ≡ Ok b → a ≡ b
 same_ok a b e = cc
 

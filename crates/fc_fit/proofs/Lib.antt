@@ -1,4 +1,5 @@
 pub mod FoundLemmas
+mod MisfitLemmas
 pub mod WalkLemmas
 mod AcceptLemmas
 mod MakeLemmas

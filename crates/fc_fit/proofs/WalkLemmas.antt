@@ -1,6 +1,7 @@
 -- The paths of objects, as far as a walk has come.
 use Rattle.std.proofs.Common.{◌≡◌, ◌<◌, ◌≤◌, ℕ, zero, suc, ◌+◌, Bool, true, false, cond, List, [], ◌∷◌, ◌++◌, length, map, drop, filter, refl, sym, ap, ap₂, subst, ◌∙◌, Option, Some, arith, append_assoc, length-append}
 use Rattle.std.specs.Prelude.{Contains, slice_index_or}
+use Rattle.std.specs.List.{flat_map}
 use Rattle.std.specs.Ordering.{nat_cmp}
 use Rattle.std.specs.FinMap.{FinMap, len}
 use Rattle.std.proofs.lemmas.List.{append-nil, drop_all, drop-append-le, map-append, length-map}
@@ -10,7 +11,6 @@ use Rattle.fc_dirs.specs.declared.Entry.{Entry}
 use Rattle.fc_dirs.specs.Directory.{entries_of}
 use Rattle.fc_image.specs.Edits.{Follows}
 use Rattle.fc_image.specs.Layout.{Layout}
-use Rattle.fc_image.specs.Order.{held as children_in}
 use Rattle.fc_image.specs.Sound.{AreSound}
 use Rattle.fc_image.specs.Walk.{Listing, Object, is_directory_object}
 use Rattle.fc_image.specs.Objects.{listing_at, objects_of}
@@ -23,6 +23,9 @@ use Rattle.fc_tree.proofs.WalkedLemmas.{child_path, given, root, root_and_held, 
 use Rattle.fc_fit.specs.Found.{entries_in, node_in}
 use Rattle.fc_fit.specs.Paths.{stored_paths}
 use Rattle.fc_fit.proofs.FoundLemmas.{entries_of_file, entries_of_listing, node_of_object}
+
+abbrev children_in : List Listing → List Object
+children_in listings = flat_map (λ l. l.children) listings
 
 -- The first objects are found, those before a number with what they hold; the directories among the others are the next that are listed.
 pub record IsWalked (layout : Layout) (listings : List Listing) (sound : AreSound layout listings) (at : ℕ) (paths : List Path) : Type 0 where
