@@ -45,7 +45,7 @@ WRONG_LINES = [
     "compact $", "reclaim $", "load x $", "lod x", "Load $", "load $.caf\u00e9", "rename $.A $.B $.C", f"save $.A {ZEROS} - -",
     "save $.A 0000000 00000000 -", "save $.A 00000000 000000000 -", "save $.A +0000000 00000000 -", "save $.A* 0 0 -",
     f"create $.A {ZEROS} 00", f"create $.A {ZEROS} +1", f"create $.A {ZEROS} 1a", f"create $.A {ZEROS} -", f"set $.A {ZEROS} LR",
-    f"put a $.A {ZEROS}",
+    "put a $.A 00000000", f"put .a $.A {ZEROS}", f"put a $.A {ZEROS} -",
 ]
 WRONG_PATHS = [
     "Hello", "$Hello", "$.", "$..A", "$.A.", "$.A%", "$.A%2", "$.A%zz", "$.%1F", "$.%00", "$.a:b", "$.a*", "$.&", "@", "$.$",
