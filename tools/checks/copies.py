@@ -94,7 +94,8 @@ def bound_in(text: str) -> Set[str]:
     names = [name for found in re.finditer(rf"[({{]({NAME}(?: {NAME})*) : ", text) for name in found[1].split()]
     names += [name for found in re.finditer(r"λ ([^.]*?)\.", text) for name in re.findall(NAME, found[1].split(" : ")[0])]
     for line in text.split("\n"):
-        names += re.findall(NAME, line.split(" = ")[0])[1:] if " = " in line and not line.startswith(" ") else []
+        before, equals, _ = line.partition(" = ")
+        names += re.findall(NAME, before)[1:] if equals and not line.startswith(" ") and " : " not in before else []
     return {name for name in names if name[0].islower()}
 
 
@@ -190,7 +191,9 @@ def copies_of_crates(files: List[File], crates: Dict[str, List[str]]) -> Iterato
     for items in same.values():
         items.sort(key=lambda item: (order.index(item.file.crate), "/proofs/" in item.file.path, item.file.path))
         for at, item in enumerate(items):
-            lower = [one for one in items[:at] if one.file.crate == item.file.crate or one.file.crate in crates[item.file.crate]]
+            # two definitions may say alike of different things, as that a zone is listed and that a sector is
+            lower = [one for one in items[:at] if (one.file.crate == item.file.crate or one.file.crate in crates[item.file.crate])
+                     and (one.name == item.name or "/specs/" not in item.file.path)]
             if lower:
                 yield Found("copy", item, f"{lower[0].file.module}.{lower[0].name}")
 

@@ -1,8 +1,7 @@
 -- An entry that goes, and one that is replaced.
-use Rattle.std.proofs.Common.{◌≡◌, ◌<◌, ◌≤◌, ℕ, zero, suc, List, [], ◌∷◌, length, get_or, set, slice_get, option_map, Some, sym, ap, ◌∙◌, subst, arith, refl}
+use Rattle.std.proofs.Common.{◌≡◌, ◌<◌, ◌≤◌, ℕ, zero, suc, List, [], ◌∷◌, length, get_or, set, slice_get, option_map, Some, sym, ◌∙◌, subst, arith}
 use Rattle.std.specs.List.{AllByRecursion}
 use Rattle.std.proofs.lemmas.List.{length-set}
-use Rattle.std.proofs.lemmas.Option.{slice_get-get_or}
 use Rattle.fc_names.specs.Names.{IsName}
 use Rattle.fc_dirs.specs.declared.Entry.{Entry}
 use Rattle.fc_dirs.specs.Big.{AllStand, BigDir, FitsBig, IsBig, StandsInHeap, bytes_for, head_space_of, with_big_changed}
@@ -10,13 +9,7 @@ use Rattle.fc_dirs.proofs.SearchLemmas.{blank}
 use Rattle.fc_dirs.proofs.TwinLemmas.{apart_from, none_from, apart_set}
 use Rattle.fc_bigdir.proofs.GrowLemmas.{big_with}
 use Rattle.fc_smalldir.proofs.SmallLemmas.{named_at}
-
--- Each entry has a place.
-pub places_of : (heap places : List ℕ) (es : List Entry) → AllStand heap places es → length places ≡ length es
-places_of heap [] [] stand = refl
-places_of heap [] (e ∷ es) stand = absurd stand
-places_of heap (at ∷ places) [] stand = absurd stand
-places_of heap (at ∷ places) (e ∷ es) stand = ap suc (places_of heap places es stand.1)
+pub use Rattle.fc_bigdir.proofs.WrittenEntries.{places_as_many as places_of}
 
 stand_set : (heap places : List ℕ) (es : List Entry) (i : ℕ) (e : Entry) → AllStand heap places es → (get_or es i blank).name ≡ e.name → i < length es → AllStand heap places (set es i e)
 stand_set heap [] [] i e stand same within = absurd (omega arith)

@@ -1,5 +1,5 @@
 -- Tests, lists and paths.
-use Rattle.std.proofs.Common.{◌≡◌, ◌<◌, ◌⊎◌, inl, inr, ℕ, zero, suc, ◌-◌, Bool, true, false, cond, List, [], ◌∷◌, ◌++◌, length, map, take, get_or, refl, ap, ap₂, ◌∙◌, arith, Some, None, Option}
+use Rattle.std.proofs.Common.{◌≡◌, ◌<◌, ◌⊎◌, inl, inr, ℕ, zero, suc, ◌-◌, Bool, true, false, cond, List, [], ◌∷◌, ◌++◌, length, map, take, refl, ap, ap₂, ◌∙◌, arith, Some, None, Option}
 use Rattle.std.specs.Prelude.{Contains, IsPermutation, filter, remove, slice_get, ◌&&◌, ◌||◌, ◌==◌}
 use Rattle.std.specs.List.{flat_map, list_any}
 use Rattle.std.specs.Option.{option_map_or, option_and_then}
@@ -7,8 +7,10 @@ use Rattle.std.proofs.lemmas.List.Elements.{Contains-append_cases}
 use Rattle.std.proofs.lemmas.List.Sorted.{IsPermutation-remove}
 use Rattle.fc_names.specs.Names.{Path}
 use Rattle.fc_model.specs.Tree.{holder}
-use Rattle.fc_image.proofs.EntriesLemmas.{same_some, at_place as place_of}
-use Rattle.std.proofs.lemmas.Bool.{false_from_ne_true as unless, or_left, or_right as or_second}
+use Rattle.fc_image.proofs.EntriesLemmas.{at_place as place_of}
+use Rattle.std.proofs.lemmas.Bool.{or_left}
+pub use Rattle.fc_zone.proofs.ZoneLemmas.{Contains-head as first_in}
+pub use Rattle.fc_image.proofs.EntriesLemmas.{later as next_in}
 
 -- ---- tests
 
@@ -48,12 +50,6 @@ cases_cons x xs y (suc i, low, e) = inr (i, omega (arith, low), e)
 
 pub nothing_in : {X : Type 0} (x : X) → Contains [] x → ⊥
 nothing_in x at = omega (arith, at.1)
-
-pub first_in : {X : Type 0} (x : X) (xs : List X) → Contains (x ∷ xs) x
-first_in x xs = (0, omega arith, refl)
-
-pub next_in : {X : Type 0} (y x : X) (xs : List X) → Contains xs x → Contains (y ∷ xs) x
-next_in y x xs at = (suc at.0, omega (arith, at.1), at.2)
 
 -- an element passes a test
 pub any_in : {X : Type 0} (t : X → Bool) (xs : List X) (x : X) → Contains xs x → t x ≡ true → list_any t xs ≡ true

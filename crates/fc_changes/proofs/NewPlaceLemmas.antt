@@ -2,7 +2,7 @@
 use Rattle.std.proofs.Common.{◌≡◌, ◌<◌, ◌≤◌, inl, inr, ℕ, ◌+◌, ◌*◌, ◌/◌, Bool, true, false, cond, List, [], ◌∷◌, length, refl, sym, ap, ap₂, subst, ◌∙◌, arith, Some, eq-eqb}
 use Rattle.std.specs.Prelude.{Contains, ◌==◌, ◌&&◌, ◌||◌, nat_lt}
 use Rattle.std.specs.List.{list_any}
-use Rattle.std.proofs.lemmas.Bool.{eqb-true, le-leb, lt-ltb, ltb-true, or_right as or_second}
+use Rattle.std.proofs.lemmas.Bool.{eqb-true, le-leb, ltb-true, or_right as or_second}
 use Rattle.fc_names.specs.Names.{Path}
 use Rattle.fc_names.specs.declared.name.NameForm.{NameForm}
 use Rattle.fc_names.specs.declared.name.NameForm.TheVariants.{Long, Ten}
@@ -35,6 +35,7 @@ use Rattle.fc_changes.proofs.OutsideLemmas.{AreBusy, holes_busy, object_owns, ow
 use Rattle.fc_changes.proofs.PlacedLemmas.{IsShared, high, id_is, in_holes, is_shared, unused}
 use Rattle.fc_changes.proofs.SpaceLemmas.{runs_stay, still_owned}
 use Rattle.fc_record.proofs.KindLemmas.{and_first, and_second}
+pub use Rattle.fc_changes.proofs.OutsideLemmas.{some_sectors as some_there}
 
 -- The new object's identifier is free, or owned already, and its sectors are nobody's.
 pub record NewPlace (kind : Kind) (m : Map) (objects stay : List Object) (id : ℕ) (parts : List ZoneRun) (o : Object) : Type 0 where
@@ -52,10 +53,6 @@ owner_id k o own = eqb-true (id_of o.entry.address) k (and_second (has_sectors o
 pub some_of : (sectors : List ℕ) → nat_lt 0 (length sectors) ≡ true → (s : ℕ) × (is_among sectors s ≡ true)
 some_of [] h = absurd (let low = ltb-true 0 0 h in omega arith)
 some_of (x ∷ sectors) h = (x, ap (λ b. b || is_among sectors x) (eq-eqb x x refl))
-
-pub some_there : (xs : List ℕ) (t : ℕ) → is_among xs t ≡ true → nat_lt 0 (length xs) ≡ true
-some_there [] t h = absurd (cc)
-some_there (x ∷ xs) t h = lt-ltb 0 (length (x ∷ xs)) (omega arith)
 
 -- the sectors of bytes, some
 pub by_new : (m : Map) (address n : ℕ) (sectors : List ℕ) → 0 < n → sectors_at (Layout.New m) address n ≡ Some sectors → new_sectors m address n ≡ Some sectors

@@ -43,7 +43,7 @@ owned_busy objects id (kinds.Id other) h own high =
     by false true a o = refl
     by false false a o = absurd (cc)
 
-some_sectors : (sectors : List ℕ) (s : ℕ) → is_among sectors s ≡ true → nat_lt 0 (length sectors) ≡ true
+pub some_sectors : (sectors : List ℕ) (s : ℕ) → is_among sectors s ≡ true → nat_lt 0 (length sectors) ≡ true
 some_sectors [] s h = absurd (cc)
 some_sectors (x ∷ sectors) s h = lt-ltb 0 (length (x ∷ sectors)) (omega arith)
 

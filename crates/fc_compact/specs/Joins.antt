@@ -14,6 +14,7 @@ use Rattle.fc_image.specs.effects.Settled.{zones_with}
 use Rattle.fc_compact.specs.declared.joins.JoinedRun.{JoinedRun}
 use Rattle.fc_compact.specs.Ready.{is_movable_by}
 use Rattle.fc_compact.specs.Slides.{HasRuns, IsPart, hole_at, run_at}
+pub use Rattle.fc_device.specs.Numbers.{is_listed}
 
 -- From one sector on stand the bytes of these sectors, in their order.
 abbrev pub ArePut : ℕ → ℕ → List ℕ → List ℕ → Type 0
@@ -33,10 +34,6 @@ hole_part start len rest = if len == 0 then rest else hole_at start len ∷ rest
 -- an identifier's runs in a zone
 abbrev pub ids_in : Map → ℕ → ℕ → List ZoneRun
 ids_in m id z = filter (λ p. has_id id p.1.kind) (placed z (runs_of m z))
-
--- the zone is one of these
-abbrev pub is_listed : List ℕ → ℕ → Bool
-is_listed zones z = list_any (λ y. y == z) zones
 
 -- the runs of a zone, changed by f if it is one of these zones
 abbrev pub changed_runs : (List Run → List Run) → List ℕ → ℕ → List Run → List Run

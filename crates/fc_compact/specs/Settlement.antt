@@ -13,6 +13,7 @@ use Rattle.fc_compact.specs.Compaction.{is_done_by}
 use Rattle.fc_compact.specs.Ready.{is_movable_by}
 use Rattle.fc_compact.specs.Slides.{HasRuns}
 use Rattle.fc_compact.specs.Steps.{Packs}
+pub use Rattle.fc_image.specs.effects.Short.{one_if}
 
 -- what is left to do between a run and the next
 abbrev pub StepIs : Geometry → List Owner → Run → Run → Step → Type 0
@@ -36,9 +37,6 @@ run_weight run = if is_hole run.kind then 1 else run.start + 1
 
 abbrev pub zone_weight : List Run → ℕ
 zone_weight runs = sum_by run_weight runs
-
-abbrev pub one_if : Bool → ℕ
-one_if flag = if flag then 1 else 0
 
 -- What became of a run and the next, and the run from which to go on.
 pub record Steps (owners : List Owner) (m m' : Map) (z : ℕ) (run next : Run) (s : Stepped) : Type 0 where

@@ -13,7 +13,7 @@ use Rattle.fc_image.specs.Order.{directories, held, listed}
 use Rattle.fc_tree.specs.declared.node.Body.TheVariants as bodies
 use Rattle.fc_tree.specs.Nodes.{body_in, number_of}
 use Rattle.fc_laws.specs.nodes.Edits.{Nodes, owners_with}
-use Rattle.fc_edits.specs.Lookups.{held_as, says_at}
+use Rattle.fc_laws.specs.nodes.Lookups.{held_as, says_at}
 
 -- ---- the edit
 

@@ -1,4 +1,3 @@
-pub mod Lookups
 pub mod Edit
 pub mod NodesEdit
 pub mod NewNodes

@@ -148,7 +148,7 @@ pub some_least : (n : ℕ) (ns : List ℕ) → least_of (n ∷ ns) ≡ None → 
 some_least n ns e = cc
 
 -- Two lists that have no least number have none together.
-none_least : (xs ys : List ℕ) → least_of (xs ++ ys) ≡ None → (least_of xs ≡ None) × (least_of ys ≡ None)
+pub none_least : (xs ys : List ℕ) → least_of (xs ++ ys) ≡ None → (least_of xs ≡ None) × (least_of ys ≡ None)
 none_least [] ys e = (refl, e)
 none_least (x ∷ xs) ys e = absurd (some_least x (xs ++ ys) e)
 
@@ -271,10 +271,10 @@ object_placed layout taken path e o h = by (sectors_at layout e.address (object_
     by None f g = absurd (cc)
     by (Some sectors) f g = then sectors (is_apart sectors taken) f g
 
-children_ok : (x y : List Object × List ℕ) → (let q : Result (List Object × List ℕ) ImageFault = Ok x in q) ≡ Ok y → x ≡ y
+pub children_ok : (x y : List Object × List ℕ) → (let q : Result (List Object × List ℕ) ImageFault = Ok x in q) ≡ Ok y → x ≡ y
 children_ok x y g = cc
 
-listings_ok : (x y : List Listing) → (let q : Result (List Listing) ImageFault = Ok x in q) ≡ Ok y → x ≡ y
+pub listings_ok : (x y : List Listing) → (let q : Result (List Listing) ImageFault = Ok x in q) ≡ Ok y → x ≡ y
 listings_ok x y g = cc
 
 -- What holds of each object that is placed where Q holds of the sectors that are taken, holds of each object of a walk.

@@ -4,7 +4,7 @@ use Rattle.std.specs.Prelude.{Result, Ok, Contains, IsPermutation, nat_le, nat_l
 use Rattle.std.specs.List.{list_any}
 use Rattle.std.specs.Int.{div_ceil}
 use Rattle.std.proofs.lemmas.List.{length-map}
-use Rattle.std.proofs.lemmas.List.Sorted.{IsPermutation-refl, IsPermutation-trans, IsPermutation-sym, IsPermutation-cons, IsPermutation-middle, length_permutation, list_any-IsPermutation, Contains-permutation}
+use Rattle.std.proofs.lemmas.List.Sorted.{IsPermutation-refl, IsPermutation-trans, IsPermutation-sym, IsPermutation-cons, IsPermutation-middle, length_permutation, list_any-IsPermutation}
 use Rattle.fc_names.specs.Names.{Path}
 use Rattle.fc_record.specs.declared.DiscRecord.{DiscRecord}
 use Rattle.fc_record.specs.declared.Geometry.{Geometry}
@@ -34,7 +34,7 @@ use Rattle.fc_image.proofs.RoomLemmas.{new_room}
 use Rattle.fc_image.proofs.ShuffleLemmas.{same_first}
 use Rattle.fc_image.proofs.OrderLemmas.{order_law, apart_shuffled, stay_shuffled, stay_append}
 use Rattle.fc_image.proofs.RelistLemmas.{all_before, root_once, root_path_stays, root_name_stays, map_itself, apart_behind, apart_mapped, listed_itself, edited_walk_law, relisting_law}
-use Rattle.fc_image.proofs.EntriesLemmas.{listings_law, later}
+use Rattle.fc_image.proofs.EntriesLemmas.{later}
 use Rattle.fc_image.proofs.OpenedLemmas.{edited_image_law}
 use Rattle.fc_zone.proofs.ZoneLemmas.{Contains-head as here}
 
@@ -272,7 +272,7 @@ any_moved_core kind r own image image' v m zs root g listings' kept from to e so
     )
 
 -- the map of the same geometry is that map
-zones_back : (m m' : Map) → m'.geometry ≡ m.geometry → at_zones m m'.zones ≡ m'
+pub zones_back : (m m' : Map) → m'.geometry ≡ m.geometry → at_zones m m'.zones ≡ m'
 zones_back m m' same = λ i. record { geometry = sym same i; zones = m'.zones }
 
 any' : (kind : Kind) (r own : DiscRecord) (image image' : List ℕ) (v : Opened) (m m' : Map) (root : Object) (g : Object → Object) (listings' : List Listing)

@@ -16,7 +16,7 @@ use Rattle.fc_newmap.specs.Map.{shape}
 use Rattle.fc_newmap.specs.RunsLaw.{IsGeometry}
 use Rattle.fc_zone.proofs.ReadingLemmas.{first_part}
 use Rattle.fc_record.proofs.KindLemmas.{and_second as second_part}
-use Rattle.fc_record.proofs.FaultLemmas.{AllRight}
+use Rattle.fc_record.proofs.FaultLemmas.{all_right}
 
 -- ---- powers of two
 
@@ -51,14 +51,6 @@ whole_bits a b = elim (cases_order a b) [
 no_fault : (o : Option (ℕ × ℕ × Bool)) → is_none (option_map (λ c. let f : RecordFault = record { field = c.0; value = c.1 } in f) o) ≡ true → o ≡ None
 no_fault None e = refl
 no_fault (Some c) e = absurd (cc)
-
-all_right : (cs : List (ℕ × ℕ × Bool)) → find (λ c. not c.2) cs ≡ None → AllRight cs
-all_right [] e = tt
-all_right (c ∷ cs) e = by c.2 e (all_right cs)
-  where
-    by : (b : Bool) → cond (not b) (Some c) (find (λ d. not d.2) cs) ≡ None → (find (λ d. not d.2) cs ≡ None → AllRight cs) → (b ≡ true) × AllRight cs
-    by true h rest = (refl, rest h)
-    by false h rest = absurd (cc)
 
 -- ---- zones
 

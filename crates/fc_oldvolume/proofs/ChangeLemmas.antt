@@ -8,7 +8,7 @@ use Rattle.fc_space.specs.Space.{layout_of}
 use Rattle.fc_holdings.specs.Holdings.{HoldsMap}
 use Rattle.fc_volume.specs.Volume.{StandsFor, Volume}
 use Rattle.fc_oldvolume.specs.Changing.{IsOldLayout}
-use Rattle.fc_oldvolume.specs.Spaces.{LieBehind}
+use Rattle.fc_change.specs.OldSpace.{LieBehind}
 
 pub old_layout : (l : Layout) → IsOldLayout l → (space : OldMapContent) × (l ≡ Layout.Old space)
 old_layout (Layout.New m) is = absurd is

@@ -29,7 +29,7 @@ use Rattle.fc_tree.proofs.FindLemmas.{object_of_number}
 use Rattle.fc_tree.proofs.SoundLemmas.{listing_of}
 use Rattle.fc_tree.proofs.WalkedLemmas.{same_some}
 use Rattle.fc_oldvolume.specs.Compacting.{IsNotBig}
-use Rattle.fc_oldvolume.specs.Spaces.{LieBehind}
+use Rattle.fc_change.specs.OldSpace.{LieBehind}
 
 -- ---- bodies
 

@@ -41,7 +41,7 @@ use Rattle.fc_holdings.specs.Holdings.{CopiesAre, HoldsMap, TellsVersion}
 use Rattle.fc_volume.specs.Volume.{StandsFor, Volume, parts_of}
 use Rattle.fc_oldvolume.specs.Changing.{IsOldLayout}
 use Rattle.fc_oldvolume.specs.Compacting.{CompactsOnlyRoom, HasSlidInMemory, HasSlidOnDisk, IsNotBig, IsReadyToCompact, IsRoom, MoveLaws, WritesOnlyRoom, room_of, slide_by}
-use Rattle.fc_oldvolume.specs.Spaces.{LieBehind}
+use Rattle.fc_change.specs.OldSpace.{LieBehind}
 use Rattle.fc_oldvolume.specs.Writing.{IsMapWritten}
 use Rattle.fc_oldvolume.specs.declared.compacting.Ready.{Ready}
 use Rattle.fc_oldvolume.specs.declared.compacting.moves.Moves.{Moves}

@@ -1,4 +1,3 @@
 pub mod Changing
-pub mod Spaces
 pub mod Writing
 pub mod Compacting

@@ -22,7 +22,7 @@ ghost use Rattle.fc_volume.specs.Compacting.{HasCompacted};
 ghost use Rattle.fc_volume.specs.Volume.{StandsFor, parts_of};
 ghost use Rattle.fc_oldvolume.specs.Changing.{IsOldLayout};
 ghost use Rattle.fc_oldvolume.specs.Compacting.{CanRewrite, CompactsOnlyRoom, HasReaddressed, HasSlidInMemory, HasSlidOnDisk, HasSquashed, HaveDirectories, IsNotBig, IsReadyToCompact, IsRoom, IsRewrittenBy, MoveLaws, marks, slide_by, slide_of};
-ghost use Rattle.fc_oldvolume.specs.Spaces.{LieBehind};
+ghost use Rattle.fc_change.specs.OldSpace.{LieBehind};
 
 mod directories;
 mod moves;
@@ -30,9 +30,9 @@ mod nodes;
 mod writing;
 
 use crate::laws::is_old_map;
-use crate::spaces::copy_of;
 use crate::writing::write_map;
 use directories::{Spare, readdress_all, spares_of};
+use fc_change::copy_of;
 use fc_device::{Disk, DiskFault, NoMemory};
 use fc_names::Refusal;
 use fc_oldmap::OldMap;

@@ -3,7 +3,6 @@
 
 mod compacting;
 mod laws;
-mod spaces;
 mod writing;
 
 pub use compacting::compact;

@@ -3,16 +3,13 @@ use Rattle.std.proofs.Common.{◌≡◌, ◌<◌, ◌≤◌, ◌&&◌, ◌==◌,
 use Rattle.std.specs.Prelude.{nat_eq}
 use Rattle.std.specs.List.{find, range_with_len}
 use Rattle.std.specs.Int.{next_multiple_of}
-use Rattle.std.proofs.Math.Nat.{pow-le-pow_right}
 use Rattle.std.proofs.lemmas.Bool.{cases_lt, le-leb, leb-true}
 use Rattle.std.proofs.lemmas.Nat.{mul-le, pow_pos}
 use Rattle.fc_record.specs.declared.Geometry.{Geometry}
-use Rattle.fc_record.specs.declared.DiscRecord.{DiscRecord}
-use Rattle.fc_record.specs.Record.{geometry, id_limit, is_valid}
+use Rattle.fc_record.specs.Record.{geometry, id_limit}
 use Rattle.fc_alloc.specs.declared.owner.Owner.{Owner}
 use Rattle.fc_newmap.specs.Map.{Map}
 use Rattle.fc_newmap.specs.NewMap.{IsNewMap, IsOfRecord}
-use Rattle.fc_newmap.proofs.GeometryLemmas.{facts_of_valid}
 use Rattle.fc_image.proofs.EntriesLemmas.{from_map}
 use Rattle.fc_image.specs.effects.Placed.{has_spare_share}
 use Rattle.fc_image.specs.effects.Sharing.{holdings_in, is_shareable, is_spare, shares, slack_among}
@@ -23,15 +20,12 @@ use Rattle.fc_changes.proofs.BasicLemmas.{in_flat}
 use Rattle.fc_changes.proofs.PlacedLemmas.{found_in}
 use Rattle.fc_placing.specs.Places.{IsOwnPlan, slack_left}
 use Rattle.fc_placing.proofs.SpaceLemmas.{low_in_range}
-use Rattle.fc_space.proofs.GeometryLemmas.{share_of}
+pub use Rattle.fc_space.proofs.GeometryLemmas.{share_low}
 
 -- ---- the geometry's numbers
 
 pub bit_positive : (g : Geometry) → IsOfRecord g → 1 ≤ g.bit_bytes
 bit_positive g is = subst (λ (h : Geometry). 1 ≤ h.bit_bytes) is.1.1 (pow_pos is.0.log2_bit)
-
-pub share_low : (g : Geometry) → IsOfRecord g → g.share ≤ 2 ^ 25
-share_low g is = subst (λ (h : Geometry). h.share ≤ 2 ^ 25) is.1.1 (share_of is.0 is.1.0 is.1.2)
 
 -- ---- sums that stay at the greatest number
 

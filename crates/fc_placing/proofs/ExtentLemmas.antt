@@ -4,7 +4,7 @@ use Rattle.std.specs.Prelude.{All, AllPairs, Contains, IsPermutation, nat_lt, no
 use Rattle.std.specs.List.{AllByRecursion, flat_map, range_with_len}
 use Rattle.std.specs.Int.{div_ceil, next_multiple_of}
 use Rattle.std.proofs.Math.Nat.{lt_of_mul-lt-mul_right, mul-le-mul_right, mul_assoc}
-use Rattle.std.proofs.lemmas.Bool.{cases_eq, cases_lt, le-leb, leb-true, le-ltb, lt-ltb, ne_eqb}
+use Rattle.std.proofs.lemmas.Bool.{cases_eq, cases_lt, le-leb, le-ltb, lt-ltb, ne_eqb}
 use Rattle.std.proofs.lemmas.Grind.{div_ceil_times, flat_map-append}
 use Rattle.std.proofs.lemmas.List.{length-append, map-append}
 use Rattle.std.proofs.lemmas.List.Elements.{All-contains, All-from_recursion, Contains-get_or, filter-append, recursion_from_All}
@@ -68,7 +68,7 @@ pub record ArePushed (g : Geometry) (id : ℕ) (ahead : Bool) (old now : List Ex
   pub each : HaveSectors old → HaveSectors now
 
 -- one more part
-met_more : (g : Geometry) (id : ℕ) (ahead : Bool) (done : List Part) (part : Part) → sectors_of g (parts_met g id ahead (fronts (done ++ part ∷ []))) ≡ sectors_of g (parts_met g id ahead (fronts done)) ++ sectors_if g (is_met g ahead id part.zone) (front_at part)
+pub met_more : (g : Geometry) (id : ℕ) (ahead : Bool) (done : List Part) (part : Part) → sectors_of g (parts_met g id ahead (fronts (done ++ part ∷ []))) ≡ sectors_of g (parts_met g id ahead (fronts done)) ++ sectors_if g (is_met g ahead id part.zone) (front_at part)
 met_more g id ahead done part =
     ap (λ (ps : List ZoneRun). sectors_of g (parts_met g id ahead ps)) (map-append front_at done (part ∷ []))
     ∙ ap (sectors_of g) (filter-append (λ (p : ZoneRun). is_met g ahead id p.0) (fronts done) (front_at part ∷ []))

@@ -14,7 +14,7 @@ use Rattle.fc_zone.specs.declared.RunKind.TheVariants as kinds
 use Rattle.fc_zone.specs.declared.ZoneShape.{ZoneShape}
 use Rattle.fc_zone.specs.Edits.{KeepsLinks}
 use Rattle.fc_zone.specs.Zone.{field_at, hole_starts}
-use Rattle.fc_newmap.specs.Map.{Map, ZoneRun, all_runs, has_id, hole_runs, id_runs, is_hole, runs_in, runs_of, search_order, sector_of, shape, zone_numbers, map_sectors}
+use Rattle.fc_newmap.specs.Map.{Map, ZoneRun, all_runs, has_id, hole_runs, id_runs, is_hole, runs_in, runs_of, sector_of, shape, zone_numbers, map_sectors}
 use Rattle.fc_newmap.specs.NewMap.{IsNewMap}
 use Rattle.fc_newmap.specs.Edits.{AreEdits, KeepsRuns}
 use Rattle.fc_newmap.specs.RunsLaw.{placed}
@@ -39,8 +39,8 @@ use Rattle.fc_changes.specs.Owed.{IsMapAfter, IsSpaceEdit, IsWritten}
 use Rattle.fc_changes.proofs.BasicLemmas.{cases_cons, clash, first_in, next_in, or_false}
 use Rattle.fc_changes.proofs.CommittedLemmas.{geometry_same, index_part, kept_links, record_same, steady_zone, all_same}
 use Rattle.fc_placing.specs.Space.{HasTaken, IsMapEdited, StepsLaw, zones_changed}
-use Rattle.fc_record.proofs.KindLemmas.{or_second}
 use Rattle.fc_placing.proofs.LeavingLemmas.{any_append}
+pub use Rattle.fc_changes.proofs.lemmas.growth.MapLemmas.{ids_same}
 
 -- ---- the zones that change
 
@@ -85,10 +85,6 @@ after m m' image e copies = record { is_map = e.is_map; geometry = e.geometry; c
 holes_same : (m m' : Map) → KeepsRuns m m' → hole_runs m' ≡ hole_runs m
 holes_same m m' kept =
     ap (filter (λ (p : ZoneRun). is_hole p.1.kind)) (ap (λ (g : Geometry). runs_in m' (zone_numbers g)) kept.geometry ∙ all_same m m' kept (zone_numbers m.geometry))
-
-pub ids_same : (m m' : Map) → KeepsRuns m m' → (id : ℕ) → id_runs m' id ≡ id_runs m id
-ids_same m m' kept id =
-    ap (filter (λ (p : ZoneRun). has_id id p.1.kind)) (ap (λ (g : Geometry). runs_in m' (search_order g id)) kept.geometry ∙ all_same m m' kept (search_order m.geometry id))
 
 pub took : (m mid m' : Map) (id : ℕ) (parts : List ZoneRun) → HasTaken m mid id parts → KeepsRuns mid m' → HasTaken m m' id parts
 took m mid m' id parts taken kept = record {

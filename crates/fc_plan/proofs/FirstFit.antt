@@ -1,6 +1,6 @@
 -- The parts of a first fit: fronts of holes in their order, and what they leave.
 use Rattle.std.proofs.Common.{◌≡◌, ◌<◌, ◌≤◌, ℕ, zero, suc, ◌+◌, ◌-◌, ◌%◌, max, nat_le, nat_lt, Bool, true, false, cond, List, [], ◌∷◌, ◌++◌, take, get_or, map, subst, All, Contains, Option, Some, None, refl, sym, ap, ◌∙◌, arith, inl, inr}
-use Rattle.std.specs.List.{AllByRecursion, AllPairs, find}
+use Rattle.std.specs.List.{AllByRecursion, find}
 use Rattle.std.specs.Option.{option_map}
 use Rattle.std.specs.Int.{div_ceil, next_multiple_of}
 use Rattle.std.proofs.lemmas.Bool.{cases_lt, le-leb, leb-false, leb-true, ltb-false, ne_eqb}
@@ -44,7 +44,7 @@ some_map : (f : List ZoneRun → List ZoneRun) (o : Option (List ZoneRun)) (y : 
 some_map f None y e = absurd (cc)
 some_map f (Some x) y e = (x, refl, cc)
 
-the_same : (x y : List ZoneRun) → (let o : Option (List ZoneRun) = Some x in o) ≡ Some y → x ≡ y
+pub the_same : (x y : List ZoneRun) → (let o : Option (List ZoneRun) = Some x in o) ≡ Some y → x ≡ y
 the_same x y e = cc
 
 front_of_more : (g : Geometry) (h p : ZoneRun) (holes : List ZoneRun) → IsFrontOfOne g holes p → IsFrontOfOne g (h ∷ holes) p

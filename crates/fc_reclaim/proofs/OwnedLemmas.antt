@@ -12,7 +12,6 @@ use Rattle.fc_newmap.specs.Map.{Map, ZoneRun, all_runs, has_id, hole_runs, id_ru
 use Rattle.fc_newmap.specs.NewMap.{IsNewMap}
 use Rattle.fc_newmap.specs.RunsLaw.{HoldsSector, IsGeometry, placed}
 use Rattle.fc_newmap.proofs.CoverLemmas.{run_there}
-use Rattle.fc_newmap.proofs.GeometryLemmas.{geometry_of_valid}
 use Rattle.fc_newmap.proofs.HeldLemmas.{geometry_facts}
 use Rattle.fc_newmap.proofs.PlaceLemmas.{filter_in, held_in, holder_of, id_run_in, id_runs_by_zones, in_either, in_filter, in_id_runs, in_range, in_zone, range_in, zone_in}
 use Rattle.fc_newmap.proofs.RunsLemmas.{runs_apart}
@@ -23,13 +22,14 @@ use Rattle.fc_image.specs.Walk.{Object}
 use Rattle.fc_image.specs.Objects.{is_lost, is_movable, is_owned}
 use Rattle.fc_image.specs.Opening.{boot_place, is_hole_or_movable, least_of, misplaced_sector, reserved_in}
 use Rattle.fc_image.specs.Report.{is_lost_run}
-use Rattle.fc_image.proofs.HolesLemmas.{apart_at, holes_loose, least_none, loose_sectors, none_loose, some_least}
+use Rattle.fc_image.proofs.HolesLemmas.{apart_at, holes_loose, least_none, loose_sectors, none_loose}
 use Rattle.fc_image.proofs.MoveLemmas.{tight_from}
 use Rattle.fc_compact.specs.Ready.{AreOwnersOf}
 use Rattle.fc_reclaim.specs.Lost.{Covers, boot_row, goes_back, is_lost_by, is_lost_kind, is_used_run}
 use Rattle.fc_reclaim.specs.Zone.{IsReclaimedIn}
 use Rattle.std.proofs.lemmas.Bool.{false_from_ne_true as unless}
 use Rattle.fc_compact.proofs.PreservesLemmas.{geometry_is}
+pub use Rattle.fc_image.proofs.HolesLemmas.{none_least}
 
 -- ---- lost identifiers
 
@@ -68,10 +68,6 @@ owned_stays boot owners g id p e = by p.1.kind
         (ap (is_lost_by owners) (eqb-true other id h) ∙ e)
 
 -- ---- least numbers
-
-pub none_least : (xs ys : List ℕ) → least_of (xs ++ ys) ≡ None → (least_of xs ≡ None) × (least_of ys ≡ None)
-none_least [] ys e = (refl, e)
-none_least (x ∷ xs) ys e = absurd (some_least x (xs ++ ys) e)
 
 -- ---- maps
 

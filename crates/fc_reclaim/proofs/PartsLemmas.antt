@@ -26,12 +26,9 @@ use Rattle.fc_reclaim.specs.Settled.{by_map}
 use Rattle.fc_reclaim.proofs.OwnedLemmas.{lost_same, none_least, owned_kept, placed_after}
 use Rattle.fc_reclaim.proofs.SettledLemmas.{places_kept, walked_there}
 use Rattle.fc_reclaim.proofs.ZoneStepLemmas.{passed_all}
-use Rattle.fc_image.proofs.MapEditLemmas.{at_zones}
+use Rattle.fc_image.proofs.MapEditLemmas.{at_zones, zones_back as back}
 
 -- ---- owners
-
-back : (m m' : Map) → m'.geometry ≡ m.geometry → at_zones m m'.zones ≡ m'
-back m m' same = λ i. record { geometry = sym same i; zones = m'.zones }
 
 -- an owner knows nothing of the map but its geometry
 pub owners_kept : (owners : List Owner) (nodes : FinMap nat_cmp Node) (m m' : Map) (objects : List Object) → m'.geometry ≡ m.geometry

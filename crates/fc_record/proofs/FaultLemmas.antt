@@ -104,7 +104,7 @@ abbrev pub AllRight : List (ℕ × ℕ × Bool) → Type 0
 AllRight [] = Unit {0}
 AllRight (c ∷ cs) = (c.2 ≡ true) × AllRight cs
 
-all_right : (cs : List (ℕ × ℕ × Bool)) → find (λ c. not c.2) cs ≡ None → AllRight cs
+pub all_right : (cs : List (ℕ × ℕ × Bool)) → find (λ c. not c.2) cs ≡ None → AllRight cs
 all_right [] e = tt
 all_right (c ∷ cs) e = by c.2 e (all_right cs)
   where

@@ -20,7 +20,7 @@ share_of r is low =
     let few : 2 ^ r.log2_share ≤ 2 ^ 15 = pow-le-pow_right {n = 2} (omega arith) (let e : r.log2_share ≤ 15 = omega arith in e) in
     mul-le (2 ^ r.log2_sector) (2 ^ r.log2_share) (2 ^ 10) (2 ^ 15) small few
 
-share_low : (g : Geometry) → IsOfRecord g → g.share ≤ 2 ^ 25
+pub share_low : (g : Geometry) → IsOfRecord g → g.share ≤ 2 ^ 25
 share_low g of_record = subst (λ (h : Geometry). h.share ≤ 2 ^ 25) of_record.1.1 (share_of of_record.0 of_record.1.0 of_record.1.2)
 
 -- a low byte's place is a number of 64 bits

@@ -18,7 +18,7 @@ use Rattle.fc_squash.proofs.PlaceLemmas.{every-both, IsBefore, CutAt, cut_at, co
 use Rattle.fc_squash.proofs.StepLemmas.{whole_len}
 use Rattle.fc_squash.proofs.ByteLemmas.{sector_before, sector_behind, quotient-sum, quotient-le, bytes_same}
 use Rattle.fc_squash.proofs.StandLemmas.{Standing, at_place, places-append}
-use Rattle.fc_image.proofs.lemmas.effects.OneHoleLemmas.{Every, IsBehind}
+use Rattle.fc_image.proofs.lemmas.effects.OneHoleLemmas.{Every, IsBehind, every_hole as all_holes}
 
 -- each object has at its new start the bytes that it had
 abbrev pub SameBytes : List ℕ → List ℕ → List Owned → List Owned → Type 0
@@ -54,11 +54,6 @@ bytes_step old image next (w ∷ was) [] rest o start (e, same) first here other
     go (w ∷ was) (n ∷ now) (e, same) (k, all) = (k ∙ e, go was now same all)
 bytes_step old image next (w ∷ was) (f ∷ front) rest o start (e, same) (k, first) here others =
     (k ∙ e, bytes_step old image next was front rest o start same first here others)
-
-all_holes : (d u floor : ℕ) (xs : List Hole) → AreHoles d u floor xs → Every (IsHole d u 0) xs
-all_holes d u floor [] rise = tt
-all_holes d u floor (x ∷ xs) (h, rest) =
-    (record { positive = h.positive; onward = omega arith; inside = h.inside; begins = h.begins; ends = h.ends }, all_holes d u (hole_end x) xs rest)
 
 pub every_hole : (d u floor : ℕ) (xs : List Hole) → AreHoles d u floor xs → Every (IsHole d u 0) xs
 every_hole d u floor xs rise = all_holes d u floor xs rise

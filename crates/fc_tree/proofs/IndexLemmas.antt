@@ -38,7 +38,7 @@ rank_is slots order key rank within point = record {
   above = λ k le lt. point.1 k 0 le lt;
 }
 
-both_ways : (b : Bool) → b ≡ true → b ≡ false → ⊥
+pub both_ways : (b : Bool) → b ≡ true → b ≡ false → ⊥
 both_ways b holds fails = cc
 
 -- a number whose node stands at the key or after it has no place below the rank

@@ -1,12 +1,10 @@
 -- The objects of a sound walk: what their paths tell of each other.
-use Rattle.std.proofs.Common.{◌≡◌, ◌⊎◌, inl, inr, ⊎_elim, ℕ, true, List, [], ◌∷◌, ◌++◌, map, refl, ap, ap₂, subst, ◌∙◌, is_eq, Some}
+use Rattle.std.proofs.Common.{◌≡◌, ◌⊎◌, inl, inr, ⊎_elim, ℕ, true, List, [], ◌∷◌, ◌++◌, map, refl, ap, ap₂, subst, ◌∙◌, Some}
 use Rattle.std.specs.Prelude.{Contains, slice_get}
 use Rattle.std.specs.List.{flat_map}
-use Rattle.std.specs.Cmp.{IsTotalOrder, nat_cmp_total}
-use Rattle.std.specs.Cmp.Lexicographic.{lists_total}
-use Rattle.std.specs.FinMap.{IsAntisymmetric, slice_cmp-IsAntisymmetric, nat_cmp-IsAntisymmetric}
+use Rattle.std.specs.FinMap.{slice_cmp-IsAntisymmetric, nat_cmp-IsAntisymmetric}
 use Rattle.std.proofs.lemmas.List.{map_push}
-use Rattle.fc_names.specs.Names.{Path, folded, folded_path, key_cmp, is_same_name, is_same_path, name_cmp}
+use Rattle.fc_names.specs.Names.{Path, folded, folded_path, is_same_name, is_same_path, name_cmp}
 use Rattle.fc_dirs.specs.declared.Entry.{Entry}
 use Rattle.fc_dirs.specs.Directory.{entries_of}
 use Rattle.fc_image.specs.Layout.{Layout}
@@ -18,13 +16,9 @@ use Rattle.fc_image.specs.Sound.{AreSound}
 use Rattle.fc_tree.proofs.WalkedLemmas.{same_place, place_of, contained, follows_each, given, root, root_and_held, first_is_root, few_objects, one_listing, listed_directory}
 use Rattle.fc_tree.proofs.MemberLemmas.{from_flat, found_passes, one_passes}
 use Rattle.fc_image.proofs.EntriesLemmas.{cases as contains_cases}
-use Rattle.fc_image.proofs.TreeLemmas.{key_total, key_exact}
-use Rattle.fc_image.proofs.CommandLemmas.{same_by_folds}
+pub use Rattle.fc_image.proofs.TreeLemmas.{folds_alike}
 
 -- ---- paths by folding
-
-pub folds_alike : (p q : Path) → is_same_path p q ≡ true → folded_path p ≡ folded_path q
-folds_alike p q e = key_exact (folded_path p) (folded_path q) (same_equal (key_cmp (folded_path p) (folded_path q)) e)
 
 pub name_folds_alike : (a b : List ℕ) → is_same_name a b ≡ true → folded a ≡ folded b
 name_folds_alike a b e = slice_cmp-IsAntisymmetric nat_cmp-IsAntisymmetric (folded a) (folded b) (same_equal (name_cmp a b) e)

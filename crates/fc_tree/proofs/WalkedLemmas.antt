@@ -1,11 +1,10 @@
 -- What the listings of a sound walk are: of each path there is one object and one listing.
-use Rattle.std.proofs.Common.{◌≡◌, ◌<◌, ◌≤◌, ℕ, zero, suc, ◌-◌, Bool, true, false, cond, List, [], ◌∷◌, ◌++◌, length, map, take, refl, sym, ap, subst, ◌∙◌, arith, Some, None, Contains, find, filter, flat_map, slice_get, unwrap_or, inl, inr, ◌⊎◌, append_assoc}
+use Rattle.std.proofs.Common.{◌≡◌, ◌<◌, ◌≤◌, ℕ, zero, suc, ◌-◌, Bool, true, false, cond, List, [], ◌∷◌, ◌++◌, length, map, take, refl, sym, ap, subst, ◌∙◌, arith, Some, None, Contains, find, filter, flat_map, slice_get, inl, inr, ◌⊎◌, append_assoc}
 use Rattle.std.proofs.lemmas.Option.{slice_get-get_or, slice_get_within, get_or_from_slice_get}
 use Rattle.fc_names.specs.Names.{Path, is_same_path}
 use Rattle.fc_model.specs.Tree.{holder}
 use Rattle.fc_dirs.specs.declared.Entry.{Entry}
-use Rattle.fc_dirs.specs.Entries.{first_twin}
-use Rattle.fc_dirs.specs.Directory.{Directory, entries_of}
+use Rattle.fc_dirs.specs.Directory.{entries_of}
 use Rattle.fc_image.specs.Layout.{Layout}
 use Rattle.fc_image.specs.Opening.{reserved_in}
 use Rattle.fc_image.specs.Walk.{Object, Listing, Reader, reader_of, is_directory_object}
@@ -13,18 +12,13 @@ use Rattle.fc_image.specs.Objects.{objects_of, listing_at}
 use Rattle.fc_image.specs.Edits.{AreChildren, IsListing, Follows, Apart, IsRoot}
 use Rattle.fc_image.proofs.EditLemmas.{walk_gives, root_first}
 use Rattle.fc_image.proofs.PathsLemmas.{opened_walk, many, many-append, NoTwins, is_at, itself, only_one, listed_few, once, root_other}
-use Rattle.fc_tree.specs.Agree.{IsDirectory}
 use Rattle.fc_tree.specs.Laws.{SoundLaw}
 use Rattle.fc_image.specs.Sound.{AreSound}
 use Rattle.std.proofs.lemmas.Bool.{false_from_ne_true as unless}
-use Rattle.fc_tree.proofs.StepLemmas.{get_there as element_at}
 use Rattle.fc_tree.proofs.ChildLemmas.{get_front as in_front}
-use Rattle.fc_tree.proofs.EndLemmas.{no_twin as apart_names}
+pub use Rattle.fc_image.proofs.EntriesLemmas.{same_some}
 
 -- ---- places in lists
-
-pub same_some : {X : Type 0} (x y : X) → Some x ≡ Some y → x ≡ y
-same_some x y e = ap (λ o. unwrap_or o x) e
 
 -- one place has one element
 pub same_place : {X : Type 0} (xs : List X) (i : ℕ) (x y : X) → slice_get xs i ≡ Some x → slice_get xs i ≡ Some y → x ≡ y

@@ -18,7 +18,7 @@ use Rattle.fc_image.specs.Objects.{has_sectors, is_movable, listing_at, objects_
 use Rattle.fc_image.specs.Opening.{boot_place, is_hole_or_movable, least_of, misplaced_sector, reserved_in}
 use Rattle.fc_image.specs.Moves.{listing_in, sectors_or_none}
 use Rattle.fc_image.proofs.EntriesLemmas.{from_map}
-use Rattle.fc_image.proofs.HolesLemmas.{EachListed, Has, Lies, holes_loose, id_no_hole, in_id, least_none, lies_step, loose_sectors, none_loose, walk_lies, some_least}
+use Rattle.fc_image.proofs.HolesLemmas.{EachListed, Has, Lies, holes_loose, id_no_hole, in_id, least_none, lies_step, loose_sectors, none_loose, walk_lies, none_least}
 use Rattle.fc_image.proofs.MoveLemmas.{in_carry, loose_before, loose_carry, objects_carry, sectors_carry, tight_from}
 use Rattle.fc_image.proofs.RemapLemmas.{AllIn, carry, carry_listing, carry_walk, map_fixed}
 use Rattle.fc_compact.specs.Ready.{AreOwnersOf, is_movable_by}
@@ -29,7 +29,7 @@ use Rattle.fc_tree.specs.Parts.{AreOwners, owner_of}
 use Rattle.fc_volume.specs.Compacting.{IsCompacted}
 use Rattle.fc_volume.proofs.CarryLemmas.{carried, carries, fixed_stays, no_fewer, stays_two}
 use Rattle.fc_volume.proofs.MisplacedLemmas.{id_owned}
-use Rattle.fc_image.proofs.MapEditLemmas.{at_zones}
+use Rattle.fc_image.proofs.MapEditLemmas.{at_zones, zones_back}
 use Rattle.fc_laws.proofs.lemmas.agree.BeforeLemmas.{new_shape}
 
 -- ---- owners
@@ -99,10 +99,6 @@ held_after nodes f listings held = record {
 }
 
 -- ---- the walk by the compacted map
-
-none_least : (xs ys : List ℕ) → least_of (xs ++ ys) ≡ None → (least_of xs ≡ None) × (least_of ys ≡ None)
-none_least [] ys e = (refl, e)
-none_least (x ∷ xs) ys e = absurd (some_least x (xs ++ ys) e)
 
 module _ (m : Map) (zs : List (List ℕ)) (owners : List Owner) (c : IsCompacted m (at_zones m zs) owners) (listings : List Listing) (own : AreOwnersOf owners (objects_of listings)) (kind : Kind)
     (read : Reader) (address size : ℕ) (walked : walk read (Layout.New m) (reserved_in kind (Layout.New m)) address size ≡ Ok listings) where
@@ -203,9 +199,6 @@ agree_core kind m zs nodes owners c a =
       map_placed = placed_after m zs owners c a.listings own kind (reader_of_nodes nodes) a.root.entry.address a.root.entry.len a.walked.walked a.map_placed;
       owned = owners_after owners nodes m zs f a.listings a.owned;
     }
-
-zones_back : (m m' : Map) → m'.geometry ≡ m.geometry → at_zones m m'.zones ≡ m'
-zones_back m m' same = λ i. record { geometry = sym same i; zones = m'.zones }
 
 -- Parts that agree agree again by the compacted map.
 pub agree_after : (kind : Kind) (m m' : Map) (nodes : FinMap nat_cmp Node) (owners : List Owner) → IsCompacted m m' owners

@@ -10,12 +10,10 @@ use Rattle.fc_device.specs.Sectors.{sector_at}
 use Rattle.fc_record.specs.declared.DiscRecord.{DiscRecord}
 use Rattle.fc_record.specs.declared.Geometry.{Geometry}
 use Rattle.fc_record.specs.declared.Kind.{Kind}
-use Rattle.fc_record.specs.declared.Kind.TheVariants.{Boot, OneZone, DiscD, DiscL}
 use Rattle.fc_record.specs.Kinds.{disc_size}
 use Rattle.fc_record.specs.Record.{base, geometry}
 use Rattle.fc_zone.specs.declared.RunKind.{RunKind}
 use Rattle.fc_zone.specs.declared.RunKind.TheVariants as kinds
-use Rattle.fc_oldmap.specs.OldMap.{free_space, hole_fault}
 use Rattle.fc_newmap.specs.Map.{Map, ZoneRun, all_runs, map_sectors, sector_of, sectors_of}
 use Rattle.fc_newmap.proofs.CoverLemmas.{run_on_disc}
 use Rattle.fc_newmap.proofs.PlaceLemmas.{filter_in, held_in, holder_of, in_back, in_filter, range_in}
@@ -27,7 +25,6 @@ use Rattle.fc_image.specs.Objects.{is_lost, objects_of}
 use Rattle.fc_image.specs.Opening.{Opened, boot_place, is_hole_or_movable, reserved_in}
 use Rattle.fc_image.specs.Moves.{KeepsObjects, SameMapLaw, StaysBy, with_map}
 use Rattle.fc_image.specs.Stays.{FixedBytesStay, FixedStay, IsNewKind, OpensAs, fixed_sectors, is_fixed, is_fixed_run}
-use Rattle.fc_image.proofs.FreeLemmas.{parts_of}
 use Rattle.fc_image.proofs.HolesLemmas.{OpenMap, loose_sectors as loose_objects, none_loose, new_size as kind_size}
 use Rattle.fc_image.proofs.MoveLemmas.{all_filter, open_by}
 use Rattle.fc_image.proofs.StepLemmas.{all_at, among_filter}
@@ -38,7 +35,7 @@ use Rattle.fc_compact.specs.Ready.{AreOwnersOf, IsReady}
 use Rattle.fc_compact.specs.Compaction.{ByOwnersLaw, ChangesLoose, is_loose, loose_sectors}
 use Rattle.fc_volume.specs.Compacting.{IsCompacted}
 use Rattle.fc_volume.proofs.AgreeLemmas.{movable_same}
-use Rattle.fc_laws.proofs.lemmas.takeover.KindLemmas.{old_never}
+pub use Rattle.fc_laws.proofs.lemmas.takeover.KindLemmas.{new_kind}
 
 -- ---- bytes after the sectors that change
 
@@ -71,17 +68,6 @@ module _ (size : ℕ) (some : 0 < size) (xs ys : List ℕ) (long : length xs ≡
 
 -- ---- the kind
 
--- an image that opens by a new map opens as a kind with one
-pub new_kind : (image : List ℕ) (kind : Kind) (v : Opened) (m : Map) → OpensAs image kind v → v.layout ≡ Layout.New m → (r : DiscRecord) × IsNewKind kind r
-new_kind image (Boot r) v m opens layout = (r, refl)
-new_kind image (OneZone r) v m opens layout = (r, refl)
-new_kind image DiscD v m opens layout =
-    let p = parts_of image DiscD v opens.opened in
-    absurd (old_never (free_space image 4) 4 0 (hole_fault image 4) p.0 m p.1.1 (ap (λ (w : Opened). w.layout) p.1.4 ∙ layout))
-new_kind image (DiscL units) v m opens layout =
-    let p = parts_of image (DiscL units) v opens.opened in
-    absurd (old_never (free_space image 1) 2 0 (hole_fault image 1) p.0 m p.1.1 (ap (λ (w : Opened). w.layout) p.1.4 ∙ layout))
-
 -- ---- what may change
 
 loose_kind : (owners : List Owner) (objects : List Object) → AreOwnersOf owners objects → (k : RunKind) → is_loose owners k ≡ is_hole_or_movable objects k
@@ -92,7 +78,7 @@ loose_same : (m : Map) (owners : List Owner) (objects : List Object) → AreOwne
 loose_same m owners objects own =
     ap (λ (t : ZoneRun → Bool). sectors_of m.geometry (filter t (all_runs m))) (λ i p. loose_kind owners objects own p.1.kind i)
 
-all_among : (P : ℕ → Type 0) (xs : List ℕ) → ((s : ℕ) → is_among xs s ≡ true → P s) → All P xs
+pub all_among : (P : ℕ → Type 0) (xs : List ℕ) → ((s : ℕ) → is_among xs s ≡ true → P s) → All P xs
 all_among P [] each = All-nil P
 all_among P (x ∷ xs) each =
     All-cons P x xs (each x (ap (λ b. b || is_among xs x) (eq-eqb x x refl))) (all_among P xs (λ s e. each s (in_back (x ∷ []) xs s e)))

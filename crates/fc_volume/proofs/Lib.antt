@@ -12,7 +12,7 @@ mod FreeLemmas
 mod CarryLemmas
 mod AgreeLemmas
 mod RepairedLemmas
-mod CompactedLemmas
+pub mod CompactedLemmas
 pub mod VersionLemmas
 pub mod StandsLemmas
 mod KeepLemmas

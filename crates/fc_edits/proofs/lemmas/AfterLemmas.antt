@@ -23,7 +23,7 @@ use Rattle.fc_laws.proofs.lemmas.nodes.FitsLemmas.{fits_at, kid_at}
 use Rattle.fc_laws.proofs.lemmas.nodes.OtherLemmas.{no_file}
 use Rattle.fc_laws.proofs.lemmas.nodes.ListLemmas.{in_first, in_other}
 use Rattle.fc_laws.proofs.lemmas.nodes.ShapeLemmas.{held_by, said, some_mapped}
-use Rattle.fc_edits.specs.Lookups.{held_as, says_at}
+use Rattle.fc_laws.specs.nodes.Lookups.{held_as, says_at}
 use Rattle.fc_edits.specs.Edit.{Amended, AreEdited, Edit, IsEdit, TopStays, TopTurns, joined_in, joining, left_in, leaving, numbers, objects, turned}
 use Rattle.fc_edits.specs.NewNodes.{AfterLaw, AreDistinct, HasNumbers, arriving, enter, entered, entering, nodes_after, tell}
 use Rattle.fc_edits.proofs.lemmas.ListLemmas.{flat_same, in_flat, is_in, map_flat, map_map}

@@ -22,7 +22,7 @@ use Rattle.fc_laws.proofs.lemmas.nodes.FollowLemmas.{AllFit, follow}
 use Rattle.fc_laws.proofs.lemmas.nodes.ListLemmas.{in_first, in_other}
 use Rattle.fc_laws.proofs.lemmas.nodes.OtherLemmas.{no_file}
 use Rattle.fc_edits.specs.NodesEdit.{NodesEdit}
-use Rattle.fc_edits.specs.Lookups.{held_as, said, says_at}
+use Rattle.fc_laws.specs.nodes.Lookups.{held_as, said, says_at}
 use Rattle.fc_edits.specs.Edit.{Amended, AreEdited, Edit, IsEdit, TopStays, TopTurns, joined_in, leaving, left_in, listings_after, now, numbers, objects, still, turned}
 use Rattle.fc_edits.proofs.lemmas.ListLemmas.{flat_mapped, in_flat, map_flat, parted}
 use Rattle.fc_edits.proofs.lemmas.NumberLemmas as n_

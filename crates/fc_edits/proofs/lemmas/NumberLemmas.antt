@@ -26,7 +26,7 @@ use Rattle.fc_laws.proofs.lemmas.nodes.FitsLemmas.{fits, kid_at, kid_lower, one_
 use Rattle.fc_laws.proofs.lemmas.nodes.ListLemmas.{in_first, in_other}
 use Rattle.fc_laws.proofs.lemmas.nodes.OtherLemmas.{all_objects}
 use Rattle.fc_edits.specs.NodesEdit.{NodesEdit}
-use Rattle.fc_edits.specs.Lookups.{held_as, held_by}
+use Rattle.fc_laws.specs.nodes.Lookups.{held_as, held_by}
 use Rattle.fc_edits.specs.Edit.{Amended, AreEdited, Edit, IsEdit, TopStays, TopTurns, joined_in, joining, leaving, left_in, numbers, objects, turned}
 use Rattle.fc_edits.proofs.lemmas.ListLemmas.{few_second, flat_mapped, in_flat, is_in, map_flat, parted, two_apart}
 use Rattle.fc_image.proofs.ShuffleLemmas.{flat_map-append as flat_append}

@@ -37,7 +37,7 @@ among_list nodes layout dir (p ∷ ps) each =
     among-append nodes layout (p.1 ∷ []) (objects ps)
     ∙ ap₂ (λ (a b : List Owner). a ++ b) (among_one nodes layout layout p.1 dir p.0 (each p (contains_here p ps))) (among_list nodes layout dir ps (λ q at. each q (contains_later p q ps at)))
 
-among_all : (nodes : Nodes) (layout : Layout) (f : Amended → List (ℕ × Object)) (bs : List Amended)
+pub among_all : (nodes : Nodes) (layout : Layout) (f : Amended → List (ℕ × Object)) (bs : List Amended)
     → ((a : Amended) (p : ℕ × Object) → Contains bs a → Contains (f a) p → owner_of nodes layout p.1 ≡ owner_with layout a.number p.0 p.1)
     → owners_among nodes layout (objects (flat_map f bs)) ≡ flat_map (λ (a : Amended). owners_in layout a.number (f a)) bs
 among_all nodes layout f [] each = refl

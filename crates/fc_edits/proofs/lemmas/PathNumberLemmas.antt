@@ -21,7 +21,7 @@ use Rattle.fc_laws.proofs.lemmas.nodes.WaysLemmas.{AreApart, folds_same, pushed}
 use Rattle.fc_laws.proofs.lemmas.nodes.FitsLemmas.{apart, holds, one_directory}
 use Rattle.fc_laws.proofs.lemmas.nodes.ListLemmas.{in_other}
 use Rattle.fc_edits.specs.NodesEdit.{NodesEdit}
-use Rattle.fc_edits.specs.Lookups.{held_as}
+use Rattle.fc_laws.specs.nodes.Lookups.{held_as}
 use Rattle.fc_edits.specs.Edit.{Amended, AreEdited, Edit, IsEdit, joined_in, joining, leaving, left_in, numbers, objects}
 use Rattle.fc_edits.proofs.lemmas.ListLemmas.{few_first, few_second, in_flat, is_in, two_apart}
 use Rattle.fc_edits.proofs.lemmas.NumberLemmas as n_

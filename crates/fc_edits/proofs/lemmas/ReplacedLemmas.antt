@@ -21,7 +21,7 @@ use Rattle.fc_laws.proofs.lemmas.nodes.ShapeLemmas.{put_here, put_other, body_ot
 use Rattle.fc_laws.proofs.lemmas.nodes.FitsLemmas.{kid_at, fits_at}
 use Rattle.fc_edits.specs.Addition.{Addition, GetsNode, IsAddition, Replaces, amended, edit, leaves, nodes_over}
 use Rattle.fc_edits.specs.Edit.{Amended, AreEdited, leaving, numbers}
-use Rattle.fc_edits.specs.Lookups.{held_as, held_by, said, says_at}
+use Rattle.fc_laws.specs.nodes.Lookups.{held_as, held_by, said, says_at}
 use Rattle.fc_edits.specs.NewNodes.{entered}
 use Rattle.fc_edits.proofs.lemmas.AdditionLemmas.{l_in, own_listed}
 use Rattle.fc_edits.proofs.lemmas.EnterLemmas.{enter_length, entered_held, entered_says, none_new}

@@ -14,7 +14,7 @@ use Rattle.fc_tree.proofs.PlaceLemmas.{one_path}
 use Rattle.fc_laws.specs.nodes.Edits.{Nodes, with_body}
 use Rattle.fc_laws.specs.nodes.Laws.{IsHeld}
 use Rattle.fc_laws.proofs.lemmas.nodes.ShapeLemmas.{body_held, body_other, body_said, edited_length}
-use Rattle.fc_edits.specs.Lookups.{held_as, says_at}
+use Rattle.fc_laws.specs.nodes.Lookups.{held_as, says_at}
 use Rattle.fc_edits.specs.Edit.{Amended, Edit, IsEdit}
 use Rattle.fc_edits.specs.NewNodes.{tell}
 use Rattle.fc_edits.proofs.lemmas.ListLemmas.{few_second, two_apart}

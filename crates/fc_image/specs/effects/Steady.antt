@@ -7,7 +7,7 @@ use Rattle.std.specs.Str.{bytes_eq}
 use Rattle.fc_bytes.specs.Bits.{bits}
 use Rattle.fc_bytes.specs.Words.{bytes_at}
 use Rattle.fc_device.specs.Sectors.{sector_at}
-use Rattle.fc_names.specs.Names.{Path, folded_path, is_same_path, is_same_name}
+use Rattle.fc_names.specs.Names.{Path, folded_path, is_same_path}
 use Rattle.fc_record.specs.declared.Geometry.{Geometry}
 use Rattle.fc_record.specs.declared.Kind.{Kind}
 use Rattle.fc_record.specs.Record.{first_bit, end_bit}
@@ -37,6 +37,7 @@ use Rattle.fc_image.specs.Objects.{objects_of, is_owned, is_lost, object_at, lis
 use Rattle.fc_image.specs.Opening.{Opened, boot_place}
 use Rattle.fc_image.specs.effects.Short.{Growth, growth_in, moved_growth, is_alone, old_holes_after, new_dir_size}
 use Rattle.fc_image.specs.effects.Placed.{made_object, holes_left, object_parts}
+pub use Rattle.fc_dirs.specs.Edits.{replaced_entry, without_name}
 
 -- ---- where objects are afterwards
 
@@ -58,18 +59,10 @@ holds_named _ dir = false
 
 -- ---- entries
 
--- the new entry in the place of that of its name
-abbrev pub replaced_entry : Entry → Entry → Entry
-replaced_entry new e = if is_same_name e.name new.name then new else e
-
 -- An entry that is there is replaced, and a new one stands in its place by name.
 abbrev pub with_made : Option Entry → List Entry → List Entry
 with_made None entries = entries
 with_made (Some new) entries = if has_name entries new.name then map (replaced_entry new) entries else with_entry new entries
-
--- the entries without that of this name
-abbrev pub without_name : List ℕ → List Entry → List Entry
-without_name name entries = filter (λ e. not (is_same_name e.name name)) entries
 
 -- the entries of a directory after the command, where `made` is the entry of the object that it makes or changes
 abbrev pub edited : Command → Path → Option Entry → List Entry → List Entry

@@ -10,8 +10,7 @@ ghost use Rattle.fc_tree.specs.Nodes.{bound_of, nodes_of};
 ghost use Rattle.fc_oldvolume.specs.Changing.{IsOldLayout};
 ghost use Rattle.fc_oldvolume.specs.Compacting.{AreSorted};
 
-use crate::spaces::units_for;
-use fc_change::object_bytes;
+use fc_change::{object_bytes, units_for};
 use fc_device::NoMemory;
 use fc_dirs::Entry;
 use fc_space::Space;

@@ -3,22 +3,19 @@ use Rattle.std.proofs.Common.{◌≡◌, ◌<◌, ◌≤◌, ◌⊎◌, inl, inr
 use Rattle.std.specs.Prelude.{Contains, IsPermutation, IfSome, filter, slice_index, slice_range, ◌==◌}
 use Rattle.std.specs.List.{AllByRecursion}
 use Rattle.std.proofs.lemmas.Bool.{eqb-true, false_from_ne_true as unless}
-use Rattle.std.proofs.lemmas.List.{drop-drop}
 use Rattle.fc_bytes.specs.Bits.{bits, num}
 use Rattle.fc_bytes.specs.BitLaws.{bits-drop, bits-take}
 use Rattle.fc_record.specs.declared.Geometry.{Geometry}
 use Rattle.fc_record.specs.Record.{first_bit}
 use Rattle.fc_record.specs.Kinds.{map_record}
 use Rattle.fc_zone.specs.declared.Run.{Run}
-use Rattle.fc_zone.specs.declared.RunKind.{RunKind}
 use Rattle.fc_zone.specs.declared.RunKind.TheVariants as kinds
 use Rattle.fc_zone.specs.declared.ZoneShape.{ZoneShape}
 use Rattle.fc_zone.specs.Edits.{KeepsLinks}
-use Rattle.fc_zone.specs.Zone.{Spells, field_at, hole_starts, start_if_hole}
+use Rattle.fc_zone.specs.Zone.{field_at, hole_starts}
 use Rattle.fc_newmap.specs.Map.{Map, ZoneRun, all_runs, has_id, hole_runs, id_runs, is_hole, runs_in, runs_of, search_order, sector_of, shape, with_root, with_zone, zone_numbers}
 use Rattle.fc_newmap.specs.Edits.{AreEdits, KeepsRuns}
 use Rattle.fc_newmap.specs.NewMap.{IsNewMap}
-use Rattle.fc_newmap.specs.RunsLaw.{placed}
 use Rattle.fc_newmap.proofs.HeldLemmas.{geometry_facts}
 use Rattle.fc_newmap.proofs.RootLemmas.{root_back, root_front, root_long}
 use Rattle.fc_copies.specs.Copies.{CommitEnds, HoldsCopies}
@@ -37,13 +34,13 @@ use Rattle.fc_changes.specs.growth.Maps.{HasApplied, HasParts}
 
 -- ---- maps with the same runs
 
-runs_all : (m m' : Map) → KeepsRuns m m' → all_runs m' ≡ all_runs m
+pub runs_all : (m m' : Map) → KeepsRuns m m' → all_runs m' ≡ all_runs m
 runs_all m m' kept = ap (λ (g : Geometry). runs_in m' (zone_numbers g)) kept.geometry ∙ all_same m m' kept (zone_numbers m.geometry)
 
 holes_same : (m m' : Map) → KeepsRuns m m' → hole_runs m' ≡ hole_runs m
 holes_same m m' kept = ap (filter (λ (p : ZoneRun). is_hole p.1.kind)) (runs_all m m' kept)
 
-ids_same : (m m' : Map) → KeepsRuns m m' → (id : ℕ) → id_runs m' id ≡ id_runs m id
+pub ids_same : (m m' : Map) → KeepsRuns m m' → (id : ℕ) → id_runs m' id ≡ id_runs m id
 ids_same m m' kept id =
     ap (filter (λ (p : ZoneRun). has_id id p.1.kind)) (ap (λ (g : Geometry). runs_in m' (search_order g id)) kept.geometry ∙ all_same m m' kept (search_order m.geometry id))
 

@@ -150,15 +150,15 @@ none_cover n (h ∷ holes) (lt, all) = ap₂ (λ a b. a || b) off (none_cover n 
 abbrev pub IsBehind : ℕ → Hole → Type 0
 IsBehind at x = (at ≤ x.start) × (0 < x.len)
 
-behind-lower : (from to : ℕ) → to ≤ from → (xs : List Hole) → Every (IsBehind from) xs → Every (IsBehind to) xs
+pub behind-lower : (from to : ℕ) → to ≤ from → (xs : List Hole) → Every (IsBehind from) xs → Every (IsBehind to) xs
 behind-lower from to le xs all = every-map (IsBehind from) (IsBehind to) (λ x b. (omega (arith, b.0, le), b.1)) xs all
 
-all_behind : (d u floor : ℕ) (xs : List Hole) → AreHoles d u floor xs → Every (IsBehind floor) xs
+pub all_behind : (d u floor : ℕ) (xs : List Hole) → AreHoles d u floor xs → Every (IsBehind floor) xs
 all_behind d u floor [] rise = tt
 all_behind d u floor (x ∷ xs) (h, rest) =
     ((h.onward, h.positive), behind-lower (hole_end x) floor (omega (arith, h.onward)) xs (all_behind d u (hole_end x) xs rest))
 
-every_hole : (d u floor : ℕ) (xs : List Hole) → AreHoles d u floor xs → Every (IsHole d u 0) xs
+pub every_hole : (d u floor : ℕ) (xs : List Hole) → AreHoles d u floor xs → Every (IsHole d u 0) xs
 every_hole d u floor [] rise = tt
 every_hole d u floor (x ∷ xs) (h, rest) =
     (record { positive = h.positive; onward = omega arith; inside = h.inside; begins = h.begins; ends = h.ends }, every_hole d u (hole_end x) xs rest)

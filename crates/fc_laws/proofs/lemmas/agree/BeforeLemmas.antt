@@ -16,7 +16,7 @@ use Rattle.fc_image.specs.Objects.{objects_of}
 use Rattle.fc_image.specs.Opening.{boot_place, least_of, misplaced_sector, reserved_in}
 use Rattle.fc_image.specs.Sound.{AreSound}
 use Rattle.fc_image.specs.Edits.{IsAt, IsListing}
-use Rattle.fc_image.proofs.HolesLemmas.{Lies, apart_from, id_no_hole, in_id, loose_sectors, some_least}
+use Rattle.fc_image.proofs.HolesLemmas.{Lies, apart_from, id_no_hole, in_id, loose_sectors}
 use Rattle.fc_tree.specs.declared.node.Node.{Node}
 use Rattle.fc_tree.specs.Agree.{Agree, AreWalked, reader_of_nodes}
 use Rattle.fc_tree.specs.Parts.{AreOwners, Parts}
@@ -25,6 +25,7 @@ use Rattle.fc_laws.specs.agree.Agreed.{AgreeOn, parts_with}
 use Rattle.fc_laws.specs.agree.Laws.{AgreedLaw}
 use Rattle.fc_laws.proofs.lemmas.agree.WalkedLemmas as on_any
 use Rattle.fc_tree.proofs.EndLemmas.{no_twin as apart_names}
+pub use Rattle.fc_image.proofs.HolesLemmas.{none_least}
 
 -- ---- a map in memory
 
@@ -41,11 +42,6 @@ disc_holds m o is at s i =
     let p = holder_of m.geometry (id_runs m (id_of o.entry.address)) s (in_id m o.entry.address _ o.sectors s at i) in
     let p_in = id_run_in m (id_of o.entry.address) p.0 facts.zones p.1.0 in
     run_on_disc m (new_shape m is) is.right facts.zones facts.begun p.0 s p_in.0 p.1.1
-
--- Two lists that have no least number have none together.
-pub none_least : (xs ys : List ℕ) → least_of (xs ++ ys) ≡ None → (least_of xs ≡ None) × (least_of ys ≡ None)
-none_least [] ys e = (refl, e)
-none_least (x ∷ xs) ys e = absurd (some_least x (xs ++ ys) e)
 
 -- ---- parts that agree
 

@@ -25,7 +25,7 @@ use Rattle.fc_tree.proofs.EndLemmas.{no_twin as apart_names}
 
 -- ---- the node of a root's object
 
-same_number : (n k : ℕ) → (let q : Option ℕ = Some n in q) ≡ Some k → n ≡ k
+pub same_number : (n k : ℕ) → (let q : Option ℕ = Some n in q) ≡ Some k → n ≡ k
 same_number n k e = cc
 
 pub root_node : (nodes : Nodes) (listings : List Listing) (o : Object) → o.path ≡ [] → HasNode nodes listings o → (node : Node) × (get nodes 0 ≡ Some node) × (node.entry ≡ o.entry)

@@ -1,31 +1,21 @@
 -- An object gets another path, with all that is below it: no node gets another number.
-use Rattle.std.proofs.Common.{◌≡◌, ◌<◌, ◌≤◌, ℕ, Bool, true, false, cond, List, [], ◌∷◌, ◌++◌, length, drop, refl, sym, ap, ◌∙◌, arith, append_assoc, Some}
+use Rattle.std.proofs.Common.{◌≡◌, ◌<◌, ◌≤◌, ℕ, true, false, List, [], ◌∷◌, ◌++◌, length, refl, ◌∙◌, arith, Some}
 use Rattle.std.specs.Prelude.{Contains}
-use Rattle.fc_names.specs.Names.{Path, folded, folded_path, is_same_path}
+use Rattle.fc_names.specs.Names.{Path, folded, folded_path}
 use Rattle.fc_model.specs.Tree.{is_prefix}
 use Rattle.fc_dirs.specs.declared.Entry.{Entry}
 use Rattle.fc_dirs.specs.Directory.{Directory}
 use Rattle.fc_image.specs.Layout.{Layout}
 use Rattle.fc_image.specs.Walk.{Object, Listing, is_directory_object}
 use Rattle.fc_image.specs.Objects.{objects_of}
-use Rattle.fc_image.specs.Commanded.{moved_path}
-use Rattle.fc_image.proofs.RelistLemmas.{prefix_long, prefix_step, drop_front}
 use Rattle.fc_tree.specs.declared.node.Body.TheVariants as bodies
 use Rattle.fc_tree.specs.Nodes.{number_of, body_in}
 use Rattle.fc_laws.specs.nodes.Edits.{Nodes}
 use Rattle.fc_laws.specs.nodes.Laws.{IsHeld}
 use Rattle.fc_laws.proofs.lemmas.nodes.ShapeLemmas.{held_as, says_at}
+pub use Rattle.fc_image.proofs.RelistLemmas.{path_step as moved_step}
 
 -- ---- moved paths
-
-pub moved_step : (from to path : Path) (name : List ℕ) → is_same_path from (path ++ name ∷ []) ≡ false → moved_path from to (path ++ name ∷ []) ≡ moved_path from to path ++ name ∷ []
-moved_step from to path name other =
-    ap (λ (b : Bool). cond b (to ++ drop (length from) (path ++ name ∷ [])) (path ++ name ∷ [])) (prefix_step from path name other) ∙ by (is_prefix (folded_path from) (folded_path path)) refl
-  where
-    by : (b : Bool) → is_prefix (folded_path from) (folded_path path) ≡ b
-        → cond b (to ++ drop (length from) (path ++ name ∷ [])) (path ++ name ∷ []) ≡ cond b (to ++ drop (length from) path) path ++ name ∷ []
-    by true h = ap (λ (p : Path). to ++ p) (drop_front (length from) path (name ∷ []) (prefix_long from path h)) ∙ sym (append_assoc to (drop (length from) path) (name ∷ []))
-    by false h = refl
 
 pub some_long : (path : Path) → (path ≡ [] → ⊥) → 0 < length path
 some_long [] never = absurd (never refl)

@@ -1,5 +1,5 @@
 -- What nodes say, and as what they are held, after edits of nodes.
-use Rattle.std.proofs.Common.{◌≡◌, ⊎_elim, ℕ, zero, suc, ◌+◌, ◌-◌, true, cond, refl, sym, ap, subst, ◌∙◌, arith, Option, Some, None, nat_cmp, eq-eqb, ne_eqb}
+use Rattle.std.proofs.Common.{◌≡◌, ⊎_elim, ℕ, zero, suc, ◌+◌, ◌-◌, true, cond, refl, sym, ap, subst, ◌∙◌, arith, Option, Some, None, nat_cmp, eq-eqb}
 use Rattle.std.specs.Prelude.{is_some}
 use Rattle.std.specs.Option.{option_map, option_map_or}
 use Rattle.std.specs.Ordering.{eq_by_cmp}
@@ -11,20 +11,7 @@ use Rattle.fc_tree.specs.declared.node.Body.{Body}
 use Rattle.fc_tree.specs.declared.node.Node.{Node}
 use Rattle.fc_laws.specs.nodes.Edits.{Nodes, with_edited, with_body}
 use Rattle.fc_tree.proofs.SlotLemmas.{other as untied}
-
--- which directory holds a node, and by what entry
-abbrev pub held_by : Node → ℕ × Entry
-held_by a = (a.holder, a.entry)
-
-abbrev pub held_as : Nodes → ℕ → Option (ℕ × Entry)
-held_as nodes n = option_map held_by (get nodes n)
-
--- what a node says
-abbrev pub said : Node → Body
-said a = a.body
-
-abbrev pub says_at : Nodes → ℕ → Option Body
-says_at nodes n = option_map said (get nodes n)
+pub use Rattle.fc_laws.specs.nodes.Lookups.{held_as, held_by, said, says_at}
 
 -- ---- numbers that tie
 

@@ -10,9 +10,7 @@ use Rattle.fc_device.specs.Sectors.{sector_at}
 use Rattle.fc_record.specs.declared.Geometry.{Geometry}
 use Rattle.fc_newmap.specs.Map.{Map, map_sectors}
 use Rattle.fc_newmap.specs.NewMap.{IsNewMap}
-use Rattle.fc_newmap.specs.RunsLaw.{IsGeometry}
 use Rattle.fc_newmap.proofs.CoverLemmas.{Distinct, id_Distinct}
-use Rattle.fc_newmap.proofs.GeometryLemmas.{geometry_of_valid}
 use Rattle.fc_newmap.proofs.HeldLemmas.{geometry_facts}
 use Rattle.fc_newmap.proofs.PlaceLemmas.{in_back}
 use Rattle.fc_copies.specs.declared.Which.TheVariants.{One, Two}
@@ -62,7 +60,7 @@ in_taken (suc n) (x ∷ xs) s h = by (x == s) h (in_taken n xs s)
     by true g more = refl
     by false g more = more g
 
-Distinct-take : (n : ℕ) (xs : List ℕ) → Distinct xs → Distinct (take n xs)
+pub Distinct-take : (n : ℕ) (xs : List ℕ) → Distinct xs → Distinct (take n xs)
 Distinct-take zero xs d = tt
 Distinct-take (suc n) [] d = tt
 Distinct-take (suc n) (x ∷ xs) d = (unless (is_among (take n xs) x) (λ h. clash (is_among xs x) (in_taken n xs x h) d.0), Distinct-take n xs d.1)

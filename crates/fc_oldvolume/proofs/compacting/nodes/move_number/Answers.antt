@@ -7,7 +7,7 @@ use Rattle.fc_space.specs.Space.{layout_of}
 use Rattle.fc_tree.specs.Nodes.{nodes_of}
 use Rattle.fc_tree.specs.declared.node.Node.{Node}
 use Rattle.fc_tree.proofs.WalkedLemmas.{same_some}
-use Rattle.fc_oldvolume.proofs.TakingLemmas.{put_changed, taken_free}
+use Rattle.fc_change.proofs.TakingLemmas.{put_changed, taken_free}
 use Rattle.fc_oldvolume.specs.Compacting.{addressed}
 use Rattle.fc_oldvolume.proofs.NumbersLemmas.{unchanged}
 use Rattle.fc_oldvolume.proofs.compacting.nodes.move_number.Goals as goal
