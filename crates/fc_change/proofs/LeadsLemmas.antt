@@ -38,7 +38,7 @@ as_same : (g : Geometry) (id : ℕ) (ps : List ZoneRun) → sectors_of g (as_run
 as_same g id [] = refl
 as_same g id (p ∷ ps) = ap (λ (xs : List ℕ). run_sectors g p ++ xs) (as_same g id ps)
 
-as_bits : (id : ℕ) (ps : List ZoneRun) → bits_in (as_runs id ps) ≡ bits_in ps
+pub as_bits : (id : ℕ) (ps : List ZoneRun) → bits_in (as_runs id ps) ≡ bits_in ps
 as_bits id [] = refl
 as_bits id (p ∷ ps) =
     sum_by-cons (λ (q : ZoneRun). q.1.len) (with_id id p) (as_runs id ps) ∙ ap (λ (n : ℕ). p.1.len + n) (as_bits id ps) ∙ sym (sum_by-cons (λ (q : ZoneRun). q.1.len) p ps)

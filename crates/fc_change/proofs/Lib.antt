@@ -1,4 +1,4 @@
-mod TakingLemmas
+pub mod TakingLemmas
 mod TurningLemmas
 mod DraftLemmas
 mod PieceLemmas
@@ -10,7 +10,7 @@ mod GrownLemmas
 mod SpacesLemmas
 mod StepLemmas
 mod LeavingsLemmas
-mod OldCopyLemmas
+pub mod OldCopyLemmas
 mod OldTakingLemmas
 mod OldGivingLemmas
 pub mod PlaceLemmas

@@ -18,23 +18,23 @@ use Rattle.fc_change.specs.OldSpace.{LieBehind}
 
 -- ---- a map that is written and read
 
-all_true : (a b c d e : Bool) → a ≡ true → b ≡ true → c ≡ true → d ≡ true → e ≡ true → (a && b && c && d && e) ≡ true
+pub all_true : (a b c d e : Bool) → a ≡ true → b ≡ true → c ≡ true → d ≡ true → e ≡ true → (a && b && c && d && e) ≡ true
 all_true a b c d e p q r s t = rw (p, q, r, s, t) refl
 
-is_right : (d u floor : ℕ) (h : Hole) → IsHole d u floor h → is_hole_right d u floor h ≡ true
+pub is_right : (d u floor : ℕ) (h : Hole) → IsHole d u floor h → is_hole_right d u floor h ≡ true
 unfolding is_hole_right
 is_right d u floor h is =
     all_true (nat_lt 0 h.len) (nat_le floor h.start) (nat_le (hole_end h) d) (h.start % u == 0) (hole_end h % u == 0) (lt-ltb 0 h.len is.positive) (le-leb floor h.start is.onward)
     (le-leb (hole_end h) d is.inside) (eq-eqb (h.start % u) 0 is.begins) (eq-eqb (hole_end h % u) 0 is.ends)
 
-none_wrong : (d u i floor : ℕ) (holes : List Hole) → AreHoles d u floor holes → wrong_hole d u i floor holes ≡ None
+pub none_wrong : (d u i floor : ℕ) (holes : List Hole) → AreHoles d u floor holes → wrong_hole d u i floor holes ≡ None
 unfolding wrong_hole
 none_wrong d u i floor [] are = refl
 none_wrong d u i floor (h ∷ holes) are =
     ap (λ (b : Bool). cond b (wrong_hole d u (i + 1) (hole_end h) holes) (Some i)) (is_right d u floor h are.0) ∙ none_wrong d u (i + 1) (hole_end h) holes are.1
 
 -- a number that is put somewhere
-u24_put : (b : List ℕ) (at v : ℕ) → at ≤ length b → v < 2 ^ 24 → u24_at (overwritten b at (little_bytes 3 v)) at ≡ v
+pub u24_put : (b : List ℕ) (at v : ℕ) → at ≤ length b → v < 2 ^ 24 → u24_at (overwritten b at (little_bytes 3 v)) at ≡ v
 u24_put b at v within fits =
     let tail = little_bytes 3 v ++ drop (at + length (little_bytes 3 v)) b in
     let front : drop at (take at b ++ tail) ≡ tail = ap (λ (n : ℕ). drop n (take at b ++ tail)) (sym (length-take-le at b within)) ∙ drop-append_seam (take at b) tail in

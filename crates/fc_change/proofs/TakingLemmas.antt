@@ -13,7 +13,7 @@ use Rattle.fc_laws.specs.nodes.Edits.{Nodes, with_body, with_edited}
 use Rattle.fc_change.specs.declared.change.Says.{Says}
 use Rattle.fc_change.specs.After.{with_said}
 
-twice : (b : Bool) (x y : Option Node) → cond b x (cond b None y) ≡ cond b x y
+pub twice : (b : Bool) (x y : Option Node) → cond b x (cond b None y) ≡ cond b x y
 twice true x y = refl
 twice false x y = refl
 

@@ -25,10 +25,10 @@ pub use held::Held;
 pub use job::{FileWords, Growth, Job, ObjectWords, Wants};
 pub use needs::wants;
 pub use owner::{entry_owner, object_bytes};
-pub use pieces::{piece_of, place_of_node, prepare};
+pub use pieces::{new_pieces, piece_of, place_of_node, prepare, source_of};
 pub use placing::{
-    address_for, bytes_left, copied_from, extents_in, has_ids, object_place, place, placing_of,
-    share_for, shared_id,
+    address_for, bytes_left, copied_from, copy_of, extents_in, has_ids, is_alone, object_place,
+    place, placing_of, room_for, root_of, share_for, shared_id, units_for,
 };
 pub use spaces::{GrownPlace, Place, SpaceError, Spaces};
 pub use takeover::{admit, take_over};

@@ -146,8 +146,12 @@ fn late_pieces(
     Ok(pieces)
 }
 
-// A new directory, for the sectors where it is to lie. A file's bytes are given.
-fn new_pieces(alloc: Global, object: &Turned, place: &Option<Place>) -> Result<Vec<Piece>, NoMemory>
+/// A new directory, for the sectors where it is to lie. A file's bytes are given.
+pub fn new_pieces(
+    alloc: Global,
+    object: &Turned,
+    place: &Option<Place>,
+) -> Result<Vec<Piece>, NoMemory>
     ensures { IfOk result (λ pieces. IsNewPiece object.now place.now pieces.items) }
 {
     match object {
@@ -216,8 +220,8 @@ fn said_of(says: &[Says], n: u64) -> &Says
     says.iter().find(|said| said.node == n).unwrap()
 }
 
-// What is written into the sectors of the object.
-fn source_of(object: &Turned, place: Option<Place>, copied: Option<Vec<Extent>>) -> Source
+/// What is written into the sectors of the object.
+pub fn source_of(object: &Turned, place: Option<Place>, copied: Option<Vec<Extent>>) -> Source
     ensures { IsSourceOf object.now place copied result }
 {
     let Some(place) = place else {

@@ -22,8 +22,11 @@ pub use new::{
     address_for, bytes_left, copied_from, object_place, placing_of, share_for, shared_id,
 };
 use old::place_old;
+pub use old::{copy_of, units_for};
+pub use room::{is_alone, room_for};
 pub use shortage::has_ids;
 use std::alloc::Global;
+pub use steps::root_of;
 
 /// Finds the space that a job wants, and what goes back. The map stays as it is. Refused exactly as the command is for want of space.
 pub fn place(alloc: Global, held: &Held, wants: &Wants) -> Result<Spaces, SpaceError>

@@ -31,7 +31,7 @@ use Rattle.fc_tree.proofs.MemberLemmas.{no_element}
 
 -- ---- what is left of a hole
 
-one_rest : (hole a b : ZoneRun) (o : Option ZoneRun) → Contains (left_behind hole o) a → Contains (left_behind hole o) b → a ≡ b
+pub one_rest : (hole a b : ZoneRun) (o : Option ZoneRun) → Contains (left_behind hole o) a → Contains (left_behind hole o) b → a ≡ b
 one_rest hole a b None first second = sym (one_there hole a first) ∙ one_there hole b second
 one_rest hole a b (Some part) first second = by (part.1.len == hole.1.len) first second
   where
@@ -39,7 +39,7 @@ one_rest hole a b (Some part) first second = by (part.1.len == hole.1.len) first
     by true none also = absurd (no_element a none)
     by false one two = sym (one_there (rest_of hole part) a one) ∙ one_there (rest_of hole part) b two
 
-is_rest : (hole part rest : ZoneRun) → Contains (left_behind hole (Some part)) rest → rest_of hole part ≡ rest
+pub is_rest : (hole part rest : ZoneRun) → Contains (left_behind hole (Some part)) rest → rest_of hole part ≡ rest
 is_rest hole part rest at = by (part.1.len == hole.1.len) at
   where
     by : (c : Bool) → Contains (cond c [] (rest_of hole part ∷ [])) rest → rest_of hole part ≡ rest
@@ -47,7 +47,7 @@ is_rest hole part rest at = by (part.1.len == hole.1.len) at
     by false one = one_there (rest_of hole part) rest one
 
 -- the part that is found at a hole is the one that was cut from it
-found_is : (h p : ZoneRun) (parts : List ZoneRun) → ((place : ZoneRun) → count_at place parts ≤ 1) → Contains parts p → stands_at h p ≡ true → find (stands_at h) parts ≡ Some p
+pub found_is : (h p : ZoneRun) (parts : List ZoneRun) → ((place : ZoneRun) → count_at place parts ≤ 1) → Contains parts p → stands_at h p ≡ true → find (stands_at h) parts ≡ Some p
 found_is h p parts once among at =
     let x = found_some h parts (count_at-positive h p parts among at) in
     let is = find_is (stands_at h) x.0 parts x.1 in

@@ -14,7 +14,7 @@ use Rattle.fc_course.proofs.GrownCopyWantLemmas.{copy_is, file}
 use Rattle.fc_course.proofs.GrownMoveRestLemmas.{beside, beside_it, other_l, other_node, rest}
 use Rattle.fc_course.proofs.GrownMoveSaidLemmas.{anew, it, k, l, layout, listed}
 use Rattle.fc_course.proofs.GrownMoveWalkLemmas as walk
-use Rattle.fc_course.proofs.GrownMoveWantLemmas.{GrownRename}
+use Rattle.fc_course.proofs.GrownMoveWantLemmas.{GrownRename, IsPlacedRename}
 use Rattle.fc_course.proofs.GrownMoveWantLemmas as want
 use Rattle.fc_course.proofs.GrownSpaceLemmas.{IsToGrow}
 use Rattle.fc_course.proofs.GrownSpaceLemmas as space_of
@@ -44,6 +44,7 @@ use Rattle.std.proofs.lemmas.List.Sorted.{list_any-IsPermutation}
 use Rattle.std.specs.List.{list_any}
 use Rattle.std.specs.Option.{option_and_then, option_to_list, unwrap_or}
 use Rattle.std.specs.Prelude.{Contains, IfSome}
+use Rattle.fc_plan.proofs.Applies.{and_true}
 
 -- ---- by truth values
 
@@ -62,10 +63,6 @@ none_second true false c d is = refl
 none_second true true true d is = refl
 none_second true true false d is = ap not is
 
-and_true : (b : Bool) → (b && true) ≡ b
-and_true true = refl
-and_true false = refl
-
 -- what shares with others goes unnoticed
 same_without : (o t l c i r : Bool) → (o && not (t || (l || r))) ≡ false → (o && not (t || (l || (c || (i || r))))) ≡ (o && not (t || (l || (c || r))))
 same_without false t l c i r shared = refl
@@ -76,7 +73,7 @@ same_without true false false false true true shared = refl
 same_without true false false false false true shared = refl
 same_without true false false false i false shared = absurd (cc)
 
-module _ (q : GrownRename) (copied : is_copied (parts_with q.m q.nodes q.owners) q.r ≡ true) where
+module _ (q : GrownRename) (pl : IsPlacedRename q) (copied : is_copied (parts_with q.m q.nodes q.owners) q.r ≡ true) where
   abbrev objects : List Object
   objects = objects_of q.listings
 
@@ -95,14 +92,14 @@ module _ (q : GrownRename) (copied : is_copied (parts_with q.m q.nodes q.owners)
   abbrev F : ℕ
   F = q.r.target.node
 
-  abbrev to : IsToGrow q.m q.nodes q.owners q.listings q.seen.known.destination.listing.object (walk.cut q).0 q.growth (plan_in q.placed.placing) q.placed.dir (want.grown q).0
-  to = walk.to_grow q
+  abbrev to : IsToGrow q.m q.nodes q.owners q.listings q.seen.known.destination.listing.object (walk.cut q).0 q.growth (plan_in pl.placing) pl.dir (want.grown q).0
+  to = walk.to_grow q pl
 
   o_some : has_sectors q.seen.known.destination.listing.object ≡ true
-  o_some = space_of.o_some q.m q.nodes q.owners q.listings o (walk.cut q).0 q.growth (plan_in q.placed.placing) q.placed.dir (want.grown q).0 to
+  o_some = space_of.o_some q.m q.nodes q.owners q.listings o (walk.cut q).0 q.growth (plan_in pl.placing) pl.dir (want.grown q).0 to
 
   own_used : is_used q.m own_id ≡ true
-  own_used = space_of.own_used q.m q.nodes q.owners q.listings o (walk.cut q).0 q.growth (plan_in q.placed.placing) q.placed.dir (want.grown q).0 to
+  own_used = space_of.own_used q.m q.nodes q.owners q.listings o (walk.cut q).0 q.growth (plan_in pl.placing) pl.dir (want.grown q).0 to
 
   -- ---- who keeps an identifier
 
@@ -139,23 +136,23 @@ module _ (q : GrownRename) (copied : is_copied (parts_with q.m q.nodes q.owners)
   keeps = (own_id == 2) || list_any (is_owner_of own_id) (rest q).0
 
   -- so this goes back at last, if it gets another identifier
-  back_is : (plan : Plan) → q.placed.dir ≡ Some plan → walk.alone q ≡ false → want.back q ≡ option_to_list (cond keeps None (Some own_id))
+  back_is : (plan : Plan) → pl.dir ≡ Some plan → walk.alone q pl ≡ false → want.back q pl ≡ option_to_list (cond keeps None (Some own_id))
   back_is plan same e =
-      want.left_then q plan same (walk.alone_is q ∙ e)
+      want.left_then q pl plan same (walk.alone_is q pl ∙ e)
       ∙ ap₂ (λ (n : ℕ) (c : Option ℕ). option_to_list (left_by_growth q.owners n c)) (want.node_is q ∙ sym (want.dir_is q)) (copy_is q copied)
       ∙ ap (λ (r : Option Owner). option_to_list (option_and_then (left_of q.owners N (Some F)) r)) found
       ∙ ap (λ (b : Bool). option_to_list (cond ((own_id == 2) || b) None (Some own_id))) (rest_keep own_id)
 
-  pub back_unused : (n : ℕ) → is_used q.m n ≡ false → is_one_of (want.back q) n ≡ false
-  back_unused n free = by q.placed.dir refl (walk.alone q) refl
+  pub back_unused : (n : ℕ) → is_used q.m n ≡ false → is_one_of (want.back q pl) n ≡ false
+  back_unused n free = by pl.dir refl (walk.alone q pl) refl
     where
       one : (b : Bool) → is_one_of (option_to_list (cond b None (Some own_id))) n ≡ false
       one true = refl
       one false = ap (λ (b : Bool). b || false) (ne_eqb own_id n (λ same. clash (is_used q.m own_id) own_used (ap (is_used q.m) same ∙ free)))
 
-      by : (d : Option Plan) → q.placed.dir ≡ d → (a : Bool) → walk.alone q ≡ a → is_one_of (want.back q) n ≡ false
-      by None same a e = ap (λ (ids : List ℕ). is_one_of ids n) (walk.lost q same)
-      by (Some plan) same true e = ap (λ (ids : List ℕ). is_one_of ids n) (walk.was_alone q e)
+      by : (d : Option Plan) → pl.dir ≡ d → (a : Bool) → walk.alone q pl ≡ a → is_one_of (want.back q pl) n ≡ false
+      by None same a e = ap (λ (ids : List ℕ). is_one_of ids n) (walk.lost q pl same)
+      by (Some plan) same true e = ap (λ (ids : List ℕ). is_one_of ids n) (walk.was_alone q pl e)
       by (Some plan) same false e = ap (λ (ids : List ℕ). is_one_of ids n) (back_is plan same e) ∙ one keeps
 
   -- ---- what goes back
@@ -165,22 +162,22 @@ module _ (q : GrownRename) (copied : is_copied (parts_with q.m q.nodes q.owners)
   sharing k used = sym ((shared_stays q.m objects (o ∷ (rest q).0) (it q) (beside_it q) (file q copied).sharing (o ∷ (rest q).0) (λ p there. there)).exactly k used)
 
   -- `copy` comes, whose identifier is new.
-  module _ (m' : Map) (stepped : IsGrownStepped q.m m' (plan_in q.placed.placing) q.placed.dir (walk.alone q) (root_of (Some (want.grown q).0)) (want.back q))
-      (kept : q.placed.dir ≡ None
-      → is_one_of (want.back q) (space_of.own_id q.m q.nodes q.owners q.listings q.seen.known.destination.listing.object (walk.cut q).0 q.growth (plan_in q.placed.placing) q.placed.dir (want.grown q).0 (walk.to_grow q)) ≡ false)
+  module _ (m' : Map) (stepped : IsGrownStepped q.m m' (plan_in pl.placing) pl.dir (walk.alone q pl) (root_of (Some (want.grown q).0)) (want.back q pl))
+      (kept : pl.dir ≡ None
+      → is_one_of (want.back q pl) (space_of.own_id q.m q.nodes q.owners q.listings q.seen.known.destination.listing.object (walk.cut q).0 q.growth (plan_in pl.placing) pl.dir (want.grown q).0 (walk.to_grow q pl)) ≡ false)
       (copy : Object) (fresh : (k : ℕ) → is_used q.m k ≡ true → is_owner_of k copy ≡ false) where
     abbrev grown_some : has_sectors (anew q) ≡ true
-    grown_some = back_of.grown_some q.m q.nodes q.owners q.listings o (walk.cut q).0 q.growth (plan_in q.placed.placing) q.placed.dir (want.grown q).0 to m' (root_of (Some (want.grown q).0)) (want.back q) stepped kept
+    grown_some = back_of.grown_some q.m q.nodes q.owners q.listings o (walk.cut q).0 q.growth (plan_in pl.placing) pl.dir (want.grown q).0 to m' (root_of (Some (want.grown q).0)) (want.back q pl) stepped kept
 
     abbrev Gives : ℕ → Type 0
-    Gives k = is_one_of (gone_at_once q.placed.dir (walk.alone q) ++ want.back q) k ≡ (is_given_back objects (anew q ∷ copy ∷ (rest q).0) k || is_taken (takings (plan_in q.placed.placing) q.placed.dir) k)
+    Gives k = is_one_of (gone_at_once pl.dir (walk.alone q pl) ++ want.back q pl) k ≡ (is_given_back objects (anew q ∷ copy ∷ (rest q).0) k || is_taken (takings (plan_in pl.placing) pl.dir) k)
 
     -- with its old address it owns what it owned
-    there : (want.grown q).0.directory.address ≡ q.seen.known.destination.listing.object.entry.address → ((plan : Plan) → q.placed.dir ≡ Some plan → walk.alone q ≡ false → ⊥) → (k : ℕ) → is_used q.m k ≡ true → Gives k
+    there : (want.grown q).0.directory.address ≡ q.seen.known.destination.listing.object.entry.address → ((plan : Plan) → pl.dir ≡ Some plan → walk.alone q pl ≡ false → ⊥) → (k : ℕ) → is_used q.m k ≡ true → Gives k
     there address never k used =
-        back_of.gives q.m q.nodes q.owners q.listings o (walk.cut q).0 q.growth (plan_in q.placed.placing) q.placed.dir (want.grown q).0 to m' (root_of (Some (want.grown q).0)) (want.back q) stepped kept
-        (copy ∷ []) (λ i u owns. absurd (clash (is_owner_of i copy) (one_of_it i owns) (fresh i u))) (walk.lost q) (walk.was_alone q) (λ plan same e. absurd (never plan same e)) k used
-        ∙ ap (λ (b : Bool). b || is_taken (takings (plan_in q.placed.placing) q.placed.dir) k) same
+        back_of.gives q.m q.nodes q.owners q.listings o (walk.cut q).0 q.growth (plan_in pl.placing) pl.dir (want.grown q).0 to m' (root_of (Some (want.grown q).0)) (want.back q pl) stepped kept
+        (copy ∷ []) (λ i u owns. absurd (clash (is_owner_of i copy) (one_of_it i owns) (fresh i u))) (walk.lost q pl) (walk.was_alone q pl) (λ plan same e. absurd (never plan same e)) k used
+        ∙ ap (λ (b : Bool). b || is_taken (takings (plan_in pl.placing) pl.dir) k) same
       where
         one_of_it : (i : ℕ) → (is_owner_of i copy || false) ≡ true → is_owner_of i copy ≡ true
         one_of_it i owns = sym (or_false (is_owner_of i copy)) ∙ owns
@@ -196,13 +193,13 @@ module _ (q : GrownRename) (copied : is_copied (parts_with q.m q.nodes q.owners)
             ∙ ap (λ (a : Bool). is_owned objects k && not ((k == 2) || (a || (is_owner_of k copy || list_any (is_owner_of k) (rest q).0)))) (sym owns)
 
     -- with a new one it leaves its own, if no other keeps that
-    anew_at : (plan : Plan) → q.placed.dir ≡ Some plan → walk.alone q ≡ false → Contains (new_ids q.m) plan.id → (want.grown q).0.directory.address ≡ 256 * plan.id
-        → (k : ℕ) → is_used q.m k ≡ true → is_taken (takings (plan_in q.placed.placing) q.placed.dir) k ≡ false → Gives k
+    anew_at : (plan : Plan) → pl.dir ≡ Some plan → walk.alone q pl ≡ false → Contains (new_ids q.m) plan.id → (want.grown q).0.directory.address ≡ 256 * plan.id
+        → (k : ℕ) → is_used q.m k ≡ true → is_taken (takings (plan_in pl.placing) pl.dir) k ≡ false → Gives k
     anew_at plan same e is_new address k used none_taken =
-        (λ i. is_one_of (gone_at_once (same i) (e i) ++ want.back q) k)
+        (λ i. is_one_of (gone_at_once (same i) (e i) ++ want.back q pl) k)
         ∙ ap (λ (ids : List ℕ). is_one_of ids k) (back_is plan same e)
         ∙ by (own_id == k) refl
-        ∙ sym (ap₂ (λ (a b : Bool). (is_owned objects k && not ((k == 2) || (a || (b || list_any (is_owner_of k) (rest q).0)))) || is_taken (takings (plan_in q.placed.placing) q.placed.dir) k) not_anew (fresh k used)
+        ∙ sym (ap₂ (λ (a b : Bool). (is_owned objects k && not ((k == 2) || (a || (b || list_any (is_owner_of k) (rest q).0)))) || is_taken (takings (plan_in pl.placing) pl.dir) k) not_anew (fresh k used)
         ∙ ap (λ (b : Bool). (is_owned objects k && not ((k == 2) || list_any (is_owner_of k) (rest q).0)) || b) none_taken
         ∙ or_false (is_owned objects k && not ((k == 2) || list_any (is_owner_of k) (rest q).0)))
       where
@@ -237,21 +234,21 @@ module _ (q : GrownRename) (copied : is_copied (parts_with q.m q.nodes q.owners)
             ∙ sym (ap (λ (b : Bool). is_owned objects k && not ((k == 2) || (b || list_any (is_owner_of k) (rest q).0))) (sym other) ∙ shared)
 
     pub gives : (k : ℕ) → is_used q.m k ≡ true
-        → is_one_of (gone_at_once q.placed.dir (walk.alone q) ++ want.back q) k ≡ (is_given_back (objects_of q.listings) (anew q ∷ copy ∷ (rest q).0) k || is_taken (takings (plan_in q.placed.placing) q.placed.dir) k)
-    gives k used = by q.placed.dir refl to.grown
+        → is_one_of (gone_at_once pl.dir (walk.alone q pl) ++ want.back q pl) k ≡ (is_given_back (objects_of q.listings) (anew q ∷ copy ∷ (rest q).0) k || is_taken (takings (plan_in pl.placing) pl.dir) k)
+    gives k used = by pl.dir refl to.grown
       where
         object_free : (x : Option Plan) → IfSome x (IsOwnPlan q.m to.bytes) → IsOther k x
         object_free None own = tt
         object_free (Some x) own = λ same. clash (is_used q.m k) used (ap (is_used q.m) same ∙ own.unused)
 
-        by : (d : Option Plan) → q.placed.dir ≡ d → IsGrownPlace q.m (parts_with q.m q.nodes q.owners) (plan_in q.placed.placing) q.growth d (want.grown q).0 → Gives k
+        by : (d : Option Plan) → pl.dir ≡ d → IsGrownPlace q.m (parts_with q.m q.nodes q.owners) (plan_in pl.placing) q.growth d (want.grown q).0 → Gives k
         by None same is =
-            there (space_of.there_address q.m q.nodes q.owners q.listings o (walk.cut q).0 q.growth (plan_in q.placed.placing) q.placed.dir (want.grown q).0 to is) (λ plan other e. (let never = sym same ∙ other in cc)) k used
+            there (space_of.there_address q.m q.nodes q.owners q.listings o (walk.cut q).0 q.growth (plan_in pl.placing) pl.dir (want.grown q).0 to is) (λ plan other e. (let never = sym same ∙ other in cc)) k used
         by (Some plan) same into =
-            space_of.by_alone q.m q.nodes q.owners q.listings o (walk.cut q).0 q.growth (plan_in q.placed.placing) q.placed.dir (want.grown q).0 to plan into
-            (λ e id address. there address (λ other its not_alone. clash (walk.alone q) e not_alone) k used)
+            space_of.by_alone q.m q.nodes q.owners q.listings o (walk.cut q).0 q.growth (plan_in pl.placing) pl.dir (want.grown q).0 to plan into
+            (λ e id address. there address (λ other its not_alone. clash (walk.alone q pl) e not_alone) k used)
             (λ e is_new other address. anew_at plan same e is_new address k used
-            (taken_either (takings_of (id_in (plan_in q.placed.placing)) (parts_in (plan_in q.placed.placing))) (taking_of q.placed.dir) k
+            (taken_either (takings_of (id_in (plan_in pl.placing)) (parts_in (plan_in pl.placing))) (taking_of pl.dir) k
             ∙ ap₂ (λ (a : Bool) (x : Option Plan). a || is_taken (taking_of x) k)
-            (space_of.not_before q.m q.nodes q.owners q.listings o (walk.cut q).0 q.growth (plan_in q.placed.placing) q.placed.dir (want.grown q).0 to (plan_in q.placed.placing) k (object_free (plan_in q.placed.placing) to.own)) same
+            (space_of.not_before q.m q.nodes q.owners q.listings o (walk.cut q).0 q.growth (plan_in pl.placing) pl.dir (want.grown q).0 to (plan_in pl.placing) k (object_free (plan_in pl.placing) to.own)) same
             ∙ ap (λ (b : Bool). b || false) (ne_eqb plan.id k (λ both. clash (is_used q.m k) used (ap (is_used q.m) (sym both) ∙ new_id_unused q.m plan.id is_new)))))

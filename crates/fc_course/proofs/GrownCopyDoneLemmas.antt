@@ -5,14 +5,14 @@ use Rattle.fc_change.specs.declared.change.Says.{Says}
 use Rattle.fc_course.proofs.CopyingFileLemmas.{IsCopiedFile}
 use Rattle.fc_course.proofs.CopyingLengthLemmas.{image_long}
 use Rattle.fc_course.proofs.GrownCopyEditLemmas.{dir_other}
-use Rattle.fc_course.proofs.GrownCopyMadeLemmas.{MadeCopy, copying_of}
+use Rattle.fc_course.proofs.GrownCopyMadeLemmas.{MadeCopy, copying_of, placed_copy}
 use Rattle.fc_course.proofs.GrownCopyOutLemmas as out_of
 use Rattle.fc_course.proofs.GrownCopyRunLemmas.{copying, its_space, lies_now, sectors_then, size_now}
-use Rattle.fc_course.proofs.GrownCopyWantLemmas.{CopiedRename, IsCopyAt, bytes_is, copy_at, file, from_is, source}
+use Rattle.fc_course.proofs.GrownCopyWantLemmas.{CopiedRename, IsCopyAt, bytes_is, copy_at, file, from_is, source, spotted}
 use Rattle.fc_course.proofs.GrownMoveDoneLemmas as done
 use Rattle.fc_course.proofs.GrownMoveEditLemmas.{IsSaidNow, become}
 use Rattle.fc_course.proofs.GrownMoveGrowsLemmas.{its_grows}
-use Rattle.fc_course.proofs.GrownMoveMadeLemmas.{EditedRename, up_in}
+use Rattle.fc_course.proofs.GrownMoveMadeLemmas.{EditedRename, IsPlacedEdit, up_in}
 use Rattle.fc_course.proofs.GrownMoveNodeLemmas.{growing_in}
 use Rattle.fc_course.proofs.GrownMoveRunLemmas.{stepped}
 use Rattle.fc_course.proofs.GrownMoveSaidLemmas.{it, l, now}
@@ -57,16 +57,19 @@ use Rattle.fc_writing.specs.declared.ready.Transfer.{Transfer}
 use Rattle.std.proofs.Common.{Bool, List, [], ap, ap₂, cond, inl, inr, length, refl, subst, sym, ℕ, ⊎_elim, ◌++◌, ◌∙◌, ◌∷◌, ◌≡◌, ◌⊎◌}
 use Rattle.std.specs.Prelude.{Contains, map}
 
-module _ (w : CopiedRename) (md : MadeCopy w) (m' : Map) (given : IsGiven w.q.m w.pr.ready m') (suffice : PlacesSuffice (Layout.New w.q.m)) (bytes was image : List ℕ)
+module _ (w : CopiedRename) (md : MadeCopy (spotted w)) (m' : Map) (given : IsGiven w.q.m w.pr.ready m') (suffice : PlacesSuffice (Layout.New w.q.m)) (bytes was image : List ℕ)
     (opens : OpensAs was w.q.kind (record { kind = w.q.kind; layout = Layout.New w.q.m; listings = w.q.listings })) (changed : IsChanged w.q.m m' w.pr.ready bytes was image) where
   abbrev q : GrownRename
   q = w.q
 
   abbrev e : EditedRename
-  e = copying_of w md.c
+  e = copying_of (spotted w) md.c
 
-  abbrev at : IsCopyAt w.q
-  at = copy_at w.q w.copied
+  abbrev pl : IsPlacedEdit (copying_of (spotted w) md.c)
+  pl = placed_copy w md.c
+
+  abbrev at : IsCopyAt w.q w.placed
+  at = copy_at w.q w.placed w.copied
 
   abbrev its : IsCopiedFile w.q.m w.q.nodes w.q.listings w.q.from w.q.to w.q.r w.q.seen.known.target.object
   its = file w.q w.copied
@@ -81,7 +84,7 @@ module _ (w : CopiedRename) (md : MadeCopy w) (m' : Map) (given : IsGiven w.q.m 
   view = record { kind = w.q.kind; layout = Layout.New w.q.m; listings = w.q.listings }
 
   t : (t : Transfer) × (w.pr.ready.source ≡ sources.Sectors t) × (t.from.items ≡ at.from.items) × (t.to.items ≡ at.place.extents.items)
-  t = source w
+  t = source (spotted w)
 
   abbrev pieces : List Put
   pieces = map put_of w.pr.ready.early.items ++ map put_of w.pr.ready.late.items
@@ -93,10 +96,10 @@ module _ (w : CopiedRename) (md : MadeCopy w) (m' : Map) (given : IsGiven w.q.m 
   piece_of : (x : Put) → Contains pieces x → (p : Piece) × (put_of p ≡ x) × (a : Amended) × Contains md.part.order a × (s : Says) × IsSaidNow w.q (become w.q (edit md.c)) (up_in w.q (it w.q)) a s p
   piece_of x there =
       ⊎_elim (λ own. absurd (no_element x (subst (λ (s : Source). Contains (source_puts s bytes) x) t.1 own))) (λ told. told)
-      (done.put_of_told e md.part m' given bytes x (subst (λ (ps : List Put). Contains ps x) (sym pieces_are) there))
+      (done.put_of_told e pl md.part m' given bytes x (subst (λ (ps : List Put). Contains ps x) (sym pieces_are) there))
 
   long : AreLong size pieces
-  long x there = let p = piece_of x there in done.long_told e md.part m' given bytes x p.0 p.1 p.2 p.4 p.5
+  long x there = let p = piece_of x there in done.long_told e pl md.part m' given bytes x p.0 p.1 p.2 p.4 p.5
 
   -- ---- the file
 
@@ -115,17 +118,17 @@ module _ (w : CopiedRename) (md : MadeCopy w) (m' : Map) (given : IsGiven w.q.m 
   copied_over : AreCopied size was image w.q.seen.known.target.object.sectors then.sectors
   copied_over =
       subst (λ (ss : List ℕ). AreCopied size was image (it q).sectors ss) (ap sectors_in t.3 ∙ sym (sectors_then w md m' given))
-      (subst (λ (ss : List ℕ). AreCopied size was image ss (sectors_in t.0.to.items)) (ap sectors_in t.2 ∙ from_is w) (out_of.are_copied size was bytes w.pr.ready t.0 t.1 w.ready.carried image changed.written))
+      (subst (λ (ss : List ℕ). AreCopied size was image ss (sectors_in t.0.to.items)) (ap sectors_in t.2 ∙ from_is (spotted w)) (out_of.are_copied size was bytes w.pr.ready t.0 t.1 w.ready.carried image changed.written))
 
   same_bytes : object_bytes image (Layout.New m') then ≡ object_bytes was (Layout.New w.q.m) w.q.seen.known.target.object
   same_bytes =
-      copied_bytes_law q.m m' (it q) then was image (stepped e m' given).geometry placed (lies_now w md m' given) (size_now w md m' given ∙ bytes_is q w.copied ∙ sym its.size) copied_over
+      copied_bytes_law q.m m' (it q) then was image (stepped e pl m' given).geometry placed (lies_now w md m' given) (size_now w md m' given ∙ bytes_is q w.copied ∙ sym its.size) copied_over
 
   file_there : bytes_in size image md.c.sectors (length stored) ≡ stored
   file_there =
       ap (bytes_in size image md.c.sectors) (stored_long ∙ ap (λ (o : Object). o.entry.len) md.o_is ∙ sym (size_now w md m' given ∙ bytes_is q w.copied))
       ∙ ap (λ (ss : List ℕ). bytes_in size image ss (object_size (dir_form (Layout.New m')) then.entry)) (md.sectors ∙ sym (sectors_then w md m' given))
-      ∙ ap (λ (g : Geometry). bytes_in g.sector image then.sectors (object_size (dir_form (Layout.New m')) then.entry)) (sym (stepped e m' given).geometry)
+      ∙ ap (λ (g : Geometry). bytes_in g.sector image then.sectors (object_size (dir_form (Layout.New m')) then.entry)) (sym (stepped e pl m' given).geometry)
       ∙ same_bytes ∙ ap (object_bytes was (Layout.New q.m)) (sym md.o_is)
 
   -- ---- all of it
@@ -140,10 +143,10 @@ module _ (w : CopiedRename) (md : MadeCopy w) (m' : Map) (given : IsGiven w.q.m 
   out =
       out_of.copied_out size was bytes w.pr.ready t.0 t.1 w.ready.carried image changed.written long (Layout.New q.m) refl changed.others file_put (md.sectors ∙ sym (ap sectors_in t.3)) file_there
 
-  written_all : (a : Amended) → Contains (grown_edit md.c (growing_in (copying_of w md.c) md.part)).amended a
-      → IsDirectoryPut (Layout.New m') (regrown (edit md.c) (growing_in (copying_of w md.c) md.part) a.was.object) a.content puts
+  written_all : (a : Amended) → Contains (grown_edit md.c (growing_in (copying_of (spotted w) md.c) md.part)).amended a
+      → IsDirectoryPut (Layout.New m') (regrown (edit md.c) (growing_in (copying_of (spotted w) md.c) md.part) a.was.object) a.content puts
   written_all a there =
-      let d = done.written_all e md.part m' given bytes a there in
+      let d = done.written_all e pl md.part m' given bytes a there in
       record {
         bytes = d.bytes;
         among = contains_later file_put (record { sectors = (regrown (edit md.c) (growing_in e md.part) a.was.object).sectors; bytes = d.bytes }) pieces
@@ -153,11 +156,11 @@ module _ (w : CopiedRename) (md : MadeCopy w) (m' : Map) (given : IsGiven w.q.m 
       }
 
   whose_all : (x : Put) → Contains puts x
-      → ((a : Amended) × Contains (grown_edit md.c (growing_in (copying_of w md.c) md.part)).amended a × (x.sectors ≡ (regrown (edit md.c) (growing_in (copying_of w md.c) md.part) a.was.object).sectors))
+      → ((a : Amended) × Contains (grown_edit md.c (growing_in (copying_of (spotted w) md.c) md.part)).amended a × (x.sectors ≡ (regrown (edit md.c) (growing_in (copying_of (spotted w) md.c) md.part) a.was.object).sectors))
       ⊎ (x.sectors ≡ md.c.sectors)
   whose_all x there =
       ⊎_elim (λ is. inr (ap (λ (p : Put). p.sectors) (sym is)))
-      (λ piece. inl (let p = piece_of x piece in done.whose_told e md.part m' given bytes x p.0 p.1 p.2 p.3 p.4 p.5)) (contains_cases file_put x pieces there)
+      (λ piece. inl (let p = piece_of x piece in done.whose_told e pl md.part m' given bytes x p.0 p.1 p.2 p.3 p.4 p.5)) (contains_cases file_put x pieces there)
 
   module _ (owners' : List Owner) (number : ℕ) (after : AreOwnersAfter (Layout.New m') w.q.nodes w.pr.change (owners_admitted (Layout.New w.q.m) w.pr.change.object number w.q.owners) owners') where
     asks : IsToCopyGrown (copying w md m' given owners' number after) w.q.from w.q.to
@@ -168,7 +171,7 @@ module _ (w : CopiedRename) (md : MadeCopy w) (m' : Map) (given : IsGiven w.q.m 
           ∙ ap (λ (n : List ℕ). is_same_path q.to ((l q).object.path ++ n ∷ [])) q.seen.name_is ∙ lies_there q.to (l q).object.path q.seen.known.destination.no_root q.seen.known.destination.above;
       name_is = sym q.seen.name_is ∙ sym md.name_is;
       shares = ap (is_copied_in view q.from q.to) md.o_is ∙ its.copied q.kind;
-      grows = its_grows e md.part;
+      grows = its_grows e pl md.part;
       into_it = md.l_is;
       place = its_space w md m' given;
     }
@@ -176,22 +179,22 @@ module _ (w : CopiedRename) (md : MadeCopy w) (m' : Map) (given : IsGiven w.q.m 
     written : NewGrownCopyingWritten (copying w md m' given owners' number after) w.q.from w.q.to puts stored was image
     unfolding copying
     written = record {
-      r = (done.kind_is e md.part m' given bytes was image opens changed).0;
-      new_kind = (done.kind_is e md.part m' given bytes was image opens changed).1;
+      r = (done.kind_is e pl md.part m' given bytes was image opens changed).0;
+      new_kind = (done.kind_is e pl md.part m' given bytes was image opens changed).1;
       opens = opens;
       its = asks;
       left = md.left;
       joined = md.joined;
       says = λ a there.
           subst (λ (n : ℕ). IsRewritten (Command.Rename q.from q.to) a.was.object.path n a.was.content a.content)
-          (ap (λ (d : Bool). cond d (want.grown q).0.directory.address (now q a.was.object.path)) (dir_other w a.was (done.found_all e md.part m' given bytes a there))) (done.says_all e md.part m' given bytes a there);
+          (ap (λ (d : Bool). cond d (want.grown q).0.directory.address (now q a.was.object.path)) (dir_other (spotted w) a.was (done.found_all e md.part a there))) (done.says_all e md.part a there);
       written = written_all;
       stored_put = contains_here file_put pieces;
       stored_is = refl;
       stored_long = stored_long;
       whose = whose_all;
       out = out;
-      map = done.map_now e md.part m' given bytes was image opens changed;
+      map = done.map_now e pl md.part m' given bytes was image opens changed;
     }
 
     -- The command has done what it promises.

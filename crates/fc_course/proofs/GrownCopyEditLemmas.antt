@@ -4,7 +4,7 @@ use Rattle.fc_change.specs.declared.change.Says.{Says}
 use Rattle.fc_change.specs.declared.spaces.Place.{Place}
 use Rattle.fc_changes.proofs.BasicLemmas.{clash}
 use Rattle.fc_course.proofs.CopyingFileLemmas.{IsCopiedFile}
-use Rattle.fc_course.proofs.GrownCopyWantLemmas.{CopiedRename, IsCopyAt, base, copy_at, file}
+use Rattle.fc_course.proofs.GrownCopyWantLemmas.{IsCopySpot, SpottedRename, base, file}
 use Rattle.fc_course.proofs.GrownMoveReadyLemmas.{IsHomeTold, about_cut, above_free, home_told_of, own_cut, pieces_are, told, whole, whole_home}
 use Rattle.fc_course.proofs.GrownMoveReadyLemmas as ready_of
 use Rattle.fc_course.proofs.GrownMoveSaidLemmas.{FirstSays, entered_says, it, layout, listed, now, rewritten_own}
@@ -35,12 +35,12 @@ use Rattle.std.proofs.lemmas.Bool.{false_from_ne_true as unless, ne_eqb}
 use Rattle.std.specs.Option.{option_map, unwrap_or}
 use Rattle.std.specs.Prelude.{Contains}
 
-module _ (w : CopiedRename) where
+module _ (w : SpottedRename) where
   abbrev q : GrownRename
   q = w.q
 
-  abbrev pub lies_at : IsCopyAt w.q
-  lies_at = copy_at w.q w.copied
+  abbrev pub lies_at : IsCopySpot w.q
+  lies_at = w.spot
 
   abbrev pub its : IsCopiedFile w.q.m w.q.nodes w.q.listings w.q.from w.q.to w.q.r w.q.seen.known.target.object
   its = file w.q w.copied
@@ -60,7 +60,7 @@ module _ (w : CopiedRename) where
   abbrev pub there : Entry
   there = renamed_entry w.q.seen.known.target.object.entry w.q.name lies_at.place.address
 
-  pub entry_at : entry_now w.q ≡ renamed_entry w.q.seen.known.target.object.entry w.q.name (copy_at w.q w.copied).place.address
+  pub entry_at : entry_now w.q ≡ renamed_entry w.q.seen.known.target.object.entry w.q.name w.spot.place.address
   entry_at = ap (λ (o : Option Place). renamed_entry (it q).entry q.name (unwrap_or (option_map (λ (y : Place). y.address) o) (it q).entry.address)) lies_at.object
 
   abbrev pub content : Directory

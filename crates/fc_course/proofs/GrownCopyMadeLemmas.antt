@@ -7,11 +7,11 @@ use Rattle.fc_change.specs.declared.change.Turned.TheVariants as turns
 use Rattle.fc_change.specs.declared.spaces.Place.{Place}
 use Rattle.fc_course.proofs.GrownCopyBackLemmas.{back_unused}
 use Rattle.fc_course.proofs.GrownCopyEditLemmas.{all_stay, away, content, dir_other, entered, entry_at, home, is_b, its, lies_at, no_own, no_own_piece, ns_are, rd, says, stays_as, there, tl}
-use Rattle.fc_course.proofs.GrownCopyWantLemmas.{CopiedRename, base, copy_at}
+use Rattle.fc_course.proofs.GrownCopyWantLemmas.{CopiedRename, SpottedRename, base, spotted}
 use Rattle.fc_course.proofs.GrownMoveAsideLemmas.{from_home, held_in_it, holder_other, k_told, k_up}
 use Rattle.fc_course.proofs.GrownMoveEditLemmas.{AllSaidNow, IsPlainEdit, IsSaidNow, KeepsBody, become}
 use Rattle.fc_course.proofs.GrownMoveFirstLemmas.{first_said, home_said, told_in, untold_in}
-use Rattle.fc_course.proofs.GrownMoveMadeLemmas.{EditedRename, MadeEdit, up_in}
+use Rattle.fc_course.proofs.GrownMoveMadeLemmas.{EditedRename, IsPlacedEdit, MadeEdit, up_in}
 use Rattle.fc_course.proofs.GrownMovePartLemmas.{IsGrownMove, PlainMove}
 use Rattle.fc_course.proofs.GrownMoveReadyLemmas.{about_cut, above_free, own_cut, pieces_are, told, whole, whole_home}
 use Rattle.fc_course.proofs.GrownMoveSaidLemmas.{anew, grown_numb, holder_numb, holding_says, home_numb, it, k, l, layout, listed, now, numb, plain_says, regrown_name, unlike}
@@ -53,31 +53,33 @@ use Rattle.std.proofs.lemmas.List.{append-nil}
 use Rattle.std.proofs.lemmas.List.Sorted.{Contains-permutation, IsPermutation-middle, IsPermutation-refl, IsPermutation-sym, IsPermutation-trans}
 use Rattle.std.specs.Prelude.{Contains, IsPermutation}
 
-abbrev pub copying_of : CopiedRename → Copying → EditedRename
+abbrev pub copying_of : SpottedRename → Copying → EditedRename
 copying_of w c = record {
   q = w.q;
   pr = w.pr;
   change = w.change;
   ready = w.ready;
-  unused = back_unused w.q w.copied;
   e = edit c;
   then = copied c w.q.seen.known.target.object;
 }
 
+abbrev pub placed_copy : (w : CopiedRename) (c : Copying) → IsPlacedEdit (copying_of (spotted w) c)
+placed_copy w c = record { placed = w.placed; unused = back_unused w.q w.placed w.copied }
+
 -- The file becomes its copy.
-pub record MadeCopy (w : CopiedRename) : Type 0 where
+pub record MadeCopy (w : SpottedRename) : Type 0 where
   pub c : Copying
   pub part : MadeEdit (copying_of w c)
   pub copies : Copies w.q.nodes w.q.listings c
   pub o_is : c.o ≡ w.q.seen.known.target.object
   pub name_is : c.name ≡ w.q.name
   pub l_is : c.l.object ≡ w.q.seen.known.destination.listing.object
-  pub address : c.address ≡ (copy_at w.q w.copied).place.address
-  pub sectors : c.sectors ≡ sectors_in (copy_at w.q w.copied).place.extents.items
+  pub address : c.address ≡ w.spot.place.address
+  pub sectors : c.sectors ≡ sectors_in w.spot.place.extents.items
   pub left : entries_of c.k_content ≡ without_name (last_name w.q.from) (entries_of c.k.content)
   pub joined : entries_of c.l_content ≡ with_made (Some (copied c c.o).entry) (entries_of c.l.content)
 
-module _ (w : CopiedRename) where
+module _ (w : SpottedRename) where
   abbrev q : GrownRename
   q = w.q
 

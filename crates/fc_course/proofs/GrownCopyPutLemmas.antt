@@ -5,9 +5,9 @@ use Rattle.fc_change.specs.Places.{plan_in}
 use Rattle.fc_changes.proofs.BasicLemmas.{clash}
 use Rattle.fc_course.proofs.CopyingFileLemmas.{IsCopiedFile}
 use Rattle.fc_course.proofs.GrownAskedLemmas.{view_with}
-use Rattle.fc_course.proofs.GrownCopyMadeLemmas.{MadeCopy, copying_of}
-use Rattle.fc_course.proofs.GrownCopyWantLemmas.{CopiedRename, IsCopyAt, bytes_is, copy_at, file, from_is, source}
-use Rattle.fc_course.proofs.GrownMoveMadeLemmas.{EditedRename}
+use Rattle.fc_course.proofs.GrownCopyMadeLemmas.{MadeCopy, copying_of, placed_copy}
+use Rattle.fc_course.proofs.GrownCopyWantLemmas.{CopiedRename, IsCopyAt, bytes_is, copy_at, file, from_is, source, spotted}
+use Rattle.fc_course.proofs.GrownMoveMadeLemmas.{EditedRename, IsPlacedEdit}
 use Rattle.fc_course.proofs.GrownMoveMayLemmas as may
 use Rattle.fc_course.proofs.GrownMovePutLemmas as put
 use Rattle.fc_course.proofs.GrownMoveRestLemmas.{it_among}
@@ -57,15 +57,18 @@ use Rattle.std.proofs.lemmas.List.Elements.{All-nil}
 use Rattle.std.specs.Int.{div_ceil}
 use Rattle.std.specs.Prelude.{Contains}
 
-module _ (w : CopiedRename) (md : MadeCopy w) where
+module _ (w : CopiedRename) (md : MadeCopy (spotted w)) where
   abbrev q : GrownRename
   q = w.q
 
   abbrev e : EditedRename
-  e = copying_of w md.c
+  e = copying_of (spotted w) md.c
 
-  abbrev at : IsCopyAt w.q
-  at = copy_at w.q w.copied
+  abbrev pl : IsPlacedEdit (copying_of (spotted w) md.c)
+  pl = placed_copy w md.c
+
+  abbrev at : IsCopyAt w.q w.placed
+  at = copy_at w.q w.placed w.copied
 
   abbrev its : IsCopiedFile w.q.m w.q.nodes w.q.listings w.q.from w.q.to w.q.r w.q.seen.known.target.object
   its = file w.q w.copied
@@ -77,7 +80,7 @@ module _ (w : CopiedRename) (md : MadeCopy w) where
   mapped = map_sectors w.q.m.geometry
 
   t : (t : Transfer) × (w.pr.ready.source ≡ from.Sectors t) × (t.from.items ≡ at.from.items) × (t.to.items ≡ at.place.extents.items)
-  t = source w
+  t = source (spotted w)
 
   -- ---- what is written, and what is read
 
@@ -85,7 +88,7 @@ module _ (w : CopiedRename) (md : MadeCopy w) where
   written_is = put.written_is e md.part ∙ ap (λ (s : Source). source_place s ++ put.dirs_place e md.part) t.1 ∙ ap (λ (ss : List ℕ). ss ++ put.dirs_place e md.part) (ap sectors_in t.3)
 
   copied_is : copied_place w.pr.ready ≡ w.q.seen.known.target.object.sectors
-  copied_is = put.copied_is e md.part ∙ ap source_from t.1 ∙ ap sectors_in t.2 ∙ from_is w
+  copied_is = put.copied_is e md.part ∙ ap source_from t.1 ∙ ap sectors_in t.2 ∙ from_is (spotted w)
 
   -- ---- the sectors
 
@@ -113,18 +116,18 @@ module _ (w : CopiedRename) (md : MadeCopy w) where
   among : (d : Listing) → Contains w.q.listings d → Contains (objects_of w.q.listings) d.object
   among d listed = (listed_directory (layout q) q.listings q.seen.sound d listed).0
 
-  plan_is : plan_in w.q.placed.placing ≡ Some at.plan
+  plan_is : plan_in w.placed.placing ≡ Some at.plan
   plan_is = ap plan_in at.plan_is
 
   grown_apart : is_apart new grown ≡ true
   grown_apart =
       subst (λ (ss : List ℕ). is_apart ss grown ≡ true) (sym at.sectors)
-      (subst (λ (o : Option Plan). IsToGrow q.m q.nodes q.owners q.listings (l q).object (walk.cut q).0 q.growth o q.placed.dir (want.grown q).0 → is_apart (place_of_plan q.m.geometry at.plan q.wants.bytes) grown ≡ true) (sym plan_is)
-      (λ to. apart_own q.kind q.m q.nodes q.owners q.root q.listings q.agreed (l q) (walk.cut q).0 q.growth at.plan q.placed.dir (want.grown q).0 to q.wants.bytes at.own) (walk.to_grow q))
+      (subst (λ (o : Option Plan). IsToGrow q.m q.nodes q.owners q.listings (l q).object (walk.cut q).0 q.growth o w.placed.dir (want.grown q).0 → is_apart (place_of_plan q.m.geometry at.plan q.wants.bytes) grown ≡ true) (sym plan_is)
+      (λ to. apart_own q.kind q.m q.nodes q.owners q.root q.listings q.agreed (l q) (walk.cut q).0 q.growth at.plan w.placed.dir (want.grown q).0 to q.wants.bytes at.own) (walk.to_grow q w.placed))
 
   all_room : AreRoom (disc_sectors (Layout.New w.q.m)) (map_sectors w.q.m.geometry) (new ++ put.dirs_place e md.part)
   all_room =
-      room_both (disc_sectors (layout q)) mapped new (put.dirs_place e md.part) new_room.room (put.dirs_there e md.part)
+      room_both (disc_sectors (layout q)) mapped new (put.dirs_place e md.part) new_room.room (put.dirs_there e pl md.part)
       (flipped (put.dirs_place e md.part) new (apart_both grown (places others) new (flipped new grown grown_apart) (flipped new (places others) (dirs_apart new (λ d listed. new_room.apart d.object (among d listed))))))
 
   -- a directory is another object than the file
@@ -137,7 +140,7 @@ module _ (w : CopiedRename) (md : MadeCopy w) where
 
   it_grown : is_apart w.q.seen.known.target.object.sectors grown ≡ true
   it_grown =
-      let has = may_have q.kind q.m q.nodes q.owners q.root q.listings q.agreed (l q) (listed q) (walk.cut q).0 q.growth (plan_in q.placed.placing) q.placed.dir (want.grown q).0 (walk.to_grow q) in
+      let has = may_have q.kind q.m q.nodes q.owners q.root q.listings q.agreed (l q) (listed q) (walk.cut q).0 q.growth (plan_in w.placed.placing) w.placed.dir (want.grown q).0 (walk.to_grow q w.placed) in
       ⊎_elim (λ same. absurd (clash (is_directory_object (it q)) (ap is_directory_object same ∙ (listed_directory (layout q) q.listings q.seen.sound (l q) (listed q)).1) its.file)) (λ apart. apart) (has.beside (it q) (it_among q))
 
   its_apart : is_apart w.q.seen.known.target.object.sectors (new ++ put.dirs_place e md.part) ≡ true
@@ -170,12 +173,12 @@ module _ (w : CopiedRename) (md : MadeCopy w) where
     unmapped = subst (λ (ss : List ℕ). is_apart ss mapped ≡ true) (sym copied_is)
         (apart_front (it q).sectors mapped (boot_place q.kind q.m.geometry.sector) (agreed_law.placed q.kind q.m q.nodes q.owners q.root q.listings q.agreed (it q) (it_among q)).1);
     source_enough = subst IsSourceEnough (sym t.1) (subst (λ (ts : List ℕ). length ts ≤ length (sectors_in t.0.from.items)) (sym (ap sectors_in t.3))
-        (subst (λ (fs : List ℕ). length new ≤ length fs) (sym (ap sectors_in t.2 ∙ from_is w)) long_enough));
+        (subst (λ (fs : List ℕ). length new ≤ length fs) (sym (ap sectors_in t.2 ∙ from_is (spotted w))) long_enough));
     enough = subst (λ (ts : List Transfer). All IsEnough ts) (sym w.ready.carried) (All-nil IsEnough);
   }
 
   pub can_write : TellsVersion (Layout.New w.q.m) → (n : ℕ) → disc_sectors (Layout.New w.q.m) ≤ n → CanWrite n w.q.m w.pr.ready
-  can_write tells n most = put.writes e md.part tells n (can_put n most)
+  can_write tells n most = put.writes e pl md.part tells n (can_put n most)
 
   -- ---- at any moment
 
@@ -184,6 +187,6 @@ module _ (w : CopiedRename) (md : MadeCopy w) where
   all_may was opens =
       let view = view_with q.kind q.m q.listings in
       let c = Command.Rename q.from q.to in
-      may.all_may e md.part was opens
+      may.all_may e pl md.part was opens
       (subst (λ (s : Source). MayBeWritten q.kind view q.m c (source_place s)) (sym t.1)
       (subst (λ (ss : List ℕ). MayBeWritten q.kind view q.m c ss) (sym (ap sectors_in t.3)) (places_law.holes q.kind was view q.m c new (record { opens = opens; layout = refl }) new_free)))

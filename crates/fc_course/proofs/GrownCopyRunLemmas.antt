@@ -14,10 +14,10 @@ use Rattle.fc_course.proofs.CopyingSlackLemmas.{no_slack}
 use Rattle.fc_course.proofs.GrownChangeLemmas.{IsGrownStepped, taking_of, takings}
 use Rattle.fc_course.proofs.GrownCopyBackLemmas as back_of
 use Rattle.fc_course.proofs.GrownCopyEditLemmas.{entry_at}
-use Rattle.fc_course.proofs.GrownCopyMadeLemmas.{MadeCopy, copying_of}
-use Rattle.fc_course.proofs.GrownCopyWantLemmas.{CopiedRename, IsCopyAt, bytes_is, copy_at, file}
+use Rattle.fc_course.proofs.GrownCopyMadeLemmas.{MadeCopy, copying_of, placed_copy}
+use Rattle.fc_course.proofs.GrownCopyWantLemmas.{CopiedRename, IsCopyAt, bytes_is, copy_at, file, spotted}
 use Rattle.fc_course.proofs.GrownMoveGrowsLemmas.{lies_now as grown_lies}
-use Rattle.fc_course.proofs.GrownMoveMadeLemmas.{EditedRename}
+use Rattle.fc_course.proofs.GrownMoveMadeLemmas.{EditedRename, IsPlacedEdit}
 use Rattle.fc_course.proofs.GrownMoveNodeLemmas.{growing_in}
 use Rattle.fc_course.proofs.GrownMoveNodeLemmas as move_of
 use Rattle.fc_course.proofs.GrownMoveRestLemmas as rest_of
@@ -62,20 +62,23 @@ use Rattle.fc_plan.specs.declared.plan.Plan.{Plan}
 use Rattle.fc_record.specs.declared.Geometry.{Geometry}
 use Rattle.fc_tree.specs.Agree.{Agree}
 use Rattle.fc_writing.specs.New.{IsGiven}
-use Rattle.std.proofs.Common.{Bool, List, Option, Some, ap, ap₂, cond, false, inl, inr, length, subst, sym, true, ℕ, ◌&&◌, ◌*◌, ◌++◌, ◌<◌, ◌==◌, ◌||◌, ◌∙◌, ◌∷◌, ◌≡◌}
+use Rattle.std.proofs.Common.{Bool, List, Option, Some, ap, ap₂, cond, false, inl, inr, length, subst, sym, true, ℕ, ◌&&◌, ◌*◌, ◌++◌, ◌<◌, ◌==◌, ◌||◌, ◌∙◌, ◌∷◌, ◌≡◌, refl}
 use Rattle.std.proofs.lemmas.Bool.{ne_eqb}
 use Rattle.std.specs.Int.{div_ceil}
 use Rattle.std.specs.Prelude.{IfSome, IsPermutation, nat_lt}
 
-module _ (w : CopiedRename) (md : MadeCopy w) (m' : Map) (given : IsGiven w.q.m w.pr.ready m') where
+module _ (w : CopiedRename) (md : MadeCopy (spotted w)) (m' : Map) (given : IsGiven w.q.m w.pr.ready m') where
   abbrev q : GrownRename
   q = w.q
 
   abbrev e : EditedRename
-  e = copying_of w md.c
+  e = copying_of (spotted w) md.c
 
-  abbrev at : IsCopyAt w.q
-  at = copy_at w.q w.copied
+  abbrev pl : IsPlacedEdit (copying_of (spotted w) md.c)
+  pl = placed_copy w md.c
+
+  abbrev at : IsCopyAt w.q w.placed
+  at = copy_at w.q w.placed w.copied
 
   abbrev its : IsCopiedFile w.q.m w.q.nodes w.q.listings w.q.from w.q.to w.q.r w.q.seen.known.target.object
   its = file w.q w.copied
@@ -84,7 +87,7 @@ module _ (w : CopiedRename) (md : MadeCopy w) (m' : Map) (given : IsGiven w.q.m 
   then = copied md.c w.q.seen.known.target.object
 
   abbrev gr : Growing
-  gr = growing_in (copying_of w md.c) md.part
+  gr = growing_in (copying_of (spotted w) md.c) md.part
 
   abbrev id : ℕ
   id = at.plan.id
@@ -101,10 +104,10 @@ module _ (w : CopiedRename) (md : MadeCopy w) (m' : Map) (given : IsGiven w.q.m 
   abbrev low : ℕ
   low = file_low w.q.m.geometry room w.q.wants.bytes
 
-  pub st : IsGrownStepped w.q.m m' (plan_in w.q.placed.placing) w.q.placed.dir (walk.alone w.q) (root_of (Some (want.grown w.q).0)) (want.back w.q)
-  st = stepped e m' given
+  pub st : IsGrownStepped w.q.m m' (plan_in w.placed.placing) w.placed.dir (walk.alone w.q w.placed) (root_of (Some (want.grown w.q).0)) (want.back w.q w.placed)
+  st = stepped e pl m' given
 
-  plan_is : plan_in w.q.placed.placing ≡ Some at.plan
+  plan_is : plan_in w.placed.placing ≡ Some at.plan
   plan_is = ap plan_in at.plan_is
 
   same_form : dir_form (Layout.New m') ≡ dir_form (Layout.New w.q.m)
@@ -113,12 +116,12 @@ module _ (w : CopiedRename) (md : MadeCopy w) (m' : Map) (given : IsGiven w.q.m 
   -- ---- the copy
 
   entry_then : then.entry ≡ renamed_entry w.q.seen.known.target.object.entry w.q.name at.place.address
-  entry_then = md.part.entry ∙ entry_at w
+  entry_then = md.part.entry ∙ entry_at (spotted w)
 
   pub then_is : then ≡ copied md.c md.c.o
   then_is = ap (copied md.c) (sym md.o_is)
 
-  pub sectors_then : (copied md.c w.q.seen.known.target.object).sectors ≡ sectors_in (copy_at w.q w.copied).place.extents.items
+  pub sectors_then : (copied md.c w.q.seen.known.target.object).sectors ≡ sectors_in (copy_at w.q w.placed w.copied).place.extents.items
   sectors_then = ap (λ (o : Object). o.sectors) (then_is ∙ is_copy md.c) ∙ md.sectors
 
   pub size_now : object_size (dir_form (Layout.New m')) (copied md.c w.q.seen.known.target.object).entry ≡ w.q.wants.bytes
@@ -160,8 +163,8 @@ module _ (w : CopiedRename) (md : MadeCopy w) (m' : Map) (given : IsGiven w.q.m 
       subst (λ (b : ℕ). IsInNewSpace q.m b (file_low q.m.geometry room b) id runs then) (sym same)
       (place_law.alone q.m bytes low at.plan then at.own (ap (λ (y : Entry). y.address) entry_then ∙ at.address))
 
-  pub its_space : IsInNewSpace w.q.m md.c.o.entry.len (file_low w.q.m.geometry (bits_in (fronts (copy_at w.q w.copied).plan.parts.items) * w.q.m.geometry.bit_bytes) md.c.o.entry.len) (copy_at w.q w.copied).plan.id
-      (fronts (copy_at w.q w.copied).plan.parts.items) (copied md.c md.c.o)
+  pub its_space : IsInNewSpace w.q.m md.c.o.entry.len (file_low w.q.m.geometry (bits_in (fronts (copy_at w.q w.placed w.copied).plan.parts.items) * w.q.m.geometry.bit_bytes) md.c.o.entry.len) (copy_at w.q w.placed w.copied).plan.id
+      (fronts (copy_at w.q w.placed w.copied).plan.parts.items) (copied md.c md.c.o)
   its_space =
       subst (λ (o : Object). IsInNewSpace q.m md.c.o.entry.len (file_low q.m.geometry room md.c.o.entry.len) id runs o) then_is
       (new_space md.c.o.entry.len (ap (λ (o : Object). o.entry.len) md.o_is ∙ sym (bytes_is q w.copied)))
@@ -176,7 +179,7 @@ module _ (w : CopiedRename) (md : MadeCopy w) (m' : Map) (given : IsGiven w.q.m 
 
   -- ---- its owner
 
-  pub owned_then : move_of.IsOwnedThen (copying_of w md.c) md.part m'
+  pub owned_then : move_of.IsOwnedThen (copying_of (spotted w) md.c) md.part m'
   owned_then = record {
     some = ap (nat_lt 0) as_long;
     now = ap (owner_if (Layout.New m') q.r.target.node q.r.holder) (sym md.part.entry)
@@ -187,23 +190,23 @@ module _ (w : CopiedRename) (md : MadeCopy w) (m' : Map) (given : IsGiven w.q.m 
 
   -- ---- space
 
-  pub space : IsSpaceChange w.q.m m' (takings_of id runs ++ taking_of w.q.placed.dir) (gone_at_once w.q.placed.dir (walk.alone w.q) ++ want.back w.q)
-  space = subst (λ (o : Option Plan). IsSpaceChange q.m m' (takings o q.placed.dir) (gone_at_once q.placed.dir (walk.alone q) ++ want.back q)) plan_is st.space
+  pub space : IsSpaceChange w.q.m m' (takings_of id runs ++ taking_of w.placed.dir) (gone_at_once w.placed.dir (walk.alone w.q w.placed) ++ want.back w.q w.placed)
+  space = subst (λ (o : Option Plan). IsSpaceChange q.m m' (takings o w.placed.dir) (gone_at_once w.placed.dir (walk.alone q w.placed) ++ want.back q w.placed)) plan_is st.space
 
-  pub gives : GivesBack w.q.m (takings_of id runs ++ taking_of w.q.placed.dir) (gone_at_once w.q.placed.dir (walk.alone w.q) ++ want.back w.q) w.q.listings (grown_edit md.c gr)
+  pub gives : GivesBack w.q.m (takings_of id runs ++ taking_of w.placed.dir) (gone_at_once w.placed.dir (walk.alone w.q w.placed) ++ want.back w.q w.placed) w.q.listings (grown_edit md.c gr)
   gives =
       let rest = rest_of.rest q in
       record {
         stay = rest.0;
         others = subst (λ (os : List Object). IsPermutation (objects_of q.listings) (os ++ rest.0)) (sym md.part.leave) (rest_of.beside q);
         exactly = λ n used.
-            back_of.gives q w.copied m' st (kept e m' given) then fresh n used
-            ∙ ap (λ (o : Option Plan). is_given_back (objects_of q.listings) (anew q ∷ then ∷ rest.0) n || is_taken (takings o q.placed.dir) n) plan_is
-            ∙ ap (λ (os : List Object). is_given_back (objects_of q.listings) (os ++ rest.0) n || is_taken (takings_of id runs ++ taking_of q.placed.dir) n) (sym md.part.join);
+            back_of.gives q w.placed w.copied m' st (kept e pl m' given) then fresh n used
+            ∙ ap (λ (o : Option Plan). is_given_back (objects_of q.listings) (anew q ∷ then ∷ rest.0) n || is_taken (takings o w.placed.dir) n) plan_is
+            ∙ ap (λ (os : List Object). is_given_back (objects_of q.listings) (os ++ rest.0) n || is_taken (takings_of id runs ++ taking_of w.placed.dir) n) (sym md.part.join);
       }
 
-  pub lies : IsGrownAt w.q.m (objects_of w.q.listings) (takings_of id runs) gr (taking_of w.q.placed.dir)
-  lies = subst (λ (o : Option Plan). IsGrownAt q.m (objects_of q.listings) (takings_of (id_in o) (parts_in o)) gr (taking_of q.placed.dir)) plan_is (grown_lies e md.part)
+  pub lies : IsGrownAt w.q.m (objects_of w.q.listings) (takings_of id runs) gr (taking_of w.placed.dir)
+  lies = subst (λ (o : Option Plan). IsGrownAt q.m (objects_of q.listings) (takings_of (id_in o) (parts_in o)) gr (taking_of w.placed.dir)) plan_is (grown_lies e pl md.part)
 
   -- ---- with its parts
 
@@ -223,21 +226,21 @@ module _ (w : CopiedRename) (md : MadeCopy w) (m' : Map) (given : IsGiven w.q.m 
       growing = gr;
       id = id;
       parts = runs;
-      own = taking_of w.q.placed.dir;
-      gone = gone_at_once w.q.placed.dir (walk.alone w.q) ++ want.back w.q;
+      own = taking_of w.placed.dir;
+      gone = gone_at_once w.placed.dir (walk.alone w.q w.placed) ++ want.back w.q w.placed;
       near = w.q.seen.known.target.object.path;
       agreed = w.q.agreed;
       copies = md.copies;
       grows = md.part.grows;
       nodes_edited = move_of.nodes_edited e md.part number;
-      owners_edited = move_of.owners_edited e md.part m' owned_then (grown_at e m' given) (grown_some e m' given) number owners' after;
+      owners_edited = move_of.owners_edited e md.part m' owned_then (move_of.grown_owner e md.part m' (anew w.q).sectors refl (grown_at e pl m' given)) (grown_some e pl m' given) number owners' after;
       is_map = st.edited.is_map;
       geometry = st.geometry;
       space = space;
       gives = gives;
       some = subst (λ (n : ℕ). 0 < n) (sym (walk.len_is w.q)) (walk.big w.q).more;
       lies = lies;
-      grown_at = grown_at e m' given;
+      grown_at = grown_at e pl m' given;
       at = subst (λ (o : Object). IsAt (Layout.New m') o) then_is lies_now;
       place = its_place;
     }

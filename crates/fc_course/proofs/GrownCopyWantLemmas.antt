@@ -8,7 +8,7 @@ use Rattle.fc_change.specs.declared.job.Job.TheVariants as jobs
 use Rattle.fc_change.specs.declared.spaces.Place.{Place}
 use Rattle.fc_course.proofs.CopyingFileLemmas.{IsCopiedFile, copied_file}
 use Rattle.fc_course.proofs.GrownMoveReadyLemmas.{ReadyRename}
-use Rattle.fc_course.proofs.GrownMoveWantLemmas.{GrownRename}
+use Rattle.fc_course.proofs.GrownMoveWantLemmas.{GrownRename, IsPlacedRename}
 use Rattle.fc_course.proofs.TargetLemmas as target_of
 use Rattle.fc_course.specs.declared.stages.Prepared.{Prepared}
 use Rattle.fc_device.specs.declared.disk.Extent.{Extent}
@@ -30,17 +30,35 @@ use Rattle.std.specs.declared.alloc.Global.{Global}
 pub record CopiedRename : Type 0 where
   pub q : GrownRename
   pub pr : Prepared
+  pub placed : IsPlacedRename q
   pub copied : is_copied (parts_with q.m q.nodes q.owners) q.r ≡ true
   pub change : IsChangeOf (parts_with q.m q.nodes q.owners) (jobs.Move q.r) q.name q.spaces pr.change
   pub ready : IsReadyFor (parts_with q.m q.nodes q.owners) pr.change q.spaces pr.ready
 
-abbrev pub base : CopiedRename → ReadyRename
+-- The place of a copy, and where its bytes come from.
+pub record IsCopySpot (q : GrownRename) : Type 0 where
+  pub place : Place
+  pub object : q.spaces.object ≡ Some place
+  pub from : Vec Extent Global
+  pub copied : q.spaces.copied ≡ Some from
+  pub lies : IsPlaceOf (Layout.New q.m) q.nodes q.r.target.node from.items
+
+-- One whose copy has a place, however it was found.
+pub record SpottedRename : Type 0 where
+  pub q : GrownRename
+  pub pr : Prepared
+  pub copied : is_copied (parts_with q.m q.nodes q.owners) q.r ≡ true
+  pub spot : IsCopySpot q
+  pub change : IsChangeOf (parts_with q.m q.nodes q.owners) (jobs.Move q.r) q.name q.spaces pr.change
+  pub ready : IsReadyFor (parts_with q.m q.nodes q.owners) pr.change q.spaces pr.ready
+
+abbrev pub base : SpottedRename → ReadyRename
 base w = record { q = w.q; pr = w.pr; change = w.change; ready = w.ready }
 
 -- The file gets new space of its own, and its bytes come from where it lies.
-pub record IsCopyAt (q : GrownRename) : Type 0 where
+pub record IsCopyAt (q : GrownRename) (pl : IsPlacedRename q) : Type 0 where
   pub plan : Plan
-  pub plan_is : q.placed.placing ≡ placings.New plan
+  pub plan_is : pl.placing ≡ placings.New plan
   pub own : IsOwnPlan q.m q.wants.bytes plan
   pub place : Place
   pub object : q.spaces.object ≡ Some place
@@ -82,39 +100,52 @@ module _ (q : GrownRename) (copied : is_copied (parts_with q.m q.nodes q.owners)
   from_at (Some n) None same at = absurd at
   from_at None o same at = absurd (cc)
 
-  pub copy_at : IsCopyAt q
-  copy_at =
-      let p = plan_of q.placed.placing q.placed.is in
-      let o = place_at p.0 q.spaces.object (subst (λ (x : Placing). IsPlaceFor q.m q.wants x q.spaces.object) p.1 q.placed.object) in
-      let f = from_at q.wants.copied q.spaces.copied copy_is q.placed.copied in
-      record {
-        plan = p.0;
-        plan_is = p.1;
-        own = p.2;
-        place = o.0;
-        object = o.1;
-        address = o.2;
-        sectors = o.3;
-        from = f.0;
-        copied = f.1;
-        lies = f.2;
-      }
+pub copy_at : (q : GrownRename) (pl : IsPlacedRename q) (copied : is_copied (parts_with q.m q.nodes q.owners) q.r ≡ true) → IsCopyAt q pl
+copy_at q pl copied =
+    let p = plan_of q copied pl.placing pl.is in
+    let o = place_at q copied p.0 q.spaces.object (subst (λ (x : Placing). IsPlaceFor q.m q.wants x q.spaces.object) p.1 pl.object) in
+    let f = from_at q copied q.wants.copied q.spaces.copied (copy_is q copied) pl.copied in
+    record {
+      plan = p.0;
+      plan_is = p.1;
+      own = p.2;
+      place = o.0;
+      object = o.1;
+      address = o.2;
+      sectors = o.3;
+      from = f.0;
+      copied = f.1;
+      lies = f.2;
+    }
+
+abbrev pub spotted : CopiedRename → SpottedRename
+spotted w = record {
+  q = w.q;
+  pr = w.pr;
+  copied = w.copied;
+  spot = record {
+    place = (copy_at w.q w.placed w.copied).place;
+    object = (copy_at w.q w.placed w.copied).object;
+    from = (copy_at w.q w.placed w.copied).from;
+    copied = (copy_at w.q w.placed w.copied).copied;
+    lies = (copy_at w.q w.placed w.copied).lies;
+  };
+  change = w.change;
+  ready = w.ready;
+}
 
 -- ---- where its bytes come from
 
-module _ (w : CopiedRename) where
-  abbrev at : IsCopyAt w.q
-  at = copy_at w.q w.copied
-
-  pub source : (t : Transfer) × (w.pr.ready.source ≡ sources.Sectors t) × (t.from.items ≡ (copy_at w.q w.copied).from.items) × (t.to.items ≡ (copy_at w.q w.copied).place.extents.items)
+module _ (w : SpottedRename) where
+  pub source : (t : Transfer) × (w.pr.ready.source ≡ sources.Sectors t) × (t.from.items ≡ w.spot.from.items) × (t.to.items ≡ w.spot.place.extents.items)
   source =
-      subst (λ (o : Option Place). IsSourceOf w.pr.change.object o (Some at.from) w.pr.ready.source) at.object
-      (subst (λ (c : Option (Vec Extent Global)). IsSourceOf w.pr.change.object w.q.spaces.object c w.pr.ready.source) at.copied w.ready.source)
+      subst (λ (o : Option Place). IsSourceOf w.pr.change.object o (Some w.spot.from) w.pr.ready.source) w.spot.object
+      (subst (λ (c : Option (Vec Extent Global)). IsSourceOf w.pr.change.object w.q.spaces.object c w.pr.ready.source) w.spot.copied w.ready.source)
 
   -- the file's sectors
-  pub from_is : sectors_in (copy_at w.q w.copied).from.items ≡ w.q.seen.known.target.object.sectors
+  pub from_is : sectors_in w.spot.from.items ≡ w.q.seen.known.target.object.sectors
   from_is =
       let node = target_of.node (Layout.New w.q.m) w.q.nodes w.q.listings w.q.seen.sound w.q.seen.held w.q.from w.q.r.target w.q.seen.known.target in
-      same_some (sectors_in at.from.items) w.q.seen.known.target.object.sectors
-      (sym (at.lies node (target_of.node_is (Layout.New w.q.m) w.q.nodes w.q.listings w.q.seen.sound w.q.seen.held w.q.from w.q.r.target w.q.seen.known.target))
+      same_some (sectors_in w.spot.from.items) w.q.seen.known.target.object.sectors
+      (sym (w.spot.lies node (target_of.node_is (Layout.New w.q.m) w.q.nodes w.q.listings w.q.seen.sound w.q.seen.held w.q.from w.q.r.target w.q.seen.known.target))
       ∙ target_of.placed (Layout.New w.q.m) w.q.nodes w.q.listings w.q.seen.sound w.q.seen.held w.q.from w.q.r.target w.q.seen.known.target)

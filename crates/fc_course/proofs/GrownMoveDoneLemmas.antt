@@ -1,4 +1,5 @@
 -- `rename` by which a directory grows: what is written of it, and, without a copy, that the command has done then what it promises.
+use Rattle.fc_outcomes.specs.Growth.{Grows}
 use Rattle.fc_alloc.specs.declared.owner.Owner.{Owner}
 use Rattle.fc_change.specs.After.{AreOwnersAfter, nodes_after, owners_admitted}
 use Rattle.fc_change.specs.GrownSpace.{root_of}
@@ -7,13 +8,13 @@ use Rattle.fc_changes.specs.Owed.{IsBefore}
 use Rattle.fc_course.proofs.GrownMapLemmas.{map_grows}
 use Rattle.fc_course.proofs.GrownMoveEditLemmas.{IsSaidNow, KeepsBody, back_now, become, said_now}
 use Rattle.fc_course.proofs.GrownMoveGrowsLemmas.{big, its_grows, step_of}
-use Rattle.fc_course.proofs.GrownMoveMadeLemmas.{EditedRename, MadeEdit, MadeMove, moving_of, none_given, up_in}
+use Rattle.fc_course.proofs.GrownMoveMadeLemmas.{EditedRename, IsPlacedEdit, MadeEdit, MadeMove, moving_of, none_given, placed_move, up_in}
 use Rattle.fc_course.proofs.GrownMoveNodeLemmas.{growing_in}
 use Rattle.fc_course.proofs.GrownMoveReadyLemmas.{PlainRename}
 use Rattle.fc_course.proofs.GrownMoveRunLemmas.{grown_at, mv, stepped}
 use Rattle.fc_course.proofs.GrownMoveSaidLemmas.{anew, it, l, layout, listed}
 use Rattle.fc_course.proofs.GrownMoveWalkLemmas as walk
-use Rattle.fc_course.proofs.GrownMoveWantLemmas.{GrownRename}
+use Rattle.fc_course.proofs.GrownMoveWantLemmas.{GrownRename, IsPlacedRename}
 use Rattle.fc_course.proofs.GrownMoveWantLemmas as want
 use Rattle.fc_course.proofs.GrownPieceLemmas.{piece_put, put_back}
 use Rattle.fc_course.proofs.GrownRootLemmas.{version_by}
@@ -58,7 +59,33 @@ use Rattle.std.proofs.Common.{Bool, List, Some, [], ap, ap₂, cond, false, inl,
 use Rattle.std.proofs.lemmas.List.Elements.{Contains-append_cases, Contains-append_right}
 use Rattle.std.specs.Prelude.{Contains}
 
-module _ (w : EditedRename) (md : MadeEdit w) (m' : Map) (given : IsGiven w.q.m w.pr.ready m') (bytes : List ℕ) where
+-- ---- what the edit asks
+
+module _ (w : EditedRename) (md : MadeEdit w) where
+  pub says_all : (a : Amended) → Contains (grown_with w.e (growing_in w md)).amended a
+      → IsRewritten (Command.Rename w.q.from w.q.to) a.was.object.path (up_in w.q (it w.q) a.was.object.path) a.was.content a.content
+  says_all a at = (said_now w.q (become w.q w.e) (up_in w.q (it w.q)) md.order (md.said ∷ md.others_said) (md.ready.own ∷ md.ready.pieces) md.all a (md.among a at)).3.says
+
+  pub found_all : (a : Amended) → Contains (grown_with w.e (growing_in w md)).amended a → Contains w.q.listings a.was
+  found_all a at = (said_now w.q (become w.q w.e) (up_in w.q (it w.q)) md.order (md.said ∷ md.others_said) (md.ready.own ∷ md.ready.pieces) md.all a (md.among a at)).3.found
+
+-- Without a copy it asks for a move, if the directory grows by it.
+pub asks_move : (w : PlainRename) (md : MadeMove w) → Grows (record { kind = w.q.kind; layout = Layout.New w.q.m; listings = w.q.listings }) (Command.Rename w.q.from w.q.to) (growing_in (moving_of w md.c) md.part)
+    → is_copied_in (record { kind = w.q.kind; layout = Layout.New w.q.m; listings = w.q.listings }) w.q.from w.q.to w.q.seen.known.target.object ≡ false
+    → IsToMoveGrown (record { kind = w.q.kind; layout = Layout.New w.q.m; listings = w.q.listings }) w.q.from w.q.to md.c (growing_in (moving_of w md.c) md.part)
+asks_move w md grows not_copied = record {
+  from_is = ap (λ (p : Object). is_same_path w.q.from p.path) md.o_is ∙ w.q.seen.known.target.path_is;
+  to_is = ap₂ (λ (o : Object) (n : List ℕ). is_same_path w.q.to (o.path ++ n ∷ [])) md.l_is md.name_is
+      ∙ ap (λ (n : List ℕ). is_same_path w.q.to ((l w.q).object.path ++ n ∷ [])) w.q.seen.name_is ∙ lies_there w.q.to (l w.q).object.path w.q.seen.known.destination.no_root w.q.seen.known.destination.above;
+  name_is = sym w.q.seen.name_is ∙ sym md.name_is;
+  not_copied = ap (is_copied_in (record { kind = w.q.kind; layout = Layout.New w.q.m; listings = w.q.listings }) w.q.from w.q.to) md.o_is ∙ not_copied;
+  grows = grows;
+  into_it = md.l_is;
+}
+
+-- ---- what is written
+
+module _ (w : EditedRename) (pl : IsPlacedEdit w) (md : MadeEdit w) (m' : Map) (given : IsGiven w.q.m w.pr.ready m') (bytes : List ℕ) where
   abbrev q : GrownRename
   q = w.q
 
@@ -72,10 +99,10 @@ module _ (w : EditedRename) (md : MadeEdit w) (m' : Map) (given : IsGiven w.q.m 
   puts = puts_of w.pr.ready bytes
 
   pub same_sector : m'.geometry.sector ≡ w.q.m.geometry.sector
-  same_sector = ap (λ (g : Geometry). g.sector) (stepped w m' given).geometry
+  same_sector = ap (λ (g : Geometry). g.sector) (stepped w pl m' given).geometry
 
   pub same_form : dir_form (Layout.New m') ≡ dir_form (Layout.New w.q.m)
-  same_form = ap (λ (g : Geometry). let f : NameForm = cond (g.version == 0) forms.Ten forms.Long in f) (stepped w m' given).geometry
+  same_form = ap (λ (g : Geometry). let f : NameForm = cond (g.version == 0) forms.Ten forms.Long in f) (stepped w pl m' given).geometry
 
   -- ---- the puts
 
@@ -120,7 +147,7 @@ module _ (w : EditedRename) (md : MadeEdit w) (m' : Map) (given : IsGiven w.q.m 
           ∙ big_size (l q).object (listed_directory (layout q) q.listings q.seen.sound (l q) (listed q)).1 (want.grown q).0.directory.address
           ∙ sym (big_size (w.e.turn d.object) (ap is_directory body.attrs ∙ (listed_directory (layout q) q.listings q.seen.sound d there).1) (want.grown q).0.directory.address))
           (subst (λ (n : ℕ). object_size (dir_form (Layout.New m')) (anew q).entry ≤ length (sectors_in (want.grown q).0.extents.items) * n) same_sector
-          (written_bytes_law.room m' (anew q) (stepped w m' given).edited.is_map (grown_at w m' given)))
+          (written_bytes_law.room m' (anew q) (stepped w pl m' given).edited.is_map (grown_at w pl m' given)))
 
       by : (b : Bool) → (let y : Object = cond b (record (w.e.turn d.object) { entry = record (w.e.turn d.object).entry { address = (want.grown q).0.directory.address; len = (want.grown q).0.directory.len }; sectors = sectors_in (want.grown q).0.extents.items }) (w.e.turn d.object) in
           object_size (dir_form (layout q)) y.entry ≤ length y.sectors * q.m.geometry.sector)
@@ -132,15 +159,6 @@ module _ (w : EditedRename) (md : MadeEdit w) (m' : Map) (given : IsGiven w.q.m 
       subst (λ (y : Put). length y.bytes ≤ length y.sectors * q.m.geometry.sector) is
       (subst (λ (n : ℕ). n ≤ length (place_of p) * q.m.geometry.sector) (sym told.long)
       (subst (λ (ss : List ℕ). object_size (dir_form (layout q)) (then a.was.object).entry ≤ length ss * q.m.geometry.sector) (sym told.place) (room_of_dir a.was told.found)))
-
-  -- ---- what the edit asks
-
-  pub says_all : (a : Amended) → Contains (grown_with w.e (growing_in w md)).amended a
-      → IsRewritten (Command.Rename w.q.from w.q.to) a.was.object.path (up_in w.q (it w.q) a.was.object.path) a.was.content a.content
-  says_all a at = (said_now q then (up_in q (it q)) md.order (md.said ∷ md.others_said) (md.ready.own ∷ md.ready.pieces) md.all a (md.among a at)).3.says
-
-  pub found_all : (a : Amended) → Contains (grown_with w.e (growing_in w md)).amended a → Contains w.q.listings a.was
-  found_all a at = (said_now q then (up_in q (it q)) md.order (md.said ∷ md.others_said) (md.ready.own ∷ md.ready.pieces) md.all a (md.among a at)).3.found
 
   pub written_all : (a : Amended) → Contains (grown_with w.e (growing_in w md)).amended a → IsDirectoryPut (Layout.New m') (regrown w.e (growing_in w md) a.was.object) a.content (puts_of w.pr.ready bytes)
   written_all a at =
@@ -170,14 +188,17 @@ module _ (w : EditedRename) (md : MadeEdit w) (m' : Map) (given : IsGiven w.q.m 
     before = record { new_kind = kind_is.1; opens = opens; layout = refl; is_map = q.agreed.is_map }
 
     pub map_now : MapGrows w.q.m m' (growing_in w md) kind_is.0 image
-    map_now = map_grows q.m m' (growing_in w md) (root_of (Some (want.grown q).0)) q.kind kind_is.0 was image view before (stepped w m' given).edited
-        (step_of q (big w md) (version_by q.kind kind_is.0 was view q.m before (walk.form q)) (growing_in w md) refl refl refl) changed.copies
+    map_now = map_grows q.m m' (growing_in w md) (root_of (Some (want.grown q).0)) q.kind kind_is.0 was image view before (stepped w pl m' given).edited
+        (step_of q pl.placed (big w md) (version_by q.kind kind_is.0 was view q.m before (walk.form q)) (growing_in w md) refl refl refl) changed.copies
 
 -- ---- without a copy
 
-module _ (w : PlainRename) (md : MadeMove w) (m' : Map) (given : IsGiven w.q.m w.pr.ready m') (bytes : List ℕ) where
+module _ (w : PlainRename) (placed : IsPlacedRename w.q) (md : MadeMove w) (m' : Map) (given : IsGiven w.q.m w.pr.ready m') (bytes : List ℕ) where
   abbrev e : EditedRename
   e = moving_of w md.c
+
+  abbrev pl : IsPlacedEdit (moving_of w md.c)
+  pl = placed_move w md.c placed
 
   abbrev its_view : Opened
   its_view = record { kind = w.q.kind; layout = Layout.New w.q.m; listings = w.q.listings }
@@ -190,41 +211,33 @@ module _ (w : PlainRename) (md : MadeMove w) (m' : Map) (given : IsGiven w.q.m w
 
   -- each put is of a directory that is told something
   piece_of : (x : Put) → Contains its_puts x → (p : Piece) × (put_of p ≡ x) × (a : Amended) × Contains md.part.order a × (s : Says) × IsSaidNow w.q (become w.q (edit md.c)) (up_in w.q (it w.q)) a s p
-  piece_of x there = ⊎_elim (λ own. absurd (no_element x (subst (λ (s : Source). Contains (source_puts s bytes) x) no_source own))) (λ told. told) (put_of_told e md.part m' given bytes x there)
+  piece_of x there = ⊎_elim (λ own. absurd (no_element x (subst (λ (s : Source). Contains (source_puts s bytes) x) no_source own))) (λ told. told) (put_of_told e pl md.part m' given bytes x there)
 
   long : AreLong w.q.m.geometry.sector its_puts
-  long x there = let t = piece_of x there in long_told e md.part m' given bytes x t.0 t.1 t.2 t.4 t.5
+  long x there = let t = piece_of x there in long_told e pl md.part m' given bytes x t.0 t.1 t.2 t.4 t.5
 
   module _ (not_copied : is_copied_in (record { kind = w.q.kind; layout = Layout.New w.q.m; listings = w.q.listings }) w.q.from w.q.to w.q.seen.known.target.object ≡ false) where
     pub to_move : IsToMoveGrown (record { kind = w.q.kind; layout = Layout.New w.q.m; listings = w.q.listings }) w.q.from w.q.to md.c (growing_in (moving_of w md.c) md.part)
-    to_move = record {
-      from_is = ap (λ (p : Object). is_same_path w.q.from p.path) md.o_is ∙ w.q.seen.known.target.path_is;
-      to_is = ap₂ (λ (o : Object) (n : List ℕ). is_same_path w.q.to (o.path ++ n ∷ [])) md.l_is md.name_is
-          ∙ ap (λ (n : List ℕ). is_same_path w.q.to ((l w.q).object.path ++ n ∷ [])) w.q.seen.name_is ∙ lies_there w.q.to (l w.q).object.path w.q.seen.known.destination.no_root w.q.seen.known.destination.above;
-      name_is = sym w.q.seen.name_is ∙ sym md.name_is;
-      not_copied = ap (is_copied_in its_view w.q.from w.q.to) md.o_is ∙ not_copied;
-      grows = its_grows e md.part;
-      into_it = md.l_is;
-    }
+    to_move = asks_move w md (its_grows e pl md.part) not_copied
 
     module _ (owners' : List Owner) (number : ℕ) (after : AreOwnersAfter (Layout.New m') w.q.nodes w.pr.change (owners_admitted (Layout.New w.q.m) w.pr.change.object number w.q.owners) owners') (was image : List ℕ)
         (opens : OpensAs was w.q.kind (record { kind = w.q.kind; layout = Layout.New w.q.m; listings = w.q.listings })) (changed : IsChanged w.q.m m' w.pr.ready bytes was image) where
       abbrev x : NewGrownMoving
-      x = mv w md m' given owners' number after
+      x = mv w placed md m' given owners' number after
 
       written : NewGrownMovingWritten x w.q.from w.q.to (puts_of w.pr.ready bytes) was image
       written = record {
-        r = (kind_is e md.part m' given bytes was image opens changed).0;
-        new_kind = (kind_is e md.part m' given bytes was image opens changed).1;
+        r = (kind_is e pl md.part m' given bytes was image opens changed).0;
+        new_kind = (kind_is e pl md.part m' given bytes was image opens changed).1;
         opens = opens;
         its = to_move;
         entries = md.entries;
         says = λ a at.
-            subst (λ (o : Object). IsRewritten (Command.Rename w.q.from w.q.to) a.was.object.path (up_in w.q o a.was.object.path) a.was.content a.content) (sym md.o_is) (says_all e md.part m' given bytes a at);
-        written = written_all e md.part m' given bytes;
-        whose = λ y there. let t = piece_of y there in whose_told e md.part m' given bytes y t.0 t.1 t.2 t.3 t.4 t.5;
+            subst (λ (o : Object). IsRewritten (Command.Rename w.q.from w.q.to) a.was.object.path (up_in w.q o a.was.object.path) a.was.content a.content) (sym md.o_is) (says_all e md.part a at);
+        written = written_all e pl md.part m' given bytes;
+        whose = λ y there. let t = piece_of y there in whose_told e pl md.part m' given bytes y t.0 t.1 t.2 t.3 t.4 t.5;
         out = put_out (layout w.q) was bytes image w.pr.ready (subst CopiesNone (sym no_source) tt) w.ready.carried long changed.written changed.others;
-        map = map_now e md.part m' given bytes was image opens changed;
+        map = map_now e pl md.part m' given bytes was image opens changed;
       }
 
       -- The command has done what it promises.

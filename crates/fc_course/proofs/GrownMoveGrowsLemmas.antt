@@ -8,11 +8,11 @@ use Rattle.fc_course.proofs.GrownAskedLemmas as asked
 use Rattle.fc_course.proofs.GrownChangeLemmas.{taking_of}
 use Rattle.fc_course.proofs.GrownMapLemmas.{IsStepOf}
 use Rattle.fc_course.proofs.GrownMoveAskedLemmas.{grows_to}
-use Rattle.fc_course.proofs.GrownMoveMadeLemmas.{EditedRename, MadeEdit}
+use Rattle.fc_course.proofs.GrownMoveMadeLemmas.{EditedRename, IsPlacedEdit, MadeEdit}
 use Rattle.fc_course.proofs.GrownMoveNodeLemmas.{growing_in}
 use Rattle.fc_course.proofs.GrownMoveSaidLemmas.{FirstSays, l, layout, listed}
 use Rattle.fc_course.proofs.GrownMoveWalkLemmas as walk
-use Rattle.fc_course.proofs.GrownMoveWantLemmas.{GrownRename}
+use Rattle.fc_course.proofs.GrownMoveWantLemmas.{GrownRename, IsPlacedRename}
 use Rattle.fc_course.proofs.GrownMoveWantLemmas as want
 use Rattle.fc_course.proofs.GrownRootLemmas.{HasVersion, address_fits, can_root}
 use Rattle.fc_course.proofs.GrownSpaceLemmas as space_of
@@ -50,11 +50,11 @@ use Rattle.std.specs.Prelude.{Contains, IfSome, nat_le}
 
 -- ---- small facts
 
-big_length : (len : ℕ) (content : Directory) → HasForm forms.Long len content → IsDirectory content → is_big_size len ≡ true
+pub big_length : (len : ℕ) (content : Directory) → HasForm forms.Long len content → IsDirectory content → is_big_size len ≡ true
 big_length len (Directory.Big dir) has is = subst (λ (n : ℕ). is_big_size n ≡ true) has is.size
 big_length len (Directory.Small dir) has is = absurd has
 
-big_short : (n : ℕ) → is_big_size n ≡ true → n < 2 ^ 32
+pub big_short : (n : ℕ) → is_big_size n ≡ true → n < 2 ^ 32
 big_short n e =
     let range = and_parts (nat_le 2048 n) (nat_le n 4194304) (and_parts (is_in_range 2048 4194304 n) (n % 2048 == 0) e).0 in
     let high = leb-true n 4194304 range.1 in omega (arith, high)
@@ -73,8 +73,9 @@ module _ (q : GrownRename) where
       (grows_to (view_with q.kind q.m q.listings) q.nodes q.seen.sound q.seen.held q.from q.to q.r q.seen.known q.name q.seen.name_is q.growth.len (want.room_is q)).growth
       ∙ ap (λ (n : ℕ). let x : Option Grown = Some ((l q).object, n) in x) (sym (walk.len_is q))
 
+module _ (q : GrownRename) (pl : IsPlacedRename q) where
   pub used : is_used q.m (id_of q.seen.known.destination.listing.object.entry.address) ≡ true
-  used = space_of.own_used q.m q.nodes q.owners q.listings (l q).object (walk.cut q).0 q.growth (plan_in q.placed.placing) q.placed.dir (want.grown q).0 (walk.to_grow q)
+  used = space_of.own_used q.m q.nodes q.owners q.listings (l q).object (walk.cut q).0 q.growth (plan_in pl.placing) pl.dir (want.grown q).0 (walk.to_grow q pl)
 
   -- ---- the root in the record
 
@@ -84,7 +85,7 @@ module _ (q : GrownRename) where
   fits : (2 ≤ (want.grown q).0.directory.address / 256) × ((want.grown q).0.directory.address < 2 ^ 32)
   fits =
       address_fits q.m (want.grown q).0.directory.address q.agreed.is_map
-      (space_of.address_id q.m q.nodes q.owners q.listings (l q).object (walk.cut q).0 q.growth (plan_in q.placed.placing) q.placed.dir (want.grown q).0 (walk.to_grow q))
+      (space_of.address_id q.m q.nodes q.owners q.listings (l q).object (walk.cut q).0 q.growth (plan_in pl.placing) pl.dir (want.grown q).0 (walk.to_grow q pl))
 
   module _ (big : is_big_size (want.grown q).0.directory.len ≡ true) where
     -- A record with a version can have the root's new place.
@@ -116,21 +117,21 @@ module _ (q : GrownRename) where
 pub big_now : (q : GrownRename) (content : Directory) → FirstSays q content → IsSayable content → is_big_size (want.grown q).0.directory.len ≡ true
 big_now q content says sayable = big_length (want.grown q).0.directory.len content (subst (λ (f : NameForm). HasForm f (want.grown q).0.directory.len content) (walk.form q) says.form) (says_it content sayable)
 
-module _ (w : EditedRename) (md : MadeEdit w) where
+pub big : (w : EditedRename) (md : MadeEdit w) → is_big_size (want.grown w.q).0.directory.len ≡ true
+big w md = big_now w.q (directory_in md.said.draft) md.says_own md.ready.drafted.sayable
+
+module _ (w : EditedRename) (pl : IsPlacedEdit w) (md : MadeEdit w) where
   abbrev q : GrownRename
   q = w.q
 
   abbrev first : List Taking
-  first = takings_of (id_in (plan_in q.placed.placing)) (parts_in (plan_in q.placed.placing))
+  first = takings_of (id_in (plan_in pl.placed.placing)) (parts_in (plan_in pl.placed.placing))
 
-  pub lies_now : IsGrownAt w.q.m (objects_of w.q.listings) (takings_of (id_in (plan_in w.q.placed.placing)) (parts_in (plan_in w.q.placed.placing))) (growing_in w md) (taking_of w.q.placed.dir)
+  pub lies_now : IsGrownAt w.q.m (objects_of w.q.listings) (takings_of (id_in (plan_in pl.placed.placing)) (parts_in (plan_in pl.placed.placing))) (growing_in w md) (taking_of pl.placed.dir)
   lies_now =
-      (space_of.lies q.m q.nodes q.owners q.listings (l q).object (walk.cut q).0 q.growth (plan_in q.placed.placing) q.placed.dir (want.grown q).0 (walk.to_grow q) md.again md.same md.holder md.others)
+      (space_of.lies q.m q.nodes q.owners q.listings (l q).object (walk.cut q).0 q.growth (plan_in pl.placed.placing) pl.placed.dir (want.grown q).0 (walk.to_grow q pl.placed) md.again md.same md.holder md.others)
 
   pub its_grows : Grows (view_with w.q.kind w.q.m w.q.listings) (Command.Rename w.q.from w.q.to) (growing_in w md)
   its_grows =
-      asked.grows q.kind q.m q.listings (l q) (want.grown q).0 (Command.Rename q.from q.to) (growth_is q) md.again md.same md.holder md.others first (taking_of q.placed.dir) lies_now (used q) q.nodes q.seen.sound q.seen.held (listed q)
+      asked.grows q.kind q.m q.listings (l q) (want.grown q).0 (Command.Rename q.from q.to) (growth_is q) md.again md.same md.holder md.others first (taking_of pl.placed.dir) lies_now (used q pl.placed) q.nodes q.seen.sound q.seen.held (listed q)
       md.tops md.kids md.left md.cut md.told_by md.kept_by
-
-  pub big : is_big_size (want.grown w.q).0.directory.len ≡ true
-  big = big_now q (directory_in md.said.draft) md.says_own md.ready.drafted.sayable

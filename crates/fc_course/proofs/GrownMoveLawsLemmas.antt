@@ -11,7 +11,7 @@ use Rattle.fc_course.proofs.GrownCopyDoneLemmas as copy_done_of
 use Rattle.fc_course.proofs.GrownCopyMadeLemmas as copy_made
 use Rattle.fc_course.proofs.GrownCopyPutLemmas as copy_put
 use Rattle.fc_course.proofs.GrownCopyRunLemmas as copy_run
-use Rattle.fc_course.proofs.GrownCopyWantLemmas.{CopiedRename}
+use Rattle.fc_course.proofs.GrownCopyWantLemmas.{CopiedRename, spotted}
 use Rattle.fc_course.proofs.GrownMoveAskedLemmas as asked
 use Rattle.fc_course.proofs.GrownMoveAwayLemmas.{made}
 use Rattle.fc_course.proofs.GrownMoveBigLemmas.{big_by}
@@ -23,7 +23,7 @@ use Rattle.fc_course.proofs.GrownMoveReadyLemmas.{PlainRename}
 use Rattle.fc_course.proofs.GrownMoveRunLemmas as run_of
 use Rattle.fc_course.proofs.GrownMoveStageLemmas as stage
 use Rattle.fc_course.proofs.GrownMoveTakenLemmas as taken
-use Rattle.fc_course.proofs.GrownMoveWantLemmas.{GrownRename}
+use Rattle.fc_course.proofs.GrownMoveWantLemmas.{GrownRename, IsPlaceOfGrowth, place_of}
 use Rattle.fc_course.proofs.MoveLemmas.{IsSeen}
 use Rattle.fc_course.proofs.MoveRunLemmas.{new_seen}
 use Rattle.fc_course.proofs.MoveShortLemmas.{full_short, plain as plain_is}
@@ -118,9 +118,18 @@ module _ (j : GrownMoveJob) (from to : Path) (it : IsRenamer (parts (Layout.New 
     agreed = agreed;
     seen = new_seen j.m j.nodes j.owners kind root listings from to j.r j.name agreed it;
     are = spaced.wants;
-    placed = spaced.places;
     some = j.grows w spaced.wants;
+    placing = spaced.places.placing;
+    object = spaced.places.object;
+    read = spaced.places.copied;
+    place = its_place.place;
+    place_is = its_place.place_is;
+    node = its_place.node;
+    len = its_place.len;
   }
+    where
+      its_place : IsPlaceOfGrowth j.m (parts (Layout.New j.m) j.nodes j.owners) j.growth s
+      its_place = place_of j.m (parts (Layout.New j.m) j.nodes j.owners) w s j.growth (j.grows w spaced.wants) spaced.places
 
   can_prepare : CanPrepareJob (parts (Layout.New j.m) j.nodes j.owners) (jobs.Move j.r) j.name
   can_prepare = record {
@@ -182,28 +191,29 @@ module _ (j : GrownMoveJob) (from to : Path) (it : IsRenamer (parts (Layout.New 
       (prep : IsPreparedFor (parts (Layout.New j.m) j.nodes j.owners) (jobs.Move j.r) j.name p) → IsDoneBy kind root listings agreed p prep
   plain_done plain kind root listings agreed p prep =
       let w : PlainRename = record { q = q_prepared kind root listings agreed p prep; pr = p; plain = plain; change = prep.change; ready = prep.ready } in
+      let placed = prep.spaced.places in
       let md = made w in
       record {
-        can_write = λ n most. put.can_write w md j.tells n most;
-        can_take = λ m' number room given. taken.can_take (moving_of w md.c) md.part m' (run_of.owned_then w md m' given) number room;
-        agrees = λ m' owners' number given after. run_of.agrees w md m' given owners' number after;
+        can_write = λ n most. put.can_write w placed md j.tells n most;
+        can_take = λ m' number room given. taken.can_take (moving_of w md.c) md.part m' (run_of.owned_then w placed md m' given) number room;
+        agrees = λ m' owners' number given after. run_of.agrees w placed md m' given owners' number after;
         outcome = λ m' owners' number bytes was image given after opens changed.
             (let x = w.q.seen in
             let v : Opened = record { kind = kind; layout = Layout.New j.m; listings = listings } in
             let not_copied = plain_is v j.nodes x.sound x.held from to j.r x.known j.name x.name_is (parts (Layout.New j.m) j.nodes j.owners) refl (record { layout = refl; nodes = x.held; owners = agreed.owned }) plain in
-            done.outcome w md m' given bytes not_copied owners' number after was image opens changed);
-        may = λ was opens. may.plain_may w md was opens;
+            done.outcome w placed md m' given bytes not_copied owners' number after was image opens changed);
+        may = λ was opens. may.plain_may w placed md was opens;
       }
 
   -- with one
   copy_done : is_copied (parts (Layout.New j.m) j.nodes j.owners) j.r ≡ true → (kind : Kind) (root : Node) (listings : List Listing) (agreed : AgreeOn kind j.m j.nodes j.owners root listings) (p : Prepared)
       (prep : IsPreparedFor (parts (Layout.New j.m) j.nodes j.owners) (jobs.Move j.r) j.name p) → IsDoneBy kind root listings agreed p prep
   copy_done copied kind root listings agreed p prep =
-      let w : CopiedRename = record { q = q_prepared kind root listings agreed p prep; pr = p; copied = copied; change = prep.change; ready = prep.ready } in
-      let md = copy_made.made w in
+      let w : CopiedRename = record { q = q_prepared kind root listings agreed p prep; pr = p; placed = prep.spaced.places; copied = copied; change = prep.change; ready = prep.ready } in
+      let md = copy_made.made (spotted w) in
       record {
         can_write = λ n most. copy_put.can_write w md j.tells n most;
-        can_take = λ m' number room given. taken.can_take (copy_made.copying_of w md.c) md.part m' (copy_run.owned_then w md m' given) number room;
+        can_take = λ m' number room given. taken.can_take (copy_made.copying_of (spotted w) md.c) md.part m' (copy_run.owned_then w md m' given) number room;
         agrees = λ m' owners' number given after. copy_run.agrees w md m' given owners' number after;
         outcome = λ m' owners' number bytes was image given after opens changed. copy_done_of.outcome w md m' given j.suffice bytes was image opens changed owners' number after;
         may = λ was opens. copy_put.all_may w md was opens;

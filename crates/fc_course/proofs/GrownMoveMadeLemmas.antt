@@ -13,7 +13,7 @@ use Rattle.fc_course.proofs.GrownMoveReadyLemmas.{PlainRename}
 use Rattle.fc_course.proofs.GrownMoveSaidLemmas.{FirstSays, anew, now}
 use Rattle.fc_course.proofs.GrownMoveToldLemmas.{entry_now}
 use Rattle.fc_course.proofs.GrownMoveWalkLemmas as walk
-use Rattle.fc_course.proofs.GrownMoveWantLemmas.{GrownRename}
+use Rattle.fc_course.proofs.GrownMoveWantLemmas.{GrownRename, IsPlacedRename}
 use Rattle.fc_course.proofs.GrownMoveWantLemmas as want
 use Rattle.fc_course.proofs.GrownPieceLemmas.{IsGrownReady}
 use Rattle.fc_course.proofs.GrownSpaceLemmas.{growing_of}
@@ -45,15 +45,19 @@ use Rattle.std.specs.declared.alloc.Global.{Global}
 abbrev pub up_in : (q : GrownRename) (o : Object) → Path → ℕ
 up_in q o path = cond (is_same_path o.path path) (want.grown q).0.directory.address (now q path)
 
--- A rename, ready to be written, with the edit that it is beside the growth, and what the object becomes by it. What goes back at last was used.
+-- A rename, ready to be written, with the edit that it is beside the growth, and what the object becomes by it.
 pub record EditedRename : Type 0 where
   pub q : GrownRename
   pub pr : Prepared
   pub change : IsChangeOf (parts_with q.m q.nodes q.owners) (jobs.Move q.r) q.name q.spaces pr.change
   pub ready : IsReadyFor (parts_with q.m q.nodes q.owners) pr.change q.spaces pr.ready
-  pub unused : (n : ℕ) → is_used q.m n ≡ false → is_one_of (want.back q) n ≡ false
   pub e : Edit
   pub then : Object
+
+-- It is placed so, and what goes back at last was used.
+pub record IsPlacedEdit (w : EditedRename) : Type 0 where
+  pub placed : IsPlacedRename w.q
+  pub unused : (n : ℕ) → is_used w.q.m n ≡ false → is_one_of (want.back w.q placed) n ≡ false
 
 -- The growth is a part of that edit. `tops`, `kids` and `left` are the directories around the grown one.
 pub record MadeEdit (w : EditedRename) : Type 0 where
@@ -112,10 +116,12 @@ moving_of w c = record {
   pr = w.pr;
   change = w.change;
   ready = w.ready;
-  unused = walk.back_unused w.q w.plain;
   e = edit c;
   then = moved c w.q.seen.known.target.object;
 }
+
+abbrev pub placed_move : (w : PlainRename) (c : Moving) → IsPlacedRename w.q → IsPlacedEdit (moving_of w c)
+placed_move w c placed = record { placed = placed; unused = walk.back_unused w.q placed w.plain }
 
 -- The object moves, and keeps its place.
 pub record MadeMove (w : PlainRename) : Type 0 where

@@ -9,11 +9,11 @@ use Rattle.fc_course.proofs.GrownChangeLemmas.{taking_of}
 use Rattle.fc_course.proofs.GrownMayLemmas.{there_may}
 use Rattle.fc_course.proofs.GrownMoveEditLemmas.{back_now, become}
 use Rattle.fc_course.proofs.GrownMoveGrowsLemmas.{growth_is, lies_now, used}
-use Rattle.fc_course.proofs.GrownMoveMadeLemmas.{EditedRename, MadeEdit, MadeMove, moving_of, none_given, up_in}
+use Rattle.fc_course.proofs.GrownMoveMadeLemmas.{EditedRename, IsPlacedEdit, MadeEdit, MadeMove, moving_of, none_given, placed_move, up_in}
 use Rattle.fc_course.proofs.GrownMoveReadyLemmas.{PlainRename}
 use Rattle.fc_course.proofs.GrownMoveSaidLemmas.{it, l, layout, listed}
 use Rattle.fc_course.proofs.GrownMoveWalkLemmas as walk
-use Rattle.fc_course.proofs.GrownMoveWantLemmas.{GrownRename}
+use Rattle.fc_course.proofs.GrownMoveWantLemmas.{GrownRename, IsPlacedRename}
 use Rattle.fc_course.proofs.GrownMoveWantLemmas as want
 use Rattle.fc_course.proofs.GrownPieceLemmas.{early_back, late_back}
 use Rattle.fc_course.proofs.GrownSpaceLemmas.{IsToGrow}
@@ -55,7 +55,7 @@ may_all kind view m c [] each = places_law.none kind view m c
 may_all kind view m c (p ∷ ps) each =
     places_law.both kind view m c (place_of p) (flat_map place_of ps) (each p (contains_here p ps)) (may_all kind view m c ps (λ r at. each r (contains_later p r ps at)))
 
-module _ (w : EditedRename) (md : MadeEdit w) (was : List ℕ) (opens : OpensAs was w.q.kind (record { kind = w.q.kind; layout = Layout.New w.q.m; listings = w.q.listings })) where
+module _ (w : EditedRename) (pl : IsPlacedEdit w) (md : MadeEdit w) (was : List ℕ) (opens : OpensAs was w.q.kind (record { kind = w.q.kind; layout = Layout.New w.q.m; listings = w.q.listings })) where
   abbrev q : GrownRename
   q = w.q
 
@@ -68,8 +68,8 @@ module _ (w : EditedRename) (md : MadeEdit w) (was : List ℕ) (opens : OpensAs 
   abbrev c : Command
   c = Command.Rename q.from q.to
 
-  abbrev to : IsToGrow w.q.m w.q.nodes w.q.owners w.q.listings (l w.q).object (walk.cut w.q).0 w.q.growth (plan_in w.q.placed.placing) w.q.placed.dir (want.grown w.q).0
-  to = walk.to_grow q
+  abbrev to : IsToGrow w.q.m w.q.nodes w.q.owners w.q.listings (l w.q).object (walk.cut w.q).0 w.q.growth (plan_in pl.placed.placing) pl.placed.dir (want.grown w.q).0
+  to = walk.to_grow q pl.placed
 
   by_it : OpensBy w.q.kind was (view_with w.q.kind w.q.m w.q.listings) w.q.m
   by_it = record { opens = opens; layout = refl }
@@ -86,22 +86,22 @@ module _ (w : EditedRename) (md : MadeEdit w) (was : List ℕ) (opens : OpensAs 
       let id = id_of (l q).object.entry.address in
       ap (λ (b : Bool). (id == 2) || b)
       (any_in (is_owner_of id) (objects_of q.listings) (l q).object (listed_directory (layout q) q.listings q.seen.sound (l q) (listed q)).0
-      (ap (λ (b : Bool). b && (id == id)) (space_of.o_some q.m q.nodes q.owners q.listings (l q).object (walk.cut q).0 q.growth (plan_in q.placed.placing) q.placed.dir P to) ∙ eq-eqb id id refl))
+      (ap (λ (b : Bool). b && (id == id)) (space_of.o_some q.m q.nodes q.owners q.listings (l q).object (walk.cut q).0 q.growth (plan_in pl.placed.placing) pl.placed.dir P to) ∙ eq-eqb id id refl))
       ∙ or_true (id == 2)
 
   grown_may : MayBeWritten w.q.kind (view_with w.q.kind w.q.m w.q.listings) w.q.m (Command.Rename w.q.from w.q.to) (sectors_in (want.grown w.q).0.extents.items)
-  grown_may = by q.placed.dir to.grown
+  grown_may = by pl.placed.dir to.grown
     where
-      by : (d : Option Plan) → IsGrownPlace q.m (parts_with q.m q.nodes q.owners) (plan_in q.placed.placing) q.growth d P → MayBeWritten q.kind view q.m c (sectors_in P.extents.items)
+      by : (d : Option Plan) → IsGrownPlace q.m (parts_with q.m q.nodes q.owners) (plan_in pl.placed.placing) q.growth d P → MayBeWritten q.kind view q.m c (sectors_in P.extents.items)
       by None there =
           there_may q.kind q.m q.nodes q.owners q.root q.listings q.agreed (l q) q.growth.len (sectors_in P.extents.items)
           (record {
             listed = listed q;
             owns = owned;
-            object = space_of.own_object_id q.m q.nodes q.owners q.listings (l q).object (walk.cut q).0 q.growth (plan_in q.placed.placing) q.placed.dir P to;
-            room = space_of.room_same q.m q.nodes q.owners q.listings (l q).object (walk.cut q).0 q.growth (plan_in q.placed.placing) q.placed.dir P to
-                ∙ sym (space_of.room_as q.m q.nodes q.owners q.listings (l q).object (walk.cut q).0 q.growth (plan_in q.placed.placing) q.placed.dir P to) ∙ there.room;
-            placed = space_of.there_at q.m q.nodes q.owners q.listings (l q).object (walk.cut q).0 q.growth (plan_in q.placed.placing) q.placed.dir P to there;
+            object = space_of.own_object_id q.m q.nodes q.owners q.listings (l q).object (walk.cut q).0 q.growth (plan_in pl.placed.placing) pl.placed.dir P to;
+            room = space_of.room_same q.m q.nodes q.owners q.listings (l q).object (walk.cut q).0 q.growth (plan_in pl.placed.placing) pl.placed.dir P to
+                ∙ sym (space_of.room_as q.m q.nodes q.owners q.listings (l q).object (walk.cut q).0 q.growth (plan_in pl.placed.placing) pl.placed.dir P to) ∙ there.room;
+            placed = space_of.there_at q.m q.nodes q.owners q.listings (l q).object (walk.cut q).0 q.growth (plan_in pl.placed.placing) pl.placed.dir P to there;
             long = to.longer;
           })
           view was c refl by_it its_may
@@ -113,13 +113,13 @@ module _ (w : EditedRename) (md : MadeEdit w) (was : List ℕ) (opens : OpensAs 
       → (has_grown (view_with w.q.kind w.q.m w.q.listings) (Command.Rename w.q.from w.q.to) d.object.path || has_new_holder (view_with w.q.kind w.q.m w.q.listings) (Command.Rename w.q.from w.q.to) d.object.path) ≡ true
   around_may d there =
       ⊎_elim
-      (λ top. asked.top_told q.kind q.m q.listings (l q) P c (growth_is q) md.again md.same md.holder md.others (takings_of (id_in (plan_in q.placed.placing)) (parts_in (plan_in q.placed.placing))) (taking_of q.placed.dir) (lies_now w md) (used q) q.nodes q.seen.sound q.seen.held (listed q) md.tops md.kids md.left md.cut d top)
+      (λ top. asked.top_told q.kind q.m q.listings (l q) P c (growth_is q) md.again md.same md.holder md.others (takings_of (id_in (plan_in pl.placed.placing)) (parts_in (plan_in pl.placed.placing))) (taking_of pl.placed.dir) (lies_now w pl md) (used q pl.placed) q.nodes q.seen.sound q.seen.held (listed q) md.tops md.kids md.left md.cut d top)
       (λ kid. by ((l q).object.entry.address == P.directory.address) refl kid) (Contains-append_cases md.tops (cond ((l q).object.entry.address == P.directory.address) [] md.kids) d there)
     where
       by : (b : Bool) → ((l q).object.entry.address == P.directory.address) ≡ b → Contains (cond b [] md.kids) d → (has_grown view c d.object.path || has_new_holder view c d.object.path) ≡ true
       by true e none = absurd (no_element d none)
       by false e kid =
-          asked.kid_told q.kind q.m q.listings (l q) P c (growth_is q) md.again md.same md.holder md.others (takings_of (id_in (plan_in q.placed.placing)) (parts_in (plan_in q.placed.placing))) (taking_of q.placed.dir) (lies_now w md) (used q) q.nodes q.seen.sound q.seen.held (listed q) md.tops md.kids md.left md.cut d kid e
+          asked.kid_told q.kind q.m q.listings (l q) P c (growth_is q) md.again md.same md.holder md.others (takings_of (id_in (plan_in pl.placed.placing)) (parts_in (plan_in pl.placed.placing))) (taking_of pl.placed.dir) (lies_now w pl md) (used q pl.placed) q.nodes q.seen.sound q.seen.held (listed q) md.tops md.kids md.left md.cut d kid e
 
   told_may : (a : Amended) → Contains md.order a → may_be_rewritten (view_with w.q.kind w.q.m w.q.listings) (Command.Rename w.q.from w.q.to) a.was.object.path ≡ true
   told_may a at =
@@ -171,10 +171,10 @@ module _ (w : EditedRename) (md : MadeEdit w) (was : List ℕ) (opens : OpensAs 
       (places_law.both q.kind view q.m c (source_place w.pr.ready.source) (flat_map place_of w.pr.ready.early.items) source early_may)) late_may
 
 -- Without a copy nothing has a source.
-pub plain_may : (w : PlainRename) (md : MadeMove w) (was : List ℕ) → OpensAs was w.q.kind (record { kind = w.q.kind; layout = Layout.New w.q.m; listings = w.q.listings })
+pub plain_may : (w : PlainRename) → IsPlacedRename w.q → (md : MadeMove w) (was : List ℕ) → OpensAs was w.q.kind (record { kind = w.q.kind; layout = Layout.New w.q.m; listings = w.q.listings })
     → MayBeWritten w.q.kind (view_with w.q.kind w.q.m w.q.listings) w.q.m (Command.Rename w.q.from w.q.to) (written_place w.pr.ready)
-plain_may w md was opens =
+plain_may w placed md was opens =
     let view = view_with w.q.kind w.q.m w.q.listings in
     let c = Command.Rename w.q.from w.q.to in
-    all_may (moving_of w md.c) md.part was opens
+    all_may (moving_of w md.c) (placed_move w md.c placed) md.part was opens
     (subst (λ (s : Source). MayBeWritten w.q.kind view w.q.m c (source_place s)) (sym (none_given w md.part.turned)) (places_law.none w.q.kind view w.q.m c))

@@ -1,4 +1,6 @@
 -- `rename` by which a directory grows: the nodes after it, and who owns what then.
+use Rattle.fc_laws.proofs.lemmas.agree.RoomLemmas.{dir_sector}
+use Rattle.fc_changes.proofs.NewPlaceLemmas.{some_there}
 use Rattle.fc_alloc.specs.Owners.{has_node, is_node, with_changed}
 use Rattle.fc_alloc.specs.declared.owner.Owner.{Owner}
 use Rattle.fc_change.specs.After.{AreOwnersAfter, IsRegrownOwner, IsTurnedOwner, gone_in, nodes_after, owners_admitted, with_regrown, with_said, with_turned, without_gone}
@@ -48,7 +50,7 @@ use Rattle.fc_tree.proofs.WalkedLemmas.{same_some}
 use Rattle.fc_tree.specs.Nodes.{number_of}
 use Rattle.fc_tree.specs.Parts.{owner_of}
 use Rattle.fc_tree.specs.declared.node.Node.{Node}
-use Rattle.std.proofs.Common.{Bool, List, None, Option, Some, [], ap, ap₂, cond, eq-eqb, false, filter, inl, inr, map, refl, subst, sym, true, ℕ, ⊎_elim, ◌++◌, ◌==◌, ◌||◌, ◌∙◌, ◌∷◌, ◌≡◌, ◌⊎◌}
+use Rattle.std.proofs.Common.{Bool, List, None, Option, Some, [], ap, ap₂, cond, eq-eqb, false, filter, inl, inr, map, refl, subst, sym, true, ℕ, ⊎_elim, ◌++◌, ◌==◌, ◌||◌, ◌∙◌, ◌∷◌, ◌≡◌, ◌⊎◌, length}
 use Rattle.std.proofs.lemmas.Bool.{eqb-true, ne_eqb}
 use Rattle.std.proofs.lemmas.List.Sorted.{IsPermutation-cons, IsPermutation-map, IsPermutation-trans}
 use Rattle.std.specs.FinMap.{get, insert as put}
@@ -127,7 +129,7 @@ module _ (w : EditedRename) (md : MadeEdit w) where
   -- ---- owners
 
   l_some : has_sectors w.q.seen.known.destination.listing.object ≡ true
-  l_some = space_of.o_some q.m q.nodes q.owners q.listings (l q).object (walk.cut q).0 q.growth (want.object q) (want.dir q) (want.grown q).0 (walk.to_grow q)
+  l_some = let s = dir_sector q.kind q.m q.nodes q.owners q.root q.listings q.agreed (l q) (listed q) in some_there (l q).object.sectors s.0 s.1
 
   pub is_owned : IsOwned (Layout.New w.q.m) w.q.nodes w.q.owners w.q.listings w.q.seen.known.destination.listing.object (walk.cut w.q).0 (up_of md.holder) (want.grown w.q).0.directory.node
   is_owned = record {
@@ -140,6 +142,19 @@ module _ (w : EditedRename) (md : MadeEdit w) where
     some = l_some;
   }
 
+  -- Of the grown directory, too.
+  abbrev pub IsGrownOwner : Map → Type 0
+  IsGrownOwner m' =
+      entry_owner (Layout.New m') (want.grown w.q).0.directory.node own_node.holder (regrown own_node.entry (want.grown w.q).0.directory.address (want.grown w.q).0.directory.len)
+      ≡ owner_with (Layout.New m') (up_of md.holder) (want.grown w.q).0.directory.node (anew w.q)
+
+  -- So it is of one that lies in as many sectors.
+  pub grown_owner : (m' : Map) (sectors : List ℕ) → length sectors ≡ length (anew w.q).sectors → IsAt (Layout.New m') (record (anew w.q) { sectors = sectors }) → IsGrownOwner m'
+  grown_owner m' sectors many at =
+      ap (λ (n : ℕ). entry_owner (Layout.New m') g.node n (regrown own_node.entry g.address g.len)) (sym up_is)
+      ∙ owner_same (Layout.New m') g.node (up_of md.holder) (record (anew q) { sectors = sectors }) (regrown (l q).object.entry g.address g.len) at (record { address = refl; len = refl; kind = refl })
+      ∙ ap (λ (n : ℕ). record (owner_with (Layout.New m') (up_of md.holder) g.node (anew q)) { sectors = n }) many
+
   -- The object has sectors as before, its owner is known by the map then, and it needs no memory.
   pub record IsOwnedThen (m' : Map) : Type 0 where
     pub some : has_sectors w.then ≡ has_sectors w.q.seen.known.target.object
@@ -147,7 +162,7 @@ module _ (w : EditedRename) (md : MadeEdit w) where
         ≡ cond (has_sectors w.q.seen.known.target.object) (Some (owner_with (Layout.New m') w.q.r.holder w.q.r.target.node w.then)) None
     pub admitted : (number : ℕ) → owners_admitted (Layout.New w.q.m) (turns.Turns w.q.r.target.node w.q.r.holder (entry_now w.q)) number w.q.owners ≡ w.q.owners
 
-  module _ (m' : Map) (ow : IsOwnedThen m') (at_anew : IsAt (Layout.New m') (anew w.q)) (anew_some : has_sectors (anew w.q) ≡ true) where
+  module _ (m' : Map) (ow : IsOwnedThen m') (grown_owner : IsGrownOwner m') (anew_some : has_sectors (anew w.q) ≡ true) where
     -- the grown directory's, and the object's
     abbrev w_l : Owner
     w_l = owner_with (Layout.New m') (up_of md.holder) g.node (anew q)
@@ -166,11 +181,6 @@ module _ (w : EditedRename) (md : MadeEdit w) where
 
     abbrev left_it : Owner
     left_it = owner_with (layout q) q.r.target.holder q.r.target.node (it q)
-
-    grown_owner : entry_owner (Layout.New m') (want.grown w.q).0.directory.node own_node.holder (regrown own_node.entry (want.grown w.q).0.directory.address (want.grown w.q).0.directory.len) ≡ w_l
-    grown_owner =
-        ap (λ (n : ℕ). entry_owner (Layout.New m') g.node n (regrown own_node.entry g.address g.len)) (sym up_is)
-        ∙ owner_same (Layout.New m') g.node (up_of md.holder) (anew q) (regrown (l q).object.entry g.address g.len) at_anew (record { address = refl; len = refl; kind = refl })
 
     others_keep : (v : Owner) → (v.node ≡ (want.grown w.q).0.directory.node) ⊎ (v.node ≡ w.q.r.target.node) → with_changed v (map as_owner (filter has_sectors (rest w.q).0)) ≡ map as_owner (filter has_sectors (rest w.q).0)
     others_keep v which = map_fixed (λ (p : Owner). cond (is_node v.node p) v p) (map as_owner (filter has_sectors (rest w.q).0)) (λ p at.

@@ -9,12 +9,12 @@ use Rattle.fc_course.proofs.GrownAroundLemmas.{one_of_two}
 use Rattle.fc_course.proofs.GrownCanLemmas as can
 use Rattle.fc_course.proofs.GrownMoveEditLemmas.{AllSaidNow, IsSaidNow, become}
 use Rattle.fc_course.proofs.GrownMoveGrowsLemmas.{big, rooted}
-use Rattle.fc_course.proofs.GrownMoveMadeLemmas.{EditedRename, MadeEdit, MadeMove, moving_of, none_given, up_in}
+use Rattle.fc_course.proofs.GrownMoveMadeLemmas.{EditedRename, IsPlacedEdit, MadeEdit, MadeMove, moving_of, none_given, placed_move, up_in}
 use Rattle.fc_course.proofs.GrownMoveNodeLemmas.{growing_in}
 use Rattle.fc_course.proofs.GrownMoveReadyLemmas.{PlainRename}
 use Rattle.fc_course.proofs.GrownMoveSaidLemmas.{it, l, layout, listed}
 use Rattle.fc_course.proofs.GrownMoveWalkLemmas as walk
-use Rattle.fc_course.proofs.GrownMoveWantLemmas.{GrownRename}
+use Rattle.fc_course.proofs.GrownMoveWantLemmas.{GrownRename, IsPlacedRename}
 use Rattle.fc_course.proofs.GrownMoveWantLemmas as want
 use Rattle.fc_course.proofs.GrownPutLemmas.{MayHave, in_order, may_have, places}
 use Rattle.fc_course.proofs.GrownRootLemmas.{version_of}
@@ -191,32 +191,38 @@ module _ (w : EditedRename) (md : MadeEdit w) where
   pub copied_is : copied_place w.pr.ready ≡ source_from w.pr.ready.source
   copied_is = (λ i. source_from w.pr.ready.source ++ flat_map from_of (w.ready.carried i)) ∙ append-nil (source_from w.pr.ready.source)
 
-  pub dirs_there : AreRoom (disc_sectors (Layout.New w.q.m)) (map_sectors w.q.m.geometry) dirs_place
+-- ---- as it is placed
+
+module _ (w : EditedRename) (pl : IsPlacedEdit w) (md : MadeEdit w) where
+  pub dirs_there : AreRoom (disc_sectors (Layout.New w.q.m)) (map_sectors w.q.m.geometry) (dirs_place w md)
   dirs_there =
-      grown_room q.kind q.m q.nodes q.owners q.root q.listings q.agreed (l q) others md.same all_listed (sectors_in P.extents.items)
-      (may_have q.kind q.m q.nodes q.owners q.root q.listings q.agreed (l q) (listed q) (walk.cut q).0 q.growth (plan_in q.placed.placing) q.placed.dir P (walk.to_grow q))
+      grown_room w.q.kind w.q.m w.q.nodes w.q.owners w.q.root w.q.listings w.q.agreed (l w.q) (others w md) md.same (all_listed w md) (sectors_in (want.grown w.q).0.extents.items)
+      (may_have w.q.kind w.q.m w.q.nodes w.q.owners w.q.root w.q.listings w.q.agreed (l w.q) (listed w.q) (walk.cut w.q).0 w.q.growth (plan_in pl.placed.placing) pl.placed.dir (want.grown w.q).0 (walk.to_grow w.q pl.placed))
 
   -- ---- the map
 
   -- The record of a disc whose directories grow can have the root's new place.
   pub writes : TellsVersion (Layout.New w.q.m) → (n : ℕ) → CanPut n (map_sectors w.q.m.geometry) w.pr.ready → CanWrite n w.q.m w.pr.ready
   writes tells n can_put =
-      let fit = walk.fit q w.unused in
-      let takes = walk.takes q w.unused in
-      let version = version_of q.m tells (walk.form q) in
+      let fit = walk.fit w.q pl.placed pl.unused in
+      let takes = walk.takes w.q pl.placed pl.unused in
+      let version = version_of w.q.m tells (walk.form w.q) in
       record {
         put = can_put;
-        take = subst (CanStep q.m) (sym w.ready.take)
-            (can.can_take q.m (plan_in q.placed.placing) q.placed.dir (walk.alone q) (want.back q) fit (root_of (Some P)) q.agreed.is_map q.spaces.take takes (rooted q (big w md) version));
+        take = subst (CanStep w.q.m) (sym w.ready.take)
+            (can.can_take w.q.m (plan_in pl.placed.placing) pl.placed.dir (walk.alone w.q pl.placed) (want.back w.q pl.placed) fit (root_of (Some (want.grown w.q).0)) w.q.agreed.is_map w.q.spaces.take takes (rooted w.q pl.placed (big w md) version));
         give = λ mid done. subst (CanStep mid) (sym w.ready.give)
-            (can.can_give q.m (plan_in q.placed.placing) q.placed.dir (walk.alone q) (want.back q) fit (root_of (Some P)) q.agreed.is_map mid q.spaces.take q.spaces.give takes (want.gives q) (subst (HasStepped q.m mid) w.ready.take done));
+            (can.can_give w.q.m (plan_in pl.placed.placing) pl.placed.dir (walk.alone w.q pl.placed) (want.back w.q pl.placed) fit (root_of (Some (want.grown w.q).0)) w.q.agreed.is_map mid w.q.spaces.take w.q.spaces.give takes (want.gives w.q pl.placed) (subst (HasStepped w.q.m mid) w.ready.take done));
       }
 
 -- ---- without a copy
 
-module _ (w : PlainRename) (md : MadeMove w) where
+module _ (w : PlainRename) (placed : IsPlacedRename w.q) (md : MadeMove w) where
   abbrev e : EditedRename
   e = moving_of w md.c
+
+  abbrev pl : IsPlacedEdit (moving_of w md.c)
+  pl = placed_move w md.c placed
 
   no_source : w.pr.ready.source ≡ sources.Nothing
   no_source = none_given w md.part.turned
@@ -226,7 +232,7 @@ module _ (w : PlainRename) (md : MadeMove w) where
 
   all_there : AreRoom (disc_sectors (Layout.New w.q.m)) (map_sectors w.q.m.geometry) (written_place w.pr.ready)
   all_there =
-      subst (AreRoom (disc_sectors (layout w.q)) (map_sectors w.q.m.geometry)) (sym (written_is e md.part ∙ ap (λ (s : Source). source_place s ++ dirs_place e md.part) no_source)) (dirs_there e md.part)
+      subst (AreRoom (disc_sectors (layout w.q)) (map_sectors w.q.m.geometry)) (sym (written_is e md.part ∙ ap (λ (s : Source). source_place s ++ dirs_place e md.part) no_source)) (dirs_there e pl md.part)
 
   can_put : (n : ℕ) → disc_sectors (Layout.New w.q.m) ≤ n → CanPut n (map_sectors w.q.m.geometry) w.pr.ready
   can_put n most = record {
@@ -241,4 +247,4 @@ module _ (w : PlainRename) (md : MadeMove w) where
   }
 
   pub can_write : TellsVersion (Layout.New w.q.m) → (n : ℕ) → disc_sectors (Layout.New w.q.m) ≤ n → CanWrite n w.q.m w.pr.ready
-  can_write tells n most = writes e md.part tells n (can_put n most)
+  can_write tells n most = writes e pl md.part tells n (can_put n most)

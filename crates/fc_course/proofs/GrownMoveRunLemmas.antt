@@ -10,14 +10,14 @@ use Rattle.fc_changes.proofs.SpaceLemmas.{owned_same}
 use Rattle.fc_course.proofs.GrownBackLemmas as back_of
 use Rattle.fc_course.proofs.GrownChangeLemmas.{IsGrownStepped, taking_of, takings}
 use Rattle.fc_course.proofs.GrownMoveGrowsLemmas.{lies_now}
-use Rattle.fc_course.proofs.GrownMoveMadeLemmas.{EditedRename, MadeMove, moving_of}
+use Rattle.fc_course.proofs.GrownMoveMadeLemmas.{EditedRename, IsPlacedEdit, MadeMove, moving_of, placed_move}
 use Rattle.fc_course.proofs.GrownMoveNodeLemmas.{growing_in}
 use Rattle.fc_course.proofs.GrownMoveNodeLemmas as move_of
 use Rattle.fc_course.proofs.GrownMoveReadyLemmas.{PlainRename, plain_entry}
 use Rattle.fc_course.proofs.GrownMoveRestLemmas as rest_of
 use Rattle.fc_course.proofs.GrownMoveSaidLemmas.{anew, it, l, layout}
 use Rattle.fc_course.proofs.GrownMoveWalkLemmas as walk
-use Rattle.fc_course.proofs.GrownMoveWantLemmas.{GrownRename}
+use Rattle.fc_course.proofs.GrownMoveWantLemmas.{GrownRename, IsPlacedRename}
 use Rattle.fc_course.proofs.GrownMoveWantLemmas as want
 use Rattle.fc_course.proofs.GrownSpaceLemmas as space_of
 use Rattle.fc_course.proofs.MoveOwnerLemmas as mover
@@ -49,70 +49,77 @@ use Rattle.std.proofs.Common.{Bool, List, None, Option, Some, [], ap, ap₂, con
 use Rattle.std.proofs.lemmas.List.Sorted.{IsPermutation-cons}
 use Rattle.std.specs.Prelude.{IsPermutation}
 
-module _ (w : EditedRename) (m' : Map) (given : IsGiven w.q.m w.pr.ready m') where
+module _ (w : EditedRename) (pl : IsPlacedEdit w) (m' : Map) (given : IsGiven w.q.m w.pr.ready m') where
   abbrev q : GrownRename
   q = w.q
 
-  pub stepped : IsGrownStepped w.q.m m' (plan_in w.q.placed.placing) w.q.placed.dir (walk.alone w.q) (root_of (Some (want.grown w.q).0)) (want.back w.q)
+  pub stepped : IsGrownStepped w.q.m m' (plan_in pl.placed.placing) pl.placed.dir (walk.alone w.q pl.placed) (root_of (Some (want.grown w.q).0)) (want.back w.q pl.placed)
   stepped =
-      walk.stepped q w.unused given.0 m' (subst (HasStepped q.m given.0) w.ready.take given.1) (subst (HasStepped given.0 m') w.ready.give given.2)
+      walk.stepped q pl.placed pl.unused given.0 m' (subst (HasStepped q.m given.0) w.ready.take given.1) (subst (HasStepped given.0 m') w.ready.give given.2)
 
   -- The grown directory's identifier stays, if it takes no space.
-  pub kept : w.q.placed.dir ≡ None
-      → is_one_of (want.back w.q) (space_of.own_id w.q.m w.q.nodes w.q.owners w.q.listings (l w.q).object (walk.cut w.q).0 w.q.growth (plan_in w.q.placed.placing) w.q.placed.dir (want.grown w.q).0 (walk.to_grow w.q)) ≡ false
+  pub kept : pl.placed.dir ≡ None
+      → is_one_of (want.back w.q pl.placed) (space_of.own_id w.q.m w.q.nodes w.q.owners w.q.listings (l w.q).object (walk.cut w.q).0 w.q.growth (plan_in pl.placed.placing) pl.placed.dir (want.grown w.q).0 (walk.to_grow w.q pl.placed)) ≡ false
   kept same =
-      ap (λ (ids : List ℕ). is_one_of ids (space_of.own_id q.m q.nodes q.owners q.listings (l q).object (walk.cut q).0 q.growth (plan_in q.placed.placing) q.placed.dir (want.grown q).0 (walk.to_grow q))) (walk.lost q same)
+      ap (λ (ids : List ℕ). is_one_of ids (space_of.own_id q.m q.nodes q.owners q.listings (l q).object (walk.cut q).0 q.growth (plan_in pl.placed.placing) pl.placed.dir (want.grown q).0 (walk.to_grow q pl.placed))) (walk.lost q pl.placed same)
 
   -- It lies at its place.
   pub grown_at : IsAt (Layout.New m') (anew w.q)
-  grown_at = back_of.grown_at q.m q.nodes q.owners q.listings (l q).object (walk.cut q).0 q.growth (plan_in q.placed.placing) q.placed.dir (want.grown q).0 (walk.to_grow q) m' (root_of (Some (want.grown q).0)) (want.back q) stepped kept
+  grown_at = back_of.grown_at q.m q.nodes q.owners q.listings (l q).object (walk.cut q).0 q.growth (plan_in pl.placed.placing) pl.placed.dir (want.grown q).0 (walk.to_grow q pl.placed) m' (root_of (Some (want.grown q).0)) (want.back q pl.placed) stepped kept
 
   pub grown_some : has_sectors (anew w.q) ≡ true
-  grown_some = back_of.grown_some q.m q.nodes q.owners q.listings (l q).object (walk.cut q).0 q.growth (plan_in q.placed.placing) q.placed.dir (want.grown q).0 (walk.to_grow q) m' (root_of (Some (want.grown q).0)) (want.back q) stepped kept
+  grown_some = back_of.grown_some q.m q.nodes q.owners q.listings (l q).object (walk.cut q).0 q.growth (plan_in pl.placed.placing) pl.placed.dir (want.grown q).0 (walk.to_grow q pl.placed) m' (root_of (Some (want.grown q).0)) (want.back q pl.placed) stepped kept
 
 -- ---- without a copy
 
-module _ (w : PlainRename) (md : MadeMove w) (m' : Map) (given : IsGiven w.q.m w.pr.ready m') where
+module _ (w : PlainRename) (md : MadeMove w) (m' : Map) (geometry : m'.geometry ≡ w.q.m.geometry) where
+  abbrev entry_then : Entry
+  entry_then = renamed_entry (it w.q).entry w.q.name (it w.q).entry.address
+
+  -- The object's owner is as it was, but in its new directory.
+  pub owned_by : move_of.IsOwnedThen (moving_of w md.c) md.part m'
+  owned_by = record {
+    some = refl;
+    now = ap (owner_if (Layout.New m') w.q.r.target.node w.q.r.holder) (plain_entry w)
+        ∙ ap (λ (x : Geometry). owner_if (Layout.New (record { geometry = x; zones = [] })) w.q.r.target.node w.q.r.holder entry_then) geometry
+        ∙ mover.now_is (layout w.q) w.q.nodes w.q.listings w.q.from w.q.to w.q.r w.q.name w.q.seen w.q.owners w.q.agreed.owned
+        ∙ ap (λ (x : Geometry). cond (has_sectors (it w.q)) (Some (owner_with (Layout.New (record { geometry = x; zones = [] })) w.q.r.holder w.q.r.target.node (it w.q))) None) (sym geometry);
+    admitted = λ number. ap (λ (d : Entry). owners_admitted (layout w.q) (turns.Turns w.q.r.target.node w.q.r.holder d) number w.q.owners) (plain_entry w)
+        ∙ mover.admitted (layout w.q) w.q.nodes w.q.listings w.q.from w.q.to w.q.r w.q.name w.q.seen w.q.owners w.q.agreed.owned number;
+  }
+
+module _ (w : PlainRename) (placed : IsPlacedRename w.q) (md : MadeMove w) (m' : Map) (given : IsGiven w.q.m w.pr.ready m') where
   abbrev e : EditedRename
   e = moving_of w md.c
+
+  abbrev pl : IsPlacedEdit (moving_of w md.c)
+  pl = placed_move w md.c placed
 
   abbrev gr : Growing
   gr = growing_in e md.part
 
-  pub space : IsSpaceChange w.q.m m' (taking_of w.q.placed.dir) (gone_at_once w.q.placed.dir (walk.alone w.q) ++ want.back w.q)
-  space = subst (λ (o : Option Plan). IsSpaceChange w.q.m m' (takings o w.q.placed.dir) (gone_at_once w.q.placed.dir (walk.alone w.q) ++ want.back w.q)) (want.no_plan w.q w.plain) (stepped e m' given).space
+  pub space : IsSpaceChange w.q.m m' (taking_of placed.dir) (gone_at_once placed.dir (walk.alone w.q placed) ++ want.back w.q placed)
+  space = subst (λ (o : Option Plan). IsSpaceChange w.q.m m' (takings o placed.dir) (gone_at_once placed.dir (walk.alone w.q placed) ++ want.back w.q placed)) (want.no_plan w.q placed w.plain) (stepped e pl m' given).space
 
-  pub gives : GivesBack w.q.m (taking_of w.q.placed.dir) (gone_at_once w.q.placed.dir (walk.alone w.q) ++ want.back w.q) w.q.listings (grown_edit md.c (growing_in (moving_of w md.c) md.part))
+  pub gives : GivesBack w.q.m (taking_of placed.dir) (gone_at_once placed.dir (walk.alone w.q placed) ++ want.back w.q placed) w.q.listings (grown_edit md.c (growing_in (moving_of w md.c) md.part))
   gives =
       let rest = rest_of.rest w.q in
       record {
         stay = rest.0;
         others = subst (λ (os : List Object). IsPermutation (objects_of w.q.listings) (os ++ rest.0)) (sym md.part.leave) (rest_of.beside w.q);
         exactly = λ n used.
-            back_of.gives w.q.m w.q.nodes w.q.owners w.q.listings (l w.q).object (walk.cut w.q).0 w.q.growth (plan_in w.q.placed.placing) w.q.placed.dir (want.grown w.q).0 (walk.to_grow w.q) m' (root_of (Some (want.grown w.q).0)) (want.back w.q) (stepped e m' given) (kept e m' given)
-            [] (λ i u owns. absurd (let never : false ≡ true = owns in cc)) (walk.lost w.q) (walk.was_alone w.q) (walk.left w.q w.plain) n used
-            ∙ ap₂ (λ (b : Bool) (o : Option Plan). (is_owned (objects_of w.q.listings) n && not b) || is_taken (takings o w.q.placed.dir) n)
-            (owned_same (anew w.q ∷ (walk.cut w.q).0) (anew w.q ∷ it w.q ∷ rest.0) n (IsPermutation-cons (anew w.q) (walk.cut w.q).0 (it w.q ∷ rest.0) rest.1)) (want.no_plan w.q w.plain)
-            ∙ ap (λ (os : List Object). is_given_back (objects_of w.q.listings) (os ++ rest.0) n || is_taken (taking_of w.q.placed.dir) n) (sym md.part.join);
+            back_of.gives w.q.m w.q.nodes w.q.owners w.q.listings (l w.q).object (walk.cut w.q).0 w.q.growth (plan_in placed.placing) placed.dir (want.grown w.q).0 (walk.to_grow w.q placed) m' (root_of (Some (want.grown w.q).0)) (want.back w.q placed) (stepped e pl m' given) (kept e pl m' given)
+            [] (λ i u owns. absurd (let never : false ≡ true = owns in cc)) (walk.lost w.q placed) (walk.was_alone w.q placed) (walk.left w.q placed w.plain) n used
+            ∙ ap₂ (λ (b : Bool) (o : Option Plan). (is_owned (objects_of w.q.listings) n && not b) || is_taken (takings o placed.dir) n)
+            (owned_same (anew w.q ∷ (walk.cut w.q).0) (anew w.q ∷ it w.q ∷ rest.0) n (IsPermutation-cons (anew w.q) (walk.cut w.q).0 (it w.q ∷ rest.0) rest.1)) (want.no_plan w.q placed w.plain)
+            ∙ ap (λ (os : List Object). is_given_back (objects_of w.q.listings) (os ++ rest.0) n || is_taken (taking_of placed.dir) n) (sym md.part.join);
       }
 
-  pub lies : IsGrownAt w.q.m (objects_of w.q.listings) [] (growing_in (moving_of w md.c) md.part) (taking_of w.q.placed.dir)
-  lies = subst (λ (o : Option Plan). IsGrownAt w.q.m (objects_of w.q.listings) (takings_of (id_in o) (parts_in o)) gr (taking_of w.q.placed.dir)) (want.no_plan w.q w.plain) (lies_now e md.part)
+  pub lies : IsGrownAt w.q.m (objects_of w.q.listings) [] (growing_in (moving_of w md.c) md.part) (taking_of placed.dir)
+  lies = subst (λ (o : Option Plan). IsGrownAt w.q.m (objects_of w.q.listings) (takings_of (id_in o) (parts_in o)) gr (taking_of placed.dir)) (want.no_plan w.q placed w.plain) (lies_now e pl md.part)
 
-  abbrev entry_then : Entry
-  entry_then = renamed_entry (it w.q).entry w.q.name (it w.q).entry.address
-
-  -- The object's owner is as it was, but in its new directory.
   pub owned_then : move_of.IsOwnedThen (moving_of w md.c) md.part m'
-  owned_then = record {
-    some = refl;
-    now = ap (owner_if (Layout.New m') w.q.r.target.node w.q.r.holder) (plain_entry w)
-        ∙ ap (λ (x : Geometry). owner_if (Layout.New (record { geometry = x; zones = [] })) w.q.r.target.node w.q.r.holder entry_then) (stepped e m' given).geometry
-        ∙ mover.now_is (layout w.q) w.q.nodes w.q.listings w.q.from w.q.to w.q.r w.q.name w.q.seen w.q.owners w.q.agreed.owned
-        ∙ ap (λ (x : Geometry). cond (has_sectors (it w.q)) (Some (owner_with (Layout.New (record { geometry = x; zones = [] })) w.q.r.holder w.q.r.target.node (it w.q))) None) (sym (stepped e m' given).geometry);
-    admitted = λ number. ap (λ (d : Entry). owners_admitted (layout w.q) (turns.Turns w.q.r.target.node w.q.r.holder d) number w.q.owners) (plain_entry w)
-        ∙ mover.admitted (layout w.q) w.q.nodes w.q.listings w.q.from w.q.to w.q.r w.q.name w.q.seen w.q.owners w.q.agreed.owned number;
-  }
+  owned_then = owned_by w md m' (stepped e pl m' given).geometry
 
   module _ (owners' : List Owner) (number : ℕ) (after : AreOwnersAfter (Layout.New m') w.q.nodes w.pr.change (owners_admitted (Layout.New w.q.m) w.pr.change.object number w.q.owners) owners') where
     -- The rename, with its parts.
@@ -129,20 +136,20 @@ module _ (w : PlainRename) (md : MadeMove w) (m' : Map) (given : IsGiven w.q.m w
       listings = w.q.listings;
       c = md.c;
       growing = growing_in (moving_of w md.c) md.part;
-      own = taking_of w.q.placed.dir;
-      gone = gone_at_once w.q.placed.dir (walk.alone w.q) ++ want.back w.q;
+      own = taking_of placed.dir;
+      gone = gone_at_once placed.dir (walk.alone w.q placed) ++ want.back w.q placed;
       agreed = w.q.agreed;
       moves = md.moves;
       grows = md.part.grows;
       nodes_edited = move_of.nodes_edited e md.part number;
-      owners_edited = move_of.owners_edited e md.part m' owned_then (grown_at e m' given) (grown_some e m' given) number owners' after;
-      is_map = (stepped e m' given).edited.is_map;
-      geometry = (stepped e m' given).geometry;
+      owners_edited = move_of.owners_edited e md.part m' owned_then (move_of.grown_owner e md.part m' (anew w.q).sectors refl (grown_at e pl m' given)) (grown_some e pl m' given) number owners' after;
+      is_map = (stepped e pl m' given).edited.is_map;
+      geometry = (stepped e pl m' given).geometry;
       space = space;
       gives = gives;
       some = subst (λ (n : ℕ). 0 < n) (sym (walk.len_is w.q)) (walk.big w.q).more;
       lies = lies;
-      at = grown_at e m' given;
+      at = grown_at e pl m' given;
     }
 
     -- The parts agree afterwards.

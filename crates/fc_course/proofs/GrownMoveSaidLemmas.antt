@@ -9,7 +9,7 @@ use Rattle.fc_course.proofs.GrownMoveWantLemmas.{GrownRename}
 use Rattle.fc_course.proofs.GrownMoveWantLemmas as want
 use Rattle.fc_course.proofs.GrownReadyLemmas.{regrown_at}
 use Rattle.fc_course.proofs.GrownReadyLemmas as ready_of
-use Rattle.fc_course.proofs.GrownToldLemmas.{amended_form, holder_short, num, num_is, other_long, parent_now}
+use Rattle.fc_course.proofs.GrownToldLemmas.{amended_form, num, num_is, parent_now}
 use Rattle.fc_course.proofs.GrownToldLemmas as of
 use Rattle.fc_course.proofs.MoveLemmas.{IsOwn, own_listing}
 use Rattle.fc_course.proofs.MoveLemmas as seen_of
@@ -57,7 +57,7 @@ renamed_stays : (parent at : ℕ) (e : Entry) (len size : ℕ) (old new : Direct
 renamed_stays parent at e len size (Directory.Small dir) new has is long = absurd has
 renamed_stays parent at e len size (Directory.Big dir) new has is long = subst (HasForm forms.Long size) (sym is) (ap size_of (sym is) ∙ long)
 
-entered_stays : (parent : ℕ) (e : Entry) (len size : ℕ) (old new : Directory) → HasForm forms.Long len old → new ≡ with_head parent (with_new e old) → size_of new ≡ size → HasForm forms.Long size new
+pub entered_stays : (parent : ℕ) (e : Entry) (len size : ℕ) (old new : Directory) → HasForm forms.Long len old → new ≡ with_head parent (with_new e old) → size_of new ≡ size → HasForm forms.Long size new
 entered_stays parent e len size (Directory.Small dir) new has is long = absurd has
 entered_stays parent e len size (Directory.Big dir) new has is long = subst (HasForm forms.Long size) (sym is) (ap size_of (sym is) ∙ long)
 

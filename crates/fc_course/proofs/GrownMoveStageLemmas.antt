@@ -33,8 +33,7 @@ use Rattle.fc_course.proofs.TargetLemmas as target_of
 use Rattle.fc_dirs.specs.Directory.{Directory, entries_of}
 use Rattle.fc_dirs.specs.Entries.{has_name}
 use Rattle.fc_dirs.specs.declared.Entry.{Entry}
-use Rattle.fc_drafts.specs.Draft.{CanAddress, CanHold, CanName}
-use Rattle.fc_drafts.specs.Entries.{regrown}
+use Rattle.fc_drafts.specs.Draft.{CanAddress}
 use Rattle.fc_edits.proofs.lemmas.ShapeLemmas.{of_one}
 use Rattle.fc_image.proofs.EntriesLemmas.{cases as contains_cases}
 use Rattle.fc_image.proofs.PathsLemmas.{itself}
@@ -46,14 +45,12 @@ use Rattle.fc_laws.specs.agree.Agreed.{parts_with}
 use Rattle.fc_laws.specs.nodes.Edits.{Nodes}
 use Rattle.fc_model.specs.Tree.{holder}
 use Rattle.fc_names.specs.Names.{Path, is_same_path}
-use Rattle.fc_names.specs.declared.name.NameForm.{NameForm}
 use Rattle.fc_names.specs.declared.name.NameForm.TheVariants as forms
 use Rattle.fc_newmap.specs.Map.{Map}
 use Rattle.fc_refusals.specs.declared.target.Renaming.{Renaming}
 use Rattle.fc_tree.proofs.MemberLemmas.{contains_here, in_map, no_element}
 use Rattle.fc_tree.proofs.SoundLemmas.{children_stored, root_or_child, same_listing}
 use Rattle.fc_tree.proofs.WalkedLemmas.{child_path, listed_directory, root, root_path, same_some}
-use Rattle.fc_tree.specs.Agree.{HasForm}
 use Rattle.fc_tree.specs.Nodes.{is_directory_node, number_of}
 use Rattle.fc_tree.specs.Parts.{Parts}
 use Rattle.fc_tree.specs.declared.node.Node.{Node}
@@ -63,20 +60,9 @@ use Rattle.std.proofs.lemmas.List.{length-map}
 use Rattle.std.proofs.lemmas.List.Elements.{Contains-append_cases}
 use Rattle.std.specs.Option.{option_map}
 use Rattle.std.specs.Prelude.{Contains, is_some}
+use Rattle.fc_course.proofs.GrownStageLemmas.{address_any, name_any, hold_any}
 
 -- ---- big directories
-
-address_any : (form : NameForm) (len address : ℕ) (content : Directory) → form ≡ forms.Long → HasForm form len content → CanAddress content address
-address_any form len address (Directory.Big dir) is has = tt
-address_any form len address (Directory.Small dir) is has = absurd (subst (λ (f : NameForm). HasForm f len (Directory.Small dir)) is has)
-
-name_any : (form : NameForm) (len : ℕ) (name : List ℕ) (content : Directory) → form ≡ forms.Long → HasForm form len content → CanName content name
-name_any form len name (Directory.Big dir) is has = tt
-name_any form len name (Directory.Small dir) is has = absurd (subst (λ (f : NameForm). HasForm f len (Directory.Small dir)) is has)
-
-hold_any : (form : NameForm) (len address size : ℕ) (content : Directory) (e : Entry) → form ≡ forms.Long → HasForm form len content → CanHold content e → CanHold content (regrown e address size)
-hold_any form len address size (Directory.Big dir) e is has can = can
-hold_any form len address size (Directory.Small dir) e is has can = absurd (subst (λ (f : NameForm). HasForm f len (Directory.Small dir)) is has)
 
 -- ---- what can be placed
 

@@ -33,7 +33,7 @@ cut_told g nodes (x ∷ xs) ys [] tell = absurd tell
 cut_told g nodes (x ∷ xs) ys (s ∷ ss) tell =
     let r = cut_told g nodes xs ys ss tell.1 in (s ∷ r.0, r.1, ap (λ (ts : List Says). s ∷ ts) r.2, (tell.0, r.3), r.4)
 
-first_cut : (g : Option Regrowth) (nodes : Nodes) (x : ℕ × Rewriting) (xs : List (ℕ × Rewriting)) (ss : List Says) → TellAll g nodes (x ∷ xs) ss
+pub first_cut : (g : Option Regrowth) (nodes : Nodes) (x : ℕ × Rewriting) (xs : List (ℕ × Rewriting)) (ss : List Says) → TellAll g nodes (x ∷ xs) ss
     → (s : Says) × (rest : List Says) × (ss ≡ s ∷ rest) × Tells g nodes x.0 x.1 s × TellAll g nodes xs rest
 first_cut g nodes x xs [] tell = absurd tell
 first_cut g nodes x xs (s ∷ ss) tell = (s, ss, refl, tell.0, tell.1)

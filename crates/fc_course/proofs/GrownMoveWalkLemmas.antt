@@ -8,7 +8,7 @@ use Rattle.fc_course.proofs.GrownAroundLemmas.{one_first}
 use Rattle.fc_course.proofs.GrownBackLemmas as back_of
 use Rattle.fc_course.proofs.GrownChangeLemmas.{IsGrownStepped, both_grown}
 use Rattle.fc_course.proofs.GrownMoveBigLemmas.{big_by}
-use Rattle.fc_course.proofs.GrownMoveWantLemmas.{GrownRename}
+use Rattle.fc_course.proofs.GrownMoveWantLemmas.{GrownRename, IsPlacedRename}
 use Rattle.fc_course.proofs.GrownMoveWantLemmas as want
 use Rattle.fc_course.proofs.GrownSpaceLemmas.{IsToGrow}
 use Rattle.fc_course.proofs.GrownSpaceLemmas as space_of
@@ -93,77 +93,80 @@ module _ (q : GrownRename) where
   abbrev pub stay : List Object
   stay = cut.0
 
-  own_plan : IfSome (plan_in q.placed.placing) (IsOwnPlan q.m q.wants.bytes)
-  own_plan = by q.placed.placing q.placed.is
+  pub len_is : (want.grown q).0.directory.len ≡ q.growth.len
+  len_is = q.len
+
+-- ---- as it is placed
+
+module _ (q : GrownRename) (pl : IsPlacedRename q) where
+  own_plan : IfSome (plan_in pl.placing) (IsOwnPlan q.m q.wants.bytes)
+  own_plan = by pl.placing pl.is
     where
       by : (x : Placing) → IsPlacingFor q.m q.owners q.wants x → IfSome (plan_in x) (IsOwnPlan q.m q.wants.bytes)
       by placings.Nowhere is = tt
       by (placings.Shared share) is = tt
       by (placings.New plan) is = is.1
 
-  pub to_grow : IsToGrow q.m q.nodes q.owners q.listings q.seen.known.destination.listing.object cut.0 q.growth (plan_in q.placed.placing) q.placed.dir (want.grown q).0
+  pub to_grow : IsToGrow q.m q.nodes q.owners q.listings q.seen.known.destination.listing.object (cut q).0 q.growth (plan_in pl.placing) pl.dir (want.grown q).0
   to_grow = record {
     node = record {
       is_map = q.agreed.is_map;
       sound = q.seen.sound;
       held = q.seen.held;
       owned = q.agreed.owned;
-      there = (listed_directory layout q.listings q.seen.sound l listed).0;
+      there = (listed_directory (layout q) q.listings q.seen.sound (l q) (listed q)).0;
       number = q.seen.known.destination.holder_is ∙ ap (λ (n : ℕ). let x : Option ℕ = Some n in x) (sym (want.node_is q));
     };
-    form = form;
-    directory = (listed_directory layout q.listings q.seen.sound l listed).1;
-    others = cut.1;
-    some = big.some;
-    longer = big.more;
+    form = form q;
+    directory = (listed_directory (layout q) q.listings q.seen.sound (l q) (listed q)).1;
+    others = (cut q).1;
+    some = (big q).some;
+    longer = (big q).more;
     bytes = q.wants.bytes;
     own = own_plan;
-    grown = (want.grown q).2;
+    grown = want.grown_at q pl;
   }
-
-  pub len_is : (want.grown q).0.directory.len ≡ q.growth.len
-  len_is = space_of.len_is q.m q.nodes q.owners q.listings l.object stay q.growth (want.object q) (want.dir q) (want.grown q).0 to_grow
 
   -- ---- the steps of the map
 
   abbrev pub alone : Bool
-  alone = space_of.alone q.m q.nodes q.owners q.listings l.object stay q.growth (want.object q) (want.dir q) (want.grown q).0 to_grow
+  alone = space_of.alone q.m q.nodes q.owners q.listings (l q).object (stay q) q.growth (want.object q pl) (want.dir q pl) (want.grown q).0 to_grow
 
   pub alone_is : is_grown_alone (parts_with q.m q.nodes q.owners) (Some q.growth) ≡ alone
-  alone_is = space_of.alone_as q.m q.nodes q.owners q.listings l.object stay q.growth (want.object q) (want.dir q) (want.grown q).0 to_grow
+  alone_is = space_of.alone_as q.m q.nodes q.owners q.listings (l q).object (stay q) q.growth (want.object q pl) (want.dir q pl) (want.grown q).0 to_grow
 
-  pub was_alone : alone ≡ true → want.back q ≡ []
-  was_alone e = want.none_alone q (alone_is ∙ e)
+  pub was_alone : alone ≡ true → want.back q pl ≡ []
+  was_alone e = want.none_alone q pl (alone_is ∙ e)
 
-  pub lost : q.placed.dir ≡ None → want.back q ≡ []
-  lost = want.none_there q
+  pub lost : pl.dir ≡ None → want.back q pl ≡ []
+  lost = want.none_there q pl
 
   -- What goes back at last was used.
-  module _ (unused : (k : ℕ) → is_used q.m k ≡ false → is_one_of (want.back q) k ≡ false) where
-    pub fit : PlansFit q.m (plan_in q.placed.placing) q.placed.dir alone (want.back q)
-    fit = back_of.plans_fit q.m q.nodes q.owners q.listings l.object stay q.growth (want.object q) (want.dir q) (want.grown q).0 to_grow (want.back q) unused (λ e plan same. was_alone e)
+  module _ (unused : (k : ℕ) → is_used q.m k ≡ false → is_one_of (want.back q pl) k ≡ false) where
+    pub fit : PlansFit q.m (plan_in pl.placing) pl.dir alone (want.back q pl)
+    fit = back_of.plans_fit q.m q.nodes q.owners q.listings (l q).object (stay q) q.growth (want.object q pl) (want.dir q pl) (want.grown q).0 to_grow (want.back q pl) unused (λ e plan same. was_alone e)
 
-    pub takes : IsStep q.m (plans_of (plan_in q.placed.placing) q.placed.dir) (gone_at_once q.placed.dir alone) (kept_parts q.placed.dir alone) (root_of (Some (want.grown q).0)) q.spaces.take
+    pub takes : IsStep q.m (plans_of (plan_in pl.placing) pl.dir) (gone_at_once pl.dir alone) (kept_parts pl.dir alone) (root_of (Some (want.grown q).0)) q.spaces.take
     takes =
-        subst (λ (a : Bool). IsStep q.m (plans_of (want.object q) (want.dir q)) (gone_at_once (want.dir q) a) (kept_parts (want.dir q) a) (root_of (Some (want.grown q).0)) q.spaces.take) alone_is (want.takes q)
+        subst (λ (a : Bool). IsStep q.m (plans_of (want.object q pl) (want.dir q pl)) (gone_at_once (want.dir q pl) a) (kept_parts (want.dir q pl) a) (root_of (Some (want.grown q).0)) q.spaces.take) alone_is (want.takes q pl)
 
     -- What the map is after both.
     pub stepped : (mid m' : Map) → HasStepped q.m mid q.spaces.take → HasStepped mid m' q.spaces.give
-        → IsGrownStepped q.m m' (plan_in q.placed.placing) q.placed.dir alone (root_of (Some (want.grown q).0)) (want.back q)
+        → IsGrownStepped q.m m' (plan_in pl.placing) pl.dir alone (root_of (Some (want.grown q).0)) (want.back q pl)
     stepped mid m' first second =
-        both_grown q.m mid m' (want.object q) (want.dir q) alone (root_of (Some (want.grown q).0)) (want.back q) q.spaces.take q.spaces.give q.agreed.is_map fit takes (want.gives q) first second
+        both_grown q.m mid m' (want.object q pl) (want.dir q pl) alone (root_of (Some (want.grown q).0)) (want.back q pl) q.spaces.take q.spaces.give q.agreed.is_map fit takes (want.gives q pl) first second
 
 -- ---- without a copy
 
-module _ (q : GrownRename) (plain : is_copied (parts_with q.m q.nodes q.owners) q.r ≡ false) where
-  pub left : (plan : Plan) → q.placed.dir ≡ Some plan → alone q ≡ false → want.back q ≡ option_to_list (left_among q.owners q.growth.node None)
-  left plan same e = want.left_plain q plain plan same (alone_is q ∙ e)
+module _ (q : GrownRename) (pl : IsPlacedRename q) (plain : is_copied (parts_with q.m q.nodes q.owners) q.r ≡ false) where
+  pub left : (plan : Plan) → pl.dir ≡ Some plan → alone q pl ≡ false → want.back q pl ≡ option_to_list (left_among q.owners q.growth.node None)
+  left plan same e = want.left_plain q pl plain plan same (alone_is q pl ∙ e)
 
-  pub back_unused : (n : ℕ) → is_used q.m n ≡ false → is_one_of (want.back q) n ≡ false
-  back_unused n free = by q.placed.dir refl (alone q) refl
+  pub back_unused : (n : ℕ) → is_used q.m n ≡ false → is_one_of (want.back q pl) n ≡ false
+  back_unused n free = by pl.dir refl (alone q pl) refl
     where
-      by : (d : Option Plan) → q.placed.dir ≡ d → (a : Bool) → alone q ≡ a → is_one_of (want.back q) n ≡ false
-      by None same a e = ap (λ (ids : List ℕ). is_one_of ids n) (lost q same)
-      by (Some plan) same true e = ap (λ (ids : List ℕ). is_one_of ids n) (was_alone q e)
+      by : (d : Option Plan) → pl.dir ≡ d → (a : Bool) → alone q pl ≡ a → is_one_of (want.back q pl) n ≡ false
+      by None same a e = ap (λ (ids : List ℕ). is_one_of ids n) (lost q pl same)
+      by (Some plan) same true e = ap (λ (ids : List ℕ). is_one_of ids n) (was_alone q pl e)
       by (Some plan) same false e =
           ap (λ (ids : List ℕ). is_one_of ids n) (left plan same e) ∙ leaves_used q.owners q.growth.node None q.m q.nodes q.listings n q.agreed.is_map q.seen.sound q.agreed.owned free

@@ -40,7 +40,7 @@ to_bytes dir n = record { node = dir; len = n }
 same_growth : (dir : ℕ) (g : Growth) → g.node ≡ dir → g ≡ to_bytes dir g.len
 same_growth dir g is = λ i. record { node = is i; len = g.len }
 
-few_bytes : (form : NameForm) (x : Arrival) → IsShort x → bytes_of form x < 2 ^ 32
+pub few_bytes : (form : NameForm) (x : Arrival) → IsShort x → bytes_of form x < 2 ^ 32
 few_bytes forms.Seven Arrival.Makes few = omega arith
 few_bytes forms.Ten Arrival.Makes few = omega arith
 few_bytes forms.Long Arrival.Makes few = omega arith

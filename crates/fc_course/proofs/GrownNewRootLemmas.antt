@@ -1,8 +1,7 @@
 -- What comes to the root of a disc, which grows by it, on a new map: the record can have the root's new place.
-use Rattle.std.proofs.Common.{◌≡◌, ◌<◌, ◌≤◌, ◌/◌, ◌%◌, ◌^◌, ◌==◌, ⊎_elim, ℕ, Bool, true, false, cond, List, [], refl, sym, ap, subst, ◌∙◌, arith, eq-eqb, Option, Some, None}
-use Rattle.std.specs.Prelude.{Contains, IfSome, nat_le}
-use Rattle.std.specs.Int.{is_in_range}
-use Rattle.std.proofs.lemmas.Bool.{and_parts, eqb-true, leb-true}
+use Rattle.std.proofs.Common.{◌≡◌, ◌<◌, ◌≤◌, ◌/◌, ◌%◌, ◌^◌, ◌==◌, ⊎_elim, ℕ, Bool, true, false, cond, List, [], refl, sym, ap, subst, ◌∙◌, eq-eqb, Option, Some, None}
+use Rattle.std.specs.Prelude.{Contains, IfSome}
+use Rattle.std.proofs.lemmas.Bool.{eqb-true}
 use Rattle.fc_alloc.specs.declared.owner.Owner.{Owner}
 use Rattle.fc_names.specs.Names.{Path}
 use Rattle.fc_names.specs.declared.name.NameForm.{NameForm}
@@ -13,7 +12,6 @@ use Rattle.fc_newmap.specs.Map.{Map}
 use Rattle.fc_newmap.specs.NewMap.{IsNewMap}
 use Rattle.fc_model.specs.Tree.{last_name}
 use Rattle.fc_dirs.specs.declared.Entry.{Entry}
-use Rattle.fc_dirs.specs.Directory.{Directory}
 use Rattle.fc_drafts.specs.Draft.{directory_in}
 use Rattle.fc_image.specs.Layout.{Layout, dir_form}
 use Rattle.fc_image.specs.Sound.{AreSound}
@@ -29,7 +27,7 @@ use Rattle.fc_laws.proofs.lemmas.nodes.MovingLemmas.{some_long as longer}
 use Rattle.fc_plan.specs.declared.plan.Plan.{Plan}
 use Rattle.fc_refusals.specs.Targets.{IsVacant}
 use Rattle.fc_tree.specs.declared.node.Node.{Node}
-use Rattle.fc_tree.specs.Agree.{HasForm, IsDirectory}
+use Rattle.fc_tree.specs.Agree.{HasForm}
 use Rattle.fc_tree.specs.Nodes.{HoldObjects, number_of}
 use Rattle.fc_tree.proofs.SoundLemmas.{root_or_child}
 use Rattle.fc_tree.proofs.WalkedLemmas.{listed_directory, root_path, same_some}
@@ -51,18 +49,9 @@ use Rattle.fc_course.proofs.GrownSpaceLemmas.{IsToGrow, growing_of}
 use Rattle.fc_course.proofs.GrownSpaceLemmas as space_of
 use Rattle.fc_course.proofs.GrownWalkLemmas as walk
 use Rattle.fc_course.proofs.GrownWantLemmas.{IsGrownWanted}
+use Rattle.fc_course.proofs.GrownMoveGrowsLemmas.{big_length, big_short}
 
 -- ---- small facts
-
--- a big directory's length is one that is allowed
-big_length : (len : ℕ) (content : Directory) → HasForm forms.Long len content → IsDirectory content → is_big_size len ≡ true
-big_length len (Directory.Big dir) has is = subst (λ (n : ℕ). is_big_size n ≡ true) has is.size
-big_length len (Directory.Small dir) has is = absurd has
-
-big_short : (n : ℕ) → is_big_size n ≡ true → n < 2 ^ 32
-big_short n e =
-    let range = and_parts (nat_le 2048 n) (nat_le n 4194304) (and_parts (is_in_range 2048 4194304 n) (n % 2048 == 0) e).0 in
-    let high = leb-true n 4194304 range.1 in omega (arith, high)
 
 -- node 0 is the root's
 at_zero : (nodes : Nodes) (listings : List Listing) (layout : Layout) (sound : AreSound layout listings) (held : HoldObjects nodes listings) (l : Listing) → Contains listings l → number_of nodes l.object.path ≡ Some 0 → l.object.path ≡ []

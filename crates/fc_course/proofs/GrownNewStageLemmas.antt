@@ -48,7 +48,7 @@ use Rattle.fc_course.proofs.GrownWantLemmas as wanted
 use Rattle.fc_course.proofs.NodeLemmas as its
 use Rattle.fc_image.proofs.EntriesLemmas.{cases as contains_cases}
 
-begins : (form : NameForm) (address : ℕ) (name : List ℕ) → form ≡ forms.Long → CanAddress (new_directory form address name) address × CanBeCalled (new_directory form address name) name
+pub begins : (form : NameForm) (address : ℕ) (name : List ℕ) → form ≡ forms.Long → CanAddress (new_directory form address name) address × CanBeCalled (new_directory form address name) name
 begins forms.Seven address name is = absurd (cc)
 begins forms.Ten address name is = absurd (cc)
 begins forms.Long address name is = (tt, tt)

@@ -13,7 +13,7 @@ use Rattle.fc_dirs.specs.declared.Entry.{Entry}
 use Rattle.fc_dirs.specs.Directory.{Directory}
 use Rattle.fc_drafts.specs.declared.room.Room.{Room}
 use Rattle.fc_drafts.specs.declared.room.Room.TheVariants as rooms
-use Rattle.fc_drafts.specs.Draft.{directory_in, names_of, size_of, with_head, with_new}
+use Rattle.fc_drafts.specs.Draft.{directory_in, names_of, size_of}
 use Rattle.fc_drafts.specs.Gains.{GetsName, HasRoom}
 use Rattle.fc_drafts.specs.Rewriting.{HasEntered}
 use Rattle.fc_image.specs.Layout.{Layout, dir_form}
@@ -53,6 +53,8 @@ use Rattle.fc_course.proofs.GrownToldLemmas.{all_pass, num, num_is, other_long, 
 use Rattle.fc_course.proofs.NodeLemmas.{size_of_form}
 use Rattle.fc_laws.proofs.lemmas.agree.SayLemmas.{as_directory as says_it}
 use Rattle.fc_image.proofs.EntriesLemmas.{later as contains_later, cases as contains_cases}
+use Rattle.fc_course.proofs.GrownMoveSaidLemmas.{entered_stays as big_stays}
+use Rattle.fc_course.proofs.GrownMoveToldLemmas.{first_cut as cut_says}
 
 -- ---- jobs by which an entry comes
 
@@ -79,11 +81,6 @@ pub record IsGrownChange (nodes : Nodes) (e : Entry) (g : Regrowth) (c : Change)
   pub tells : Tells (Some g) nodes g.node (Rewriting.Enters e) said
   pub tell : TellAll (Some g) nodes (around (Some g) nodes (g.node ∷ [])) others
   pub grown : c.grown ≡ Some g
-
-cut_says : (g : Option Regrowth) (nodes : Nodes) (q : ℕ × Rewriting) (qs : List (ℕ × Rewriting)) (ss : List Says) → TellAll g nodes (q ∷ qs) ss
-    → (s : Says) × (rest : List Says) × (ss ≡ s ∷ rest) × Tells g nodes q.0 q.1 s × TellAll g nodes qs rest
-cut_says g nodes q qs [] is = absurd is
-cut_says g nodes q qs (s ∷ ss) is = (s, ss, refl, is.0, is.1)
 
 pub grown_change : (h : Parts) (job : Job) (name : List ℕ) (s : Spaces) (c : Change) (p : GrownPlace) → IsEntering h job p.directory.node name → (is : IsChangeOf h job name s c) → s.grown ≡ Some p
     → IsGrownChange h.nodes is.entry p.directory c
@@ -125,11 +122,6 @@ others_apart nodes e g c ch s at same =
     not_told g.node (holders_of nodes g ++ children_of nodes g) back.0 back.1 (ap (λ (q : ℕ × Rewriting). q.0) back.2 ∙ sym r.2 ∙ same)
 
 -- ---- a big directory grows by an entry
-
--- it stays a big one
-big_stays : (parent : ℕ) (e : Entry) (len size : ℕ) (old new : Directory) → HasForm forms.Long len old → new ≡ with_head parent (with_new e old) → size_of new ≡ size → HasForm forms.Long size new
-big_stays parent e len size (Directory.Small dir) new has is long = absurd has
-big_stays parent e len size (Directory.Big dir) new has is long = subst (HasForm forms.Long size) (sym is) (ap size_of (sym is) ∙ long)
 
 -- It gets so many bytes.
 pub entered_size : (parent size : ℕ) (e : Entry) (old new : Directory) (o : Object) → HasEntered parent e old new → ((gain : Gain) → GetsName old e.name gain → HasRoom old gain (rooms.Grows size)) → Listing → size_of new ≡ size

@@ -35,16 +35,16 @@ use Rattle.fc_image.proofs.EntriesLemmas.{later as contains_later, cases as cont
 
 -- ---- big directories
 
-address_any : (form : NameForm) (len address : ℕ) (content : Directory) → form ≡ forms.Long → HasForm form len content → CanAddress content address
+pub address_any : (form : NameForm) (len address : ℕ) (content : Directory) → form ≡ forms.Long → HasForm form len content → CanAddress content address
 address_any form len address (Directory.Big dir) is has = tt
 address_any form len address (Directory.Small dir) is has = absurd (subst (λ (f : NameForm). HasForm f len (Directory.Small dir)) is has)
 
-name_any : (form : NameForm) (len : ℕ) (name : List ℕ) (content : Directory) → form ≡ forms.Long → HasForm form len content → CanName content name
+pub name_any : (form : NameForm) (len : ℕ) (name : List ℕ) (content : Directory) → form ≡ forms.Long → HasForm form len content → CanName content name
 name_any form len name (Directory.Big dir) is has = tt
 name_any form len name (Directory.Small dir) is has = absurd (subst (λ (f : NameForm). HasForm f len (Directory.Small dir)) is has)
 
 -- An entry that it can hold may have any address and length.
-hold_any : (form : NameForm) (len address size : ℕ) (content : Directory) (e : Entry) → form ≡ forms.Long → HasForm form len content → CanHold content e → CanHold content (regrown e address size)
+pub hold_any : (form : NameForm) (len address size : ℕ) (content : Directory) (e : Entry) → form ≡ forms.Long → HasForm form len content → CanHold content e → CanHold content (regrown e address size)
 hold_any form len address size (Directory.Big dir) e is has can = can
 hold_any form len address size (Directory.Small dir) e is has can = absurd (subst (λ (f : NameForm). HasForm f len (Directory.Small dir)) is has)
 

@@ -37,7 +37,7 @@ told_there g nodes (q ∷ qs) (t ∷ ss) s is at =
     ⊎_elim (λ same. subst (λ (x : Says). IsSome (get nodes x.node)) same (one_there g nodes q.0 q.1 t is.0)) (λ later. told_there g nodes qs ss s is.1 later) (contains_cases t s ss at)
 
 -- An owner that is there stays with room for one more.
-still_there : (o : Option Owner) (owners : List Owner) (n : ℕ) → has_node owners n ≡ true → has_node (owners_with_room o owners) n ≡ true
+pub still_there : (o : Option Owner) (owners : List Owner) (n : ℕ) → has_node owners n ≡ true → has_node (owners_with_room o owners) n ≡ true
 still_there None owners n there = there
 still_there (Some w) owners n there = by (has_node owners w.node)
   where

@@ -19,7 +19,6 @@ use Rattle.fc_change.specs.declared.job.Wants.{Wants}
 use Rattle.fc_change.specs.declared.spaces.GrownPlace.{GrownPlace}
 use Rattle.fc_change.specs.declared.spaces.Place.{Place}
 use Rattle.fc_change.specs.declared.spaces.Spaces.{Spaces}
-use Rattle.fc_change.specs.declared.change.Regrowth.{Regrowth}
 use Rattle.fc_change.specs.GrownSpace.{IsGrown, IsGrownAt as IsGrownPlace, freed, gone_at_once, kept_parts, left_by_growth, left_if, plans_of, root_of}
 use Rattle.fc_change.specs.Needs.{AreWants, HasRoomFor, IsGrowthOf, room_of}
 use Rattle.fc_change.specs.Places.{AreLeft, ArePlaced, IsPlaceFor, IsPlacingFor, plan_in}
@@ -28,11 +27,7 @@ use Rattle.fc_change.specs.Steps.{IsStep}
 use Rattle.fc_course.proofs.GrownSpaceLemmas.{left_is}
 use Rattle.fc_course.proofs.ArrivalLemmas.{Arrival, bytes_of, job_of}
 use Rattle.fc_course.proofs.ArrivalPlaceLemmas.{dir_some, shares_of}
-
--- the node of the grown directory is that of its growth
-grown_node : (m : Map) (h : Parts) (object : Option Plan) (g : Growth) (dir : Option Plan) (p : GrownPlace) → IsGrownPlace m h object g dir p → p.directory.node ≡ g.node
-grown_node m h object g None p at = ap (λ (d : Regrowth). d.node) at.directory
-grown_node m h object g (Some plan) p at = ap (λ (d : Regrowth). d.node) at.directory
+use Rattle.fc_course.proofs.GrownMoveWantLemmas.{grown_node}
 
 -- What comes wants its bytes, in slack if it is a file, and room for its name in the directory that grows, if one does.
 pub record IsItsWant (h : Parts) (dir : ℕ) (x : Arrival) (name : List ℕ) (w : Wants) : Type 0 where

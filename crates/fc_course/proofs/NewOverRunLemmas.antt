@@ -45,9 +45,7 @@ use Rattle.fc_course.proofs.OverStageLemmas.{Covers, can_prepare_job, covers, jo
 use Rattle.fc_course.proofs.OverTakenLemmas as taken
 use Rattle.fc_course.proofs.RemovalRunLemmas.{new_view, parts, sound_in}
 use Rattle.fc_course.proofs.RemovalStageLemmas.{view_of}
-
-pub no_full : (rooms.Full ≡ rooms.Fits) → ⊥
-no_full e = cc
+pub use Rattle.fc_course.proofs.RemovalRunLemmas.{no_full}
 
 module _ (law : AdditionLaw) (m : Map) (nodes : Nodes) (owners : List Owner) (is : IsNewMap m) (other : Kind) (a : Agree other (parts (Layout.New m) nodes owners)) (t : Target) (words : FileWords) (few : words.len < 2 ^ 32)
     (name : List ℕ) where

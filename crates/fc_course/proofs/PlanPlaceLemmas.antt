@@ -21,9 +21,8 @@ use Rattle.fc_plan.specs.declared.plan.Plan.{Plan}
 use Rattle.fc_plan.specs.Parts.{fronts}
 use Rattle.fc_plan.specs.Plan.{IsFrontOfOne}
 use Rattle.fc_plan.proofs.Order.{Rising, rising_of, same_place}
-use Rattle.fc_changes.proofs.BasicLemmas.{clash}
 use Rattle.fc_laws.proofs.lemmas.agree.BeforeLemmas.{new_shape}
-use Rattle.fc_laws.proofs.lemmas.takeover.WriteLemmas.{apart_of, in_taken}
+use Rattle.fc_laws.proofs.lemmas.takeover.WriteLemmas.{apart_of, Distinct-take as taken_Distinct}
 use Rattle.fc_placing.specs.Extents.{IsOwnPlace, parts_met}
 use Rattle.fc_placing.specs.Places.{IsOwnPlan}
 use Rattle.fc_placing.proofs.ExtentLemmas.{own_place, take_append}
@@ -37,11 +36,6 @@ use Rattle.fc_zone.proofs.ZoneLemmas.{Contains-head as contains_here, Contains-t
 range_Distinct : (from n : ℕ) → Distinct (range_with_len from n)
 range_Distinct from zero = tt
 range_Distinct from (suc n) = (unless (is_among (range_with_len (from + 1) n) from) (λ e. let r = range_in (from + 1) n from e in omega (arith, r.0)), range_Distinct (from + 1) n)
-
-taken_Distinct : (n : ℕ) (xs : List ℕ) → Distinct xs → Distinct (take n xs)
-taken_Distinct zero xs d = tt
-taken_Distinct (suc n) [] d = tt
-taken_Distinct (suc n) (x ∷ xs) d = (unless (is_among (take n xs) x) (λ h. clash (is_among xs x) (in_taken n xs x h) d.0), taken_Distinct n xs d.1)
 
 -- ---- fronts of holes
 

@@ -230,7 +230,7 @@ can_take layout layout' nodes owners owners' t path kind p room a may ch =
       grown = subst (CanRegrowNode nodes owners') (sym ch.none) tt;
     }
 
-no_full : (rooms.Full ≡ rooms.Fits) → ⊥
+pub no_full : (rooms.Full ≡ rooms.Fits) → ⊥
 no_full e = cc
 
 -- the laws of `delete`

@@ -29,7 +29,7 @@ use Rattle.fc_change.specs.OldSpace.{map_given}
 use Rattle.fc_change.specs.Shortage.{shortage}
 use Rattle.fc_course.proofs.EmptySpaceLemmas.{no_growth}
 
-below_zero : (n : ℕ) → nat_lt n 0 ≡ false
+pub below_zero : (n : ℕ) → nat_lt n 0 ≡ false
 below_zero n = grind (arith, nat_tests)
 
 -- nothing but what goes is wanted

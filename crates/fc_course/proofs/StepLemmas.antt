@@ -5,14 +5,11 @@ use Rattle.std.specs.List.{AllByRecursion}
 use Rattle.std.specs.Option.{option_to_list}
 use Rattle.fc_bytes.specs.Bits.{bits}
 use Rattle.fc_record.specs.declared.Geometry.{Geometry}
-use Rattle.fc_zone.specs.declared.Run.{Run}
-use Rattle.fc_zone.specs.declared.RunKind.{RunKind}
 use Rattle.fc_zone.specs.declared.RunKind.TheVariants as kinds
 use Rattle.fc_zone.specs.Zone.{hole_starts}
-use Rattle.fc_newmap.specs.Map.{Map, ZoneRun, all_runs, hole_runs, id_runs, is_hole, runs_in, runs_of, search_order, sector_of, shape, zone_numbers}
+use Rattle.fc_newmap.specs.Map.{Map, ZoneRun, all_runs, hole_runs, id_runs, is_hole, runs_in, runs_of, search_order, sector_of, shape}
 use Rattle.fc_newmap.specs.NewMap.{IsNewMap}
 use Rattle.fc_newmap.specs.Edits.{KeepsRuns}
-use Rattle.fc_newmap.specs.RunsLaw.{placed}
 use Rattle.fc_newmap.proofs.ComposeLemmas.{same_none, same_then}
 use Rattle.fc_image.specs.effects.Placed.{holes_left}
 use Rattle.fc_image.specs.effects.Steady.{has_id_that, holes_with, runs_that, zone_holes}
@@ -38,6 +35,7 @@ use Rattle.fc_course.proofs.RowLemmas.{same_runs}
 use Rattle.fc_changes.proofs.CommittedLemmas.{all_same}
 use Rattle.fc_laws.proofs.lemmas.agree.MapLemmas.{no_id as none_goes}
 use Rattle.fc_zone.proofs.ZoneLemmas.{Contains-head as contains_here, Contains-tail as contains_later}
+pub use Rattle.fc_changes.proofs.lemmas.growth.MapLemmas.{runs_all as every_same}
 
 -- ---- a map as it is
 
@@ -55,9 +53,6 @@ edited_same m is = record {
 }
 
 -- ---- the same runs
-
-pub every_same : (m m' : Map) → KeepsRuns m m' → all_runs m' ≡ all_runs m
-every_same m m' kept = ap (λ (g : Geometry). runs_in m' (zone_numbers g)) kept.geometry ∙ all_same m m' kept (zone_numbers m.geometry)
 
 pub holes_same : (m m' : Map) → KeepsRuns m m' → hole_runs m' ≡ hole_runs m
 holes_same m m' kept = ap (filter (λ (p : ZoneRun). is_hole p.1.kind)) (every_same m m' kept)

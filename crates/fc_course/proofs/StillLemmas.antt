@@ -3,7 +3,6 @@ use Rattle.std.proofs.Common.{◌≡◌, ℕ, List, [], ◌++◌, ap, refl, subs
 use Rattle.fc_names.specs.Names.{Path}
 use Rattle.fc_record.specs.declared.Kind.{Kind}
 use Rattle.fc_newmap.specs.Map.{Map}
-use Rattle.fc_oldmap.specs.OldMap.{OldMapContent}
 use Rattle.fc_model.specs.Command.{Command}
 use Rattle.fc_image.specs.Layout.{Layout}
 use Rattle.fc_image.specs.Walk.{Listing}
@@ -24,7 +23,7 @@ use Rattle.fc_change.specs.GrownSpace.{freed}
 use Rattle.fc_change.specs.Jobs.{IsJob}
 use Rattle.fc_change.specs.Needs.{AreWants}
 use Rattle.fc_change.specs.OldSpace.{units_given}
-use Rattle.fc_change.specs.Places.{AreLeft, ArePlacesFor, ArePlacesOn, plan_in}
+use Rattle.fc_change.specs.Places.{AreLeft, ArePlacesOn, plan_in}
 use Rattle.fc_change.specs.Shortage.{is_grown_alone}
 use Rattle.fc_change.specs.Steps.{IsStep}
 use Rattle.fc_course.specs.Jobs.{IsJobFor}
@@ -85,13 +84,6 @@ makes_none h (Layout.Old space) t x name w s wants p =
 still : (layout : Layout) (take give : MapStep) (was image : List ℕ) → take ≡ steps.Nothing → give ≡ steps.Nothing → StepsMap layout take give was image → SameMap layout was image
 still (Layout.New m) take give was image no_take no_give map = map.still no_take no_give
 still (Layout.Old space) take give was image no_take no_give map = map.still no_take no_give
-
--- A job on an old map that wants no bytes, and by which nothing with space goes.
-pub old_still : (h : Parts) (space : OldMapContent) → h.layout ≡ Layout.Old space → (job : Job) (name was image : List ℕ) (way : IsUnderWay h job name was image) → way.wants.bytes ≡ 0
-    → units_given space h.nodes way.wants.goes ≡ 0 → SameMap h.layout was image
-old_still h space at job name was image way none stays =
-    let placed = subst (λ (l : Layout). ArePlacesOn l h way.wants way.spaces) at way.spaced.places in
-    still h.layout way.spaces.take way.spaces.give was image (placed.takes_none none) (placed.gives_none stays) way.map
 
 job_still : (h : Parts) (job : Job) (name was image : List ℕ) → IsWording job → IsUnderWay h job name was image → SameMap h.layout was image
 job_still h job name was image wording way =
