@@ -3,8 +3,10 @@ pub mod RelocatedLemmas
 pub mod RelocatedNodesLemmas
 pub mod AlongLemmas
 pub mod RelocatedOwnersLemmas
+pub mod ApartObjectsLemmas
 pub mod SafePlacesLemmas
 pub mod SafePartsLemmas
+pub mod CopiedBodyLemmas
 pub mod SafeBytesLemmas
 pub mod SafeImageLemmas
 pub mod SafeOutcomeLemmas

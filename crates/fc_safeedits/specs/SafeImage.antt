@@ -57,6 +57,12 @@ pub record KeepsBody (x : Relocation) (o : Object) : Type 0 where
   pub sectors : (x.edit.turn o).sectors ≡ o.sectors
   pub size : object_size (dir_form (Layout.New x.m)) (x.edit.turn o).entry ≡ object_size (dir_form (Layout.New x.m)) o.entry
 
+-- Or its bytes are copied to its new sectors, in no identifier that moves.
+pub record CopiesBody (x : Relocation) (was image : List ℕ) (o : Object) : Type 0 where
+  pub elsewhere : is_moved x.moves (x.edit.turn o) ≡ false
+  pub size : object_size (dir_form (Layout.New x.m)) (x.edit.turn o).entry ≡ object_size (dir_form (Layout.New x.m)) o.entry
+  pub copied : AreCopied x.m.geometry.sector was image o.sectors (x.edit.turn o).sectors
+
 -- The edit of an image, and another image, which has what is written for it. Its map that counts is m'.
 pub record SafeImage : Type 0 where
   pub parts : SafeParts
@@ -66,7 +72,7 @@ pub record SafeImage : Type 0 where
   pub written : List ℕ
   pub new_kind : IsNewKind parts.kind r
   pub opens : OpensAs image parts.kind (record { kind = parts.kind; layout = Layout.New parts.move.m; listings = parts.move.listings })
-  pub bodies : (o : Object) → Contains (objects parts.move.edit.moving) o → IsUnamended parts.move.edit o → KeepsBody parts.move o
+  pub bodies : (o : Object) → Contains (objects parts.move.edit.moving) o → IsUnamended parts.move.edit o → KeepsBody parts.move o ⊎ CopiesBody parts.move image image' o
   pub is_written : IsSafeWritten parts.move written image image'
   pub chosen : Chooses parts.move.m.geometry parts.move.m'.zones image'
   pub root_is : RootKept parts.move ⊎ RootAnew parts.move r

@@ -21,10 +21,7 @@ use Rattle.fc_image.proofs.MoveLemmas.{one_id}
 use Rattle.fc_safelaws.specs.Relaid.{AreCopied, IsRelaid, Reaches, RelaidLaw}
 use Rattle.fc_safelaws.proofs.PlaceLemmas.{HasPlace, among_place, has_place, in_drop, in_take, one_place, place_among, place_once, to_take}
 use Rattle.fc_image.proofs.MapEditLemmas.{at_zones}
-
--- a map of the same geometry is the old one with other zones
-pub zones_back : (m m' : Map) → m'.geometry ≡ m.geometry → at_zones m m'.zones ≡ m'
-zones_back m m' same = λ i. record { geometry = sym same i; zones = m'.zones }
+pub use Rattle.fc_image.proofs.MapEditLemmas.{zones_back}
 
 -- ---- where sectors stand inside their identifier
 
@@ -151,7 +148,7 @@ as_many' m m' o o' geometry h =
 
 -- ---- bytes
 
-flat_same : (f g : ℕ → List ℕ) (xs ys : List ℕ) → length xs ≡ length ys → ((i : ℕ) → i < length ys → g (get_or ys i 0) ≡ f (get_or xs i 0)) → flat_map g ys ≡ flat_map f xs
+pub flat_same : (f g : ℕ → List ℕ) (xs ys : List ℕ) → length xs ≡ length ys → ((i : ℕ) → i < length ys → g (get_or ys i 0) ≡ f (get_or xs i 0)) → flat_map g ys ≡ flat_map f xs
 flat_same f g [] [] long same = refl
 flat_same f g [] (y ∷ ys) long same = absurd (omega (arith, long))
 flat_same f g (x ∷ xs) [] long same = absurd (omega (arith, long))

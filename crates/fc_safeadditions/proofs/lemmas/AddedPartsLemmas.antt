@@ -1,5 +1,5 @@
 -- `save`, `create` and `cdir` in the safe mode, in memory.
-use Rattle.std.proofs.Common.{◌≡◌, ℕ, true, false, refl}
+use Rattle.std.proofs.Common.{◌≡◌, ◌⊎◌, ℕ, true, false, refl}
 use Rattle.fc_image.specs.Layout.{Layout}
 use Rattle.fc_image.specs.Walk.{Object}
 use Rattle.fc_image.specs.Edits.{IsAt}
@@ -13,11 +13,10 @@ use Rattle.fc_edits.specs.Addition.{Addition, edit}
 use Rattle.fc_edits.specs.NewPlaces.{LiesAgain}
 use Rattle.fc_edits.proofs.lemmas.AdditionLemmas as memory
 use Rattle.fc_edits.proofs.lemmas.ShapeLemmas.{of_one}
-use Rattle.fc_safelaws.specs.Relaid.{Reaches}
 use Rattle.fc_safeedits.specs.Relocation.{Relocation, is_moved}
 use Rattle.fc_safeedits.specs.SafeChange.{MovedParts, moves_in}
 use Rattle.fc_safeedits.specs.SafeParts.{SafeParts}
-use Rattle.fc_safeedits.specs.SafePlaces.{SafePlaces}
+use Rattle.fc_safeedits.specs.SafePlaces.{LiesAlone, LiesInside, SafePlaces}
 use Rattle.fc_safeedits.proofs.lemmas.SafeChangeLemmas.{held}
 use Rattle.fc_safeedits.proofs.lemmas.SafePartsLemmas.{safe_parts_law}
 use Rattle.fc_safeadditions.specs.SafeAddition.{AddedParts}
@@ -64,9 +63,8 @@ module _ (x : MovedParts) (d : AddedParts x) where
     space = x.space;
     gives = d.gives;
     movable = x.movable;
-    before = of_one (λ (p : ℕ × Object). is_moved (moves_in x) p.1 ≡ true → IsAt y p.1) (c.number, c.o) (λ m. never m);
+    inside = of_one (λ (p : ℕ × Object). is_moved (moves_in x) p.1 ≡ true → LiesInside move p.1 ⊎ LiesAlone move p.1) (c.number, c.o) (λ m. never m);
     placed = of_one (λ (p : ℕ × Object). is_moved (moves_in x) p.1 ≡ false → IsAt y' p.1) (c.number, c.o) (λ still. d.at);
-    reach_joining = of_one (λ (p : ℕ × Object). is_moved (moves_in x) p.1 ≡ true → Reaches x.m' p.1) (c.number, c.o) (λ m. never m);
     reach_staying = d.reaches;
     lies = of_one (λ (p : ℕ × Object). LiesAgain x.m x.nodes x.listings (edit c) p.1) (c.number, c.o) d.lies;
     pairs = ((λ p none. absurd (no_element p none)), tt);

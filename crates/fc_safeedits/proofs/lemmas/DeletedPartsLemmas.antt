@@ -55,9 +55,8 @@ module _ (x : MovedParts) (d : DeletedParts x) where
     space = x.space;
     gives = d.gives;
     movable = x.movable;
-    before = λ p at. absurd (no_element p at);
+    inside = λ p at. absurd (no_element p at);
     placed = λ p at. absurd (no_element p at);
-    reach_joining = λ p at. absurd (no_element p at);
     reach_staying = d.reaches;
     lies = λ p at. absurd (no_element p at);
     pairs = tt;

@@ -20,7 +20,7 @@ use Rattle.fc_laws.proofs.lemmas.nodes.FitsLemmas.{fits_at, kid_at}
 use Rattle.fc_laws.proofs.lemmas.nodes.ListLemmas.{in_first, in_other}
 use Rattle.fc_laws.proofs.lemmas.nodes.OtherLemmas.{no_file}
 use Rattle.fc_edits.specs.Edit.{Amended, AreEdited, Edit, IsEdit, TopStays, TopTurns, joined_in, joining, leaving, left_in, numbers}
-use Rattle.fc_edits.specs.Lookups.{held_as, held_by, said, says_at}
+use Rattle.fc_laws.specs.nodes.Lookups.{held_as, held_by, said, says_at}
 use Rattle.fc_edits.specs.Places.{Stays}
 use Rattle.fc_edits.proofs.lemmas.NumberLemmas as n_
 use Rattle.fc_edits.proofs.lemmas.ShapeLemmas.{only}

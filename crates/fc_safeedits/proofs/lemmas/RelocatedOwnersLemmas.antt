@@ -16,7 +16,7 @@ use Rattle.fc_tree.specs.Nodes.{number_of}
 use Rattle.fc_tree.specs.Parts.{AreOwners, first_in, owner_of}
 use Rattle.fc_tree.proofs.MemberLemmas.{contains_here, in_map, no_element}
 use Rattle.fc_tree.proofs.WalkedLemmas.{child_path, holder-push, root_path}
-use Rattle.fc_laws.specs.nodes.Edits.{Nodes, OwnersEdited, owner_with, owners_with}
+use Rattle.fc_laws.specs.nodes.Edits.{OwnersEdited, owner_with, owners_with}
 use Rattle.fc_laws.proofs.lemmas.nodes.ListLemmas.{in_first}
 use Rattle.fc_laws.proofs.lemmas.nodes.OwnerLemmas.{among-append, among_permuted, owner_known, owners_among}
 use Rattle.fc_edits.specs.Edit.{Amended, Edit, IsEdit, TopStays, TopTurns, joined_in, joining, leaving, left_in, objects, owners_in, owners_joined, owners_left}
@@ -31,19 +31,10 @@ use Rattle.fc_safeedits.proofs.lemmas.LaidLemmas.{all_kid, all_object, amended_o
 use Rattle.fc_safeedits.proofs.lemmas.RelocatedLemmas.{e', turned_entry}
 use Rattle.fc_safeedits.proofs.lemmas.RelocatedNodesLemmas.{carried_stays, top_still}
 use Rattle.fc_image.proofs.TreeLemmas.{map_both as map_append}
-use Rattle.fc_edits.proofs.lemmas.OwnerLemmas.{among_list}
+use Rattle.fc_edits.proofs.lemmas.OwnerLemmas.{among_list, among_all}
 use Rattle.fc_image.proofs.EntriesLemmas.{later as contains_later}
 
 -- ---- owners among objects that are numbered
-
-among_all : (nodes : Nodes) (layout : Layout) (f : Amended → List (ℕ × Object)) (bs : List Amended)
-    → ((a : Amended) (p : ℕ × Object) → Contains bs a → Contains (f a) p → owner_of nodes layout p.1 ≡ owner_with layout a.number p.0 p.1)
-    → owners_among nodes layout (objects (flat_map f bs)) ≡ flat_map (λ (a : Amended). owners_in layout a.number (f a)) bs
-among_all nodes layout f [] each = refl
-among_all nodes layout f (a ∷ bs) each =
-    ap (owners_among nodes layout) (map_append (λ (p : ℕ × Object). p.1) (f a) (flat_map f bs)) ∙ among-append nodes layout (objects (f a)) (objects (flat_map f bs))
-    ∙ ap₂ (λ (x y : List Owner). x ++ y) (among_list nodes layout a.number (f a) (λ p at. each a p (contains_here a bs) at))
-    (among_all nodes layout f bs (λ b p at own. each b p (contains_later a b bs at) own))
 
 -- what leaves owns what these owners say
 module _ (ne : NodesEdit) where

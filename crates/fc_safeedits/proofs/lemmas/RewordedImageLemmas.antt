@@ -1,5 +1,5 @@
 -- The image after `set` and `mark` in the safe mode.
-use Rattle.std.proofs.Common.{◌≡◌, inl, ℕ, true, List, [], ◌∷◌, sym, ap, subst, ◌∙◌}
+use Rattle.std.proofs.Common.{◌≡◌, ◌⊎◌, inl, ℕ, true, List, [], ◌∷◌, sym, ap, subst, ◌∙◌}
 use Rattle.std.specs.Prelude.{Contains, Ok}
 use Rattle.std.proofs.lemmas.List.Sorted.{IsPermutation-refl}
 use Rattle.fc_dirs.specs.declared.Entry.{Entry}
@@ -16,7 +16,7 @@ use Rattle.fc_edits.proofs.lemmas.ShapeLemmas.{of_one}
 use Rattle.fc_safelaws.specs.Relaid.{AreCopied}
 use Rattle.fc_safeedits.specs.Relocation.{Relocation, is_moved, turned_in}
 use Rattle.fc_safeedits.specs.SafeChange.{SafeChange, moves_in}
-use Rattle.fc_safeedits.specs.SafeImage.{IsSafeWritten, IsUnamended, KeepsAllPaths, KeepsBody, SafeImage}
+use Rattle.fc_safeedits.specs.SafeImage.{CopiesBody, IsSafeWritten, IsUnamended, KeepsAllPaths, KeepsBody, SafeImage}
 use Rattle.fc_safeedits.specs.SafeRewording.{SafeRewording}
 use Rattle.fc_safeedits.proofs.lemmas.LaidLemmas.{laid_there}
 use Rattle.fc_safeedits.proofs.lemmas.RelocatedLemmas.{turned_entry}
@@ -85,7 +85,7 @@ module _ (d : SafeRewording) where
     written = x.written;
     new_kind = x.new_kind;
     opens = x.opens;
-    bodies = of_one (λ (o : Object). IsUnamended (edit c) o → KeepsBody move o) c.o (λ other. record { sectors = d.parts.reworded.rewording.sectors c.o; size = m_.size_same x.parts d.parts x.parts.m c.o });
+    bodies = of_one (λ (o : Object). IsUnamended (edit c) o → KeepsBody move o ⊎ CopiesBody move x.image x.image' o) c.o (λ other. inl (record { sectors = d.parts.reworded.rewording.sectors c.o; size = m_.size_same x.parts d.parts x.parts.m c.o }));
     is_written = there;
     chosen = x.chosen;
     root_is = inl (record { record_stays = d.record_stays; stays = m_.top_stays x.parts d.parts });

@@ -1,5 +1,5 @@
 -- `set` and `mark` in the safe mode, in memory.
-use Rattle.std.proofs.Common.{◌≡◌, inl, inr, ⊎_elim, ℕ, ◌-◌, ◌*◌, ◌/◌, Bool, true, false, not, cond, ◌&&◌, ◌||◌, List, [], ◌∷◌, ◌++◌, length, refl, sym, ap, ap₂, subst, ◌∙◌, Some, eq-eqb}
+use Rattle.std.proofs.Common.{◌≡◌, ◌⊎◌, inl, inr, ⊎_elim, ℕ, ◌-◌, ◌*◌, ◌/◌, Bool, true, false, not, cond, ◌&&◌, ◌||◌, List, [], ◌∷◌, ◌++◌, length, refl, sym, ap, ap₂, subst, ◌∙◌, Some, eq-eqb}
 use Rattle.std.specs.Prelude.{Contains, nat_lt, ◌==◌}
 use Rattle.std.proofs.lemmas.Bool.{eqb-true}
 use Rattle.fc_record.specs.declared.Geometry.{Geometry}
@@ -30,11 +30,10 @@ use Rattle.fc_edits.proofs.lemmas.IdentifierLemmas.{used_of}
 use Rattle.fc_edits.proofs.lemmas.NewPlaceLemmas.{owned_by, runs_keep}
 use Rattle.fc_edits.proofs.lemmas.RewordingLemmas as memory
 use Rattle.fc_edits.proofs.lemmas.ShapeLemmas.{not_own, of_one}
-use Rattle.fc_safelaws.specs.Relaid.{Reaches}
 use Rattle.fc_safeedits.specs.Relocation.{Relocation, is_moved}
 use Rattle.fc_safeedits.specs.SafeChange.{MovedParts, moves_in}
 use Rattle.fc_safeedits.specs.SafeParts.{SafeParts}
-use Rattle.fc_safeedits.specs.SafePlaces.{SafePlaces}
+use Rattle.fc_safeedits.specs.SafePlaces.{LiesAlone, LiesInside, SafePlaces}
 use Rattle.fc_safeedits.specs.SafeRewording.{RewordedParts}
 use Rattle.fc_safeedits.proofs.lemmas.RelocatedOwnersLemmas.{owner_same}
 use Rattle.fc_safeedits.proofs.lemmas.SafeChangeLemmas.{held}
@@ -147,10 +146,9 @@ module _ (x : MovedParts) (d : RewordedParts x) where
     space = x.space;
     gives = d.gives;
     movable = x.movable;
-    before = of_one (λ (p : ℕ × Object). is_moved (moves_in x) p.1 ≡ true → IsAt y p.1) (c.number, c.turn c.o) (λ m. o_at);
+    inside = of_one (λ (p : ℕ × Object). is_moved (moves_in x) p.1 ≡ true → LiesInside move p.1 ⊎ LiesAlone move p.1) (c.number, c.turn c.o)
+        (λ m. inl (record { before = o_at; reaches = reaches_by x.m' c.o (c.turn c.o) (address_same c.o) (size_same x.m' c.o) (d.reaches c.o o_in (sym (moved_same c.o) ∙ m)) }));
     placed = of_one (λ (p : ℕ × Object). is_moved (moves_in x) p.1 ≡ false → IsAt y' p.1) (c.number, c.turn c.o) (λ still. places_law x.m x.m' (c.turn c.o) x.geometry (o_keeps still) o_at);
-    reach_joining = of_one (λ (p : ℕ × Object). is_moved (moves_in x) p.1 ≡ true → Reaches x.m' p.1) (c.number, c.turn c.o)
-        (λ m. reaches_by x.m' c.o (c.turn c.o) (address_same c.o) (size_same x.m' c.o) (d.reaches c.o o_in (sym (moved_same c.o) ∙ m)));
     reach_staying = λ o s m. d.reaches o s.among m;
     lies = of_one (λ (p : ℕ × Object). LiesAgain x.m x.nodes x.listings (edit c) p.1) (c.number, c.turn c.o)
         (inl ((c.number, c.o), contains_here (c.number, c.o) [], record { sectors = d.reworded.rewording.sectors c.o; address = address_same c.o }));

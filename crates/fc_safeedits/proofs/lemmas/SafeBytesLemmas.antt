@@ -16,6 +16,7 @@ use Rattle.fc_image.proofs.FreeLemmas.{object_same}
 use Rattle.fc_tree.specs.Nodes.{number_of}
 use Rattle.fc_tree.proofs.MemberLemmas.{from_map, in_map, no_element}
 use Rattle.fc_tree.proofs.WalkedLemmas.{listed_directory}
+use Rattle.fc_laws.proofs.lemmas.agree.BeforeLemmas.{object_lies}
 use Rattle.fc_laws.proofs.lemmas.nodes.ListLemmas.{in_first}
 use Rattle.fc_edits.specs.Edit.{Amended, Edit, KeepsEntry, TopStays, TopTurns, joined_in, joining, leaving, left_in, numbers, objects, turned}
 use Rattle.fc_edits.specs.Places.{Stays}
@@ -30,9 +31,10 @@ use Rattle.fc_safelaws.specs.Relaid.{AreCopied}
 use Rattle.fc_safelaws.proofs.FreeLemmas.{free_space_law}
 use Rattle.fc_safelaws.proofs.RelaidLemmas.{relaid_law}
 use Rattle.fc_safeedits.specs.Relocation.{Relocation, is_moved, number_at, turned_in}
-use Rattle.fc_safeedits.specs.SafeImage.{IsUnamended, KeepsBody, RootAnew, RootKept, SafeImage, before_image}
+use Rattle.fc_safeedits.specs.SafeImage.{CopiesBody, IsUnamended, KeepsBody, RootAnew, RootKept, SafeImage, before_image}
+use Rattle.fc_safeedits.proofs.lemmas.CopiedBodyLemmas.{copied_bytes}
 use Rattle.fc_safeedits.proofs.lemmas.LaidLemmas.{laid_still, moved_entry, ne, number_is, same_listed}
-use Rattle.fc_safeedits.proofs.lemmas.SafePlacesLemmas.{joining', staying'}
+use Rattle.fc_safeedits.proofs.lemmas.SafePlacesLemmas.{alone_still, joining', staying'}
 
 module _ (y : SafeImage) where
   abbrev pub x : Relocation
@@ -103,7 +105,7 @@ module _ (y : SafeImage) where
       (in_first (joined_in e) (e.come ++ map (turned e) e.moving) x.is_edit.joined (turned e p) (Contains-append_right e.come (map (turned e) e.moving) (turned e p) (in_map (turned e) e.moving p at)))
 
   pub moving_body : (o : Object) → Contains (objects e.moving) o → Unamended o → object_bytes y.image' (Layout.New m') (turned_in x o) ≡ object_bytes y.image (Layout.New m) o
-  moving_body o at other = by (is_moved x.moves (e.turn o)) refl
+  moving_body o at other = ⊎_elim (λ body. lying body) (λ body. copied body) (y.bodies o at other)
     where
       p : (q : ℕ × Object) × Contains e.moving q × (q.1 ≡ o)
       p = from_map (λ (q : ℕ × Object). q.1) e.moving o at
@@ -111,18 +113,28 @@ module _ (y : SafeImage) where
       among : Contains (objects_of listings) o
       among = subst (Contains (objects_of listings)) p.2 (moving_among p.0 p.1)
 
-      body : KeepsBody x o
-      body = y.bodies o at other
+      joins : Contains (joining e) (p.0.0, e.turn o)
+      joins = subst (λ (q : Object). Contains (joining e) (p.0.0, e.turn q)) p.2 (moving_joins p.0 p.1)
 
-      by : (b : Bool) → is_moved x.moves (e.turn o) ≡ b → object_bytes y.image' (Layout.New m') (turned_in x o) ≡ object_bytes y.image (Layout.New m) o
-      by true t =
-          let joins : Contains (joining e) (p.0.0, e.turn o) = subst (λ (q : Object). Contains (joining e) (p.0.0, e.turn q)) p.2 (moving_joins p.0 p.1) in
-          let copied = y.is_written.copied_too o at t other in
-          relaid_law.bytes m m' (e.turn o) (turned_in x o) y.image y.image' geometry
-          (joining' x y.parts.kind y.parts.owners y.parts.root y.parts.takings y.parts.gone y.parts.agreed y.parts.places (p.0.0, e.turn o) joins t)
-          (subst (λ (ss : List ℕ). AreCopied m.geometry.sector y.image y.image' ss (turned_in x o).sectors) (sym body.sectors) copied)
-          ∙ (λ i. bytes_in m.geometry.sector y.image (body.sectors i) (body.size i))
-      by false t = ap (object_bytes y.image' (Layout.New m')) (laid_still m' x.moves (e.turn o) t) ∙ lying_bytes o (e.turn o) body.sectors body.size among
+      copied : CopiesBody x y.image y.image' o → object_bytes y.image' (Layout.New m') (turned_in x o) ≡ object_bytes y.image (Layout.New m) o
+      copied body =
+          ap (object_bytes y.image' (Layout.New m')) (laid_still m' x.moves (e.turn o) body.elsewhere)
+          ∙ copied_bytes m m' o (e.turn o) y.image y.image' geometry (object_lies y.parts.kind m x.nodes y.parts.owners y.parts.root listings y.parts.agreed o among).placed
+          (y.parts.places.placed (p.0.0, e.turn o) joins body.elsewhere) body.size body.copied
+
+      lying : KeepsBody x o → object_bytes y.image' (Layout.New m') (turned_in x o) ≡ object_bytes y.image (Layout.New m) o
+      lying body = by (is_moved x.moves (e.turn o)) refl
+        where
+          by : (b : Bool) → is_moved x.moves (e.turn o) ≡ b → object_bytes y.image' (Layout.New m') (turned_in x o) ≡ object_bytes y.image (Layout.New m) o
+          by true t =
+              let copied = y.is_written.copied_too o at t other in
+              ⊎_elim
+              (λ i.
+              relaid_law.bytes m m' (e.turn o) (turned_in x o) y.image y.image' geometry (joining' x (e.turn o) t i)
+              (subst (λ (ss : List ℕ). AreCopied m.geometry.sector y.image y.image' ss (turned_in x o).sectors) (sym body.sectors) copied)
+              ∙ (λ i. bytes_in m.geometry.sector y.image (body.sectors i) (body.size i)))
+              (λ alone. ap (object_bytes y.image' (Layout.New m')) (alone_still x (e.turn o) t alone) ∙ lying_bytes o (e.turn o) body.sectors body.size among) (y.parts.places.inside (p.0.0, e.turn o) joins t)
+          by false t = ap (object_bytes y.image' (Layout.New m')) (laid_still m' x.moves (e.turn o) t) ∙ lying_bytes o (e.turn o) body.sectors body.size among
 
   pub file_other : (o : Object) → is_directory_object o ≡ false → Unamended o
   file_other o file a at same =

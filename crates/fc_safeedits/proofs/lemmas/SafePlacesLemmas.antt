@@ -1,5 +1,5 @@
 -- An edit with identifiers that move has its places on the new map.
-use Rattle.std.proofs.Common.{◌≡◌, ◌<◌, ◌≤◌, ◌⊎◌, inl, inr, ⊎_elim, ℕ, ◌+◌, ◌-◌, ◌*◌, ◌/◌, Bool, true, false, not, cond, ◌&&◌, ◌||◌, List, [], ◌∷◌, ◌++◌, length, map, refl, sym, ap, ap₂, subst, ◌∙◌}
+use Rattle.std.proofs.Common.{◌≡◌, ◌<◌, ◌≤◌, ◌⊎◌, inl, inr, ⊎_elim, ℕ, ◌+◌, ◌-◌, ◌*◌, ◌/◌, Bool, true, false, not, cond, ◌&&◌, ◌||◌, List, [], ◌∷◌, ◌++◌, length, map, refl, sym, ap, ap₂, subst, ◌∙◌, Option}
 use Rattle.std.specs.Prelude.{Contains, nat_lt, ◌==◌}
 use Rattle.std.specs.List.{list_any}
 use Rattle.std.specs.Int.{div_ceil}
@@ -9,14 +9,13 @@ use Rattle.fc_dirs.specs.declared.Entry.{Entry}
 use Rattle.fc_record.specs.declared.Geometry.{Geometry}
 use Rattle.fc_record.specs.declared.Kind.{Kind}
 use Rattle.fc_newmap.specs.Map.{Map, is_used}
-use Rattle.fc_newmap.proofs.PlaceLemmas.{in_back, in_front}
 use Rattle.fc_alloc.specs.declared.owner.Owner.{Owner}
 use Rattle.fc_image.specs.Layout.{Layout, dir_form, id_of, id_sectors, is_among, is_apart, is_object_id, low_of, low_start}
 use Rattle.fc_image.specs.Walk.{Object, object_size}
 use Rattle.fc_image.specs.Objects.{is_movable, is_owned, is_owner_of, objects_of}
 use Rattle.fc_image.specs.Opening.{reserved_in}
 use Rattle.fc_image.specs.Edits.{Apart, IsAt}
-use Rattle.fc_image.specs.Moves.{object_in}
+use Rattle.fc_image.specs.Moves.{object_in, sectors_or_none}
 use Rattle.fc_image.proofs.HolesLemmas.{apart_at, apart_from}
 use Rattle.fc_image.proofs.OrderLemmas.{apart_shuffled}
 use Rattle.fc_image.proofs.RelistLemmas.{apart_behind}
@@ -31,11 +30,13 @@ use Rattle.fc_edits.specs.Edit.{Edit, KeepsEntry, TopStays, TopTurns, joining, l
 use Rattle.fc_edits.specs.NewPlaces.{ApartInOne, GivesBack, LiesAgain, NewPlaces, Taking, is_taken}
 use Rattle.fc_edits.specs.Places.{Stays}
 use Rattle.fc_edits.proofs.lemmas.GrownMemberLemmas.{apart_permuted}
+use Rattle.fc_edits.proofs.lemmas.IdentifierLemmas.{owns}
 use Rattle.fc_edits.proofs.lemmas.LeavingLemmas.{left_apart, left_other}
 use Rattle.fc_safelaws.specs.Relaid.{IsRelaid, Reaches}
 use Rattle.fc_safelaws.proofs.RelaidLemmas.{relaid_law}
 use Rattle.fc_safeedits.specs.Relocation.{IsCarried, JoinsBefore, Relocation, is_moved, laid_at, laid_in, relocated, turned_in}
-use Rattle.fc_safeedits.specs.SafePlaces.{SafePlaces, SafePlacesLaw}
+use Rattle.fc_safeedits.specs.SafePlaces.{LiesAlone, LiesInside, SafePlaces, SafePlacesLaw}
+use Rattle.fc_safeedits.proofs.lemmas.ApartObjectsLemmas.{both_apart, one_by_one, turned_apart}
 use Rattle.fc_safeedits.proofs.lemmas.AlongLemmas.{along, beside, moved_along, ne', still_beside}
 use Rattle.fc_safeedits.proofs.lemmas.RelocatedOwnersLemmas.{KeepsLengths, owners_edited}
 use Rattle.fc_safeedits.proofs.lemmas.LaidLemmas.{laid_entry, laid_still, laid_there, moved_entry, ne}
@@ -44,7 +45,7 @@ use Rattle.fc_safeedits.proofs.lemmas.RelocatedNodesLemmas.{joining_more, joins'
 use Rattle.fc_changes.proofs.NewPlaceLemmas.{owner_id}
 use Rattle.std.proofs.lemmas.Bool.{false_from_ne_true as unless}
 use Rattle.fc_image.proofs.CommandLemmas.{both_ways as same_bool}
-use Rattle.fc_image.proofs.EntriesLemmas.{later as contains_later, cases as contains_cases}
+use Rattle.fc_image.proofs.EntriesLemmas.{later as contains_later}
 
 -- ---- objects of one entry
 
@@ -69,37 +70,13 @@ laid_now m m' o p same before reaches = record {
   now = relaid_law.placed m' p (reaches_as m' o p (sym same) reaches);
 }
 
--- what lies apart from taken sectors lies apart from some of them
-apart_some : (taken : List ℕ) (os : List Object) → Apart taken os → (p : Object) → Contains os p → (xs : List ℕ) → ((s : ℕ) → is_among xs s ≡ true → is_among taken s ≡ true) → is_apart p.sectors xs ≡ true
-apart_some taken [] a p at xs within = absurd (no_element p at)
-apart_some taken (q ∷ os) a p at xs within =
-    ⊎_elim (λ same. subst (λ (r : Object). is_apart r.sectors xs ≡ true) same (apart_from q.sectors xs (λ s i j. let out = apart_at q.sectors taken s a.0 i in let there = within s j in cc)))
-    (λ later. apart_some (q.sectors ++ taken) os a.1 p later xs (λ s i. in_back q.sectors taken s (within s i))) (contains_cases q p os at)
+-- what is alone lies there already
+pub alone_still : (x : Relocation) (o : Object) → is_moved x.moves o ≡ true → LiesAlone x o → laid_in x o ≡ o
+alone_still x o m a = laid_there x.m' x.moves o m ∙ ap (λ (q : Option (List ℕ)). let p : Object = record o { sectors = sectors_or_none q } in p) a.at
 
-turned_apart : (xs ys : List ℕ) → is_apart ys xs ≡ true → is_apart xs ys ≡ true
-turned_apart xs ys apart = apart_from xs ys (λ s i j. let out = apart_at ys xs s apart j in cc)
-
--- objects that lie apart, each turned, and apart still
-one_by_one : (taken : List ℕ) (os : List Object) → Apart taken os → (P : Object → Type 0) → ((o : Object) → Contains os o → P o) → (g : Object → Object)
-    → ((o p : Object) → P o → P p → is_apart o.sectors p.sectors ≡ true → is_apart (g o).sectors (g p).sectors ≡ true) → ApartInOne (map g os)
-one_by_one taken [] a P each g still = tt
-one_by_one taken (o ∷ os) a P each g still = (
-  λ q at id.
-      (let p = from_map g os q at in
-      let apart = apart_some (o.sectors ++ taken) os a.1 p.0 p.1 o.sectors (λ s i. in_front o.sectors taken s i) in
-      subst (λ (r : Object). is_apart (g o).sectors r.sectors ≡ true) p.2 (still o p.0 (each o (contains_here o os)) (each p.0 (contains_later o p.0 os p.1)) (turned_apart o.sectors p.0.sectors apart))),
-  one_by_one (o.sectors ++ taken) os a.1 P (λ p at. each p (contains_later o p os at)) g still,
-)
-
--- two lists, each apart and each from the other
-both_apart : (os ps : List Object) → ApartInOne os → ApartInOne ps → ((o p : Object) → Contains os o → Contains ps p → id_of o.entry.address ≡ id_of p.entry.address → is_apart o.sectors p.sectors ≡ true)
-    → ApartInOne (os ++ ps)
-both_apart [] ps a b between = b
-both_apart (o ∷ os) ps a b between = (
-  λ q at id.
-      ⊎_elim (λ first. a.0 q first id) (λ second. between o q (contains_here o os) second id) (Contains-append_cases os ps q at),
-  both_apart os ps a.1 b (λ u p at. between u p (contains_later o u os at)),
-)
+-- what joins and had its place by the old map
+pub joining' : (x : Relocation) (o : Object) → is_moved x.moves o ≡ true → LiesInside x o → IsRelaid x.m x.m' o (laid_in x o)
+joining' x o m i = subst (IsRelaid x.m x.m' o) (sym (laid_there x.m' x.moves o m)) (laid_now x.m x.m' o o refl i.before i.reaches)
 
 module _ (x : Relocation) (kind : Kind) (owners : List Owner) (root : Node) (takings : List Taking) (gone : List ℕ) (a : AgreeOn kind x.m x.nodes owners root x.listings)
     (sp : SafePlaces x takings gone) where
@@ -126,9 +103,6 @@ module _ (x : Relocation) (kind : Kind) (owners : List Owner) (root : Node) (tak
       subst (IsRelaid x.m x.m' o) (sym (laid_there x.m' x.moves (e.turn o) (moved_entry x.moves (e.turn o) o keeps.entry ∙ m)))
       (laid_now x.m x.m' o (e.turn o) keeps.entry (object_lies kind x.m x.nodes owners root x.listings a o s.among).placed (sp.reach_staying o s m))
 
-  pub joining' : (p : ℕ × Object) → Contains (joining e) p → moved p.1 ≡ true → IsRelaid x.m x.m' p.1 (laid_in x p.1)
-  joining' p at m = subst (IsRelaid x.m x.m' p.1) (sym (laid_there x.m' x.moves p.1 m)) (laid_now x.m x.m' p.1 p.1 refl (sp.before p at m) (sp.reach_joining p at m))
-
   -- ---- identifiers that move
 
   moves_of : (k : ℕ) → is_taken takings k ≡ true → is_used x.m k ≡ true → x.moves k ≡ true
@@ -152,7 +126,9 @@ module _ (x : Relocation) (kind : Kind) (owners : List Owner) (root : Node) (tak
       joins b = by (moved b.was.1) refl
         where
           by : (t : Bool) → moved b.was.1 ≡ t → IsAt (Layout.New x.m') p.1
-          by true m = subst (λ (q : ℕ × Object). IsAt (Layout.New x.m') q.1) (sym b.is) (joining' b.was b.joins m).now
+          by true m =
+              subst (λ (q : ℕ × Object). IsAt (Layout.New x.m') q.1) (sym b.is)
+              (⊎_elim (λ i. (joining' x b.was.1 m i).now) (λ alone. subst (IsAt (Layout.New x.m')) (sym (alone_still x b.was.1 m alone)) alone.at) (sp.inside b.was b.joins m))
           by false m =
               subst (λ (q : ℕ × Object). IsAt (Layout.New x.m') q.1) (sym b.is) (subst (IsAt (Layout.New x.m')) (sym (laid_still x.m' x.moves b.was.1 m)) (sp.placed b.was b.joins m))
 
@@ -201,7 +177,7 @@ module _ (x : Relocation) (kind : Kind) (owners : List Owner) (root : Node) (tak
   owns_laid k p at = by (moved p.1) refl
     where
       by : (t : Bool) → moved p.1 ≡ t → is_owner_of k (laid_in x p.1) ≡ is_owner_of k p.1
-      by true m = owns_as k p.1 (laid_in x p.1) (joining' p at m)
+      by true m = ⊎_elim (λ i. owns_as k p.1 (laid_in x p.1) (joining' x p.1 m i)) (λ alone. ap (is_owner_of k) (alone_still x p.1 m alone)) (sp.inside p at m)
       by false m = ap (is_owner_of k) (laid_still x.m' x.moves p.1 m)
 
   abbrev stay : List Object
@@ -297,6 +273,19 @@ module _ (x : Relocation) (kind : Kind) (owners : List Owner) (root : Node) (tak
     laid_apart ps (λ q at. within q (contains_later p q ps at)) a'.1,
   )
     where
+      -- one that is alone
+      by_alone : (p q : ℕ × Object) → Contains (joining e) q → moved p.1 ≡ true → LiesAlone x p.1 → id_of p.1.entry.address ≡ id_of q.1.entry.address → is_apart p.1.sectors q.1.sectors ≡ true
+          → is_apart (laid_in x p.1).sectors (laid_in x q.1).sectors ≡ true
+      by_alone p q bt m alone id apart =
+          apart_from (laid_in x p.1).sectors (laid_in x q.1).sectors
+          (λ s i j.
+          let own = subst (λ (y : Entry). is_owner_of (id_of y.address) (laid_in x q.1) ≡ true) (laid_entry x.m' x.moves q.1) (owns (laid_in x q.1) s j) in
+          let same : q.1 ≡ p.1 = alone.others q bt (subst (λ (n : ℕ). is_owner_of n q.1 ≡ true) (sym id) (sym (owns_laid (id_of q.1.entry.address) q bt) ∙ own)) in
+          let still = alone_still x p.1 m alone in
+          let out = apart_at p.1.sectors q.1.sectors s apart (subst (λ (o : Object). is_among o.sectors s ≡ true) still i) in
+          let there = subst (λ (o : Object). is_among o.sectors s ≡ true) (ap (laid_in x) same ∙ still ∙ sym same) j in
+          cc)
+
       same_id : (o p : Object) → id_of (laid_in x o).entry.address ≡ id_of (laid_in x p).entry.address → id_of o.entry.address ≡ id_of p.entry.address
       same_id o p id =
           ap (λ (y : Entry). id_of y.address) (sym (laid_entry x.m' x.moves o)) ∙ id ∙ ap (λ (y : Entry). id_of y.address) (laid_entry x.m' x.moves p)
@@ -307,7 +296,11 @@ module _ (x : Relocation) (kind : Kind) (owners : List Owner) (root : Node) (tak
         where
           by : (t : Bool) → moved p.1 ≡ t → is_apart (laid_in x p.1).sectors (laid_in x q.1).sectors ≡ true
           by true m =
-              relaid_law.apart x.m x.m' p.1 q.1 (laid_in x p.1) (laid_in x q.1) sp.is_map sp.geometry (joining' p at m) (joining' q bt (ap x.moves (sym id) ∙ m)) apart
+              let n : moved q.1 ≡ true = ap x.moves (sym id) ∙ m in
+              ⊎_elim
+              (λ i. ⊎_elim (λ j. relaid_law.apart x.m x.m' p.1 q.1 (laid_in x p.1) (laid_in x q.1) sp.is_map sp.geometry (joining' x p.1 m i) (joining' x q.1 n j) apart)
+              (λ alone. turned_apart (laid_in x p.1).sectors (laid_in x q.1).sectors (by_alone q p at n alone (sym id) (turned_apart q.1.sectors p.1.sectors apart))) (sp.inside q bt n))
+              (λ alone. by_alone p q bt m alone id apart) (sp.inside p at m)
           by false m =
               subst (λ (u : Object). is_apart u.sectors (laid_in x q.1).sectors ≡ true) (sym (laid_still x.m' x.moves p.1 m))
               (subst (λ (u : Object). is_apart p.1.sectors u.sectors ≡ true) (sym (laid_still x.m' x.moves q.1 (ap x.moves (sym id) ∙ m))) apart)
@@ -323,10 +316,23 @@ module _ (x : Relocation) (kind : Kind) (owners : List Owner) (root : Node) (tak
       let ids : id_of q.0.1.entry.address ≡ id_of r.0.entry.address =
       ap (λ (y : Entry). id_of y.address) (sym (laid_entry x.m' x.moves q.0.1)) ∙ ap (λ (w : Object). id_of w.entry.address) same ∙ id ∙ ap (λ (w : Object). id_of w.entry.address) (sym r.2)
       ∙ ap (λ (y : Entry). id_of y.address) (turned_entry x r.0 ∙ (staying_keeps r.0 s.0).entry) in
+      let there = staying' r.0 s.0 s.1 in
       subst (λ (w : Object). is_apart w.sectors p.sectors ≡ true) same
       (subst (λ (w : Object). is_apart (laid_in x q.0.1).sectors w.sectors ≡ true) r.2
-      (relaid_law.apart x.m x.m' q.0.1 r.0 (laid_in x q.0.1) (turned_in x r.0) sp.is_map sp.geometry (joining' q.0 q.1 (ap x.moves ids ∙ s.1)) (staying' r.0 s.0 s.1) (was q.0 r.0 q.1 s.0 ids)))
+      (⊎_elim
+      (λ i. relaid_law.apart x.m x.m' q.0.1 r.0 (laid_in x q.0.1) (turned_in x r.0) sp.is_map sp.geometry (joining' x q.0.1 (ap x.moves ids ∙ s.1) i) there (was q.0 r.0 q.1 s.0 ids))
+      (λ alone. unowned (laid_in x q.0.1).sectors r.0 s.0 there (ap (λ (k : ℕ). is_owner_of k r.0) (sym ids) ∙ alone.staying r.0 s.0)) (sp.inside q.0 q.1 (ap x.moves ids ∙ s.1))))
     where
+      -- what owns nothing of its identifier has no sectors
+      unowned : (xs : List ℕ) (o : Object) → Stays x.nodes x.listings e o → IsRelaid x.m x.m' o (turned_in x o) → is_owner_of (id_of o.entry.address) o ≡ false
+          → is_apart xs (turned_in x o).sectors ≡ true
+      unowned xs o s there none =
+          apart_from xs (turned_in x o).sectors
+          (λ n i j.
+          let own : is_owner_of (id_of o.entry.address) (turned_in x o) ≡ true = subst (λ (k : ℕ). is_owner_of (id_of k) (turned_in x o) ≡ true) there.address (owns (turned_in x o) n j) in
+          let not_own : is_owner_of (id_of o.entry.address) (turned_in x o) ≡ false = owns_as (id_of o.entry.address) o (turned_in x o) there ∙ none in
+          cc)
+
       was : (q : ℕ × Object) (o : Object) → Contains (joining e) q → Stays x.nodes x.listings e o → id_of q.1.entry.address ≡ id_of o.entry.address → is_apart q.1.sectors o.sectors ≡ true
       was q o joins s ids =
           ⊎_elim
@@ -351,14 +357,15 @@ lengths' x kind owners root takings gone a sp = record {
 }
   where
     by : (p : ℕ × Object) → Contains (joining x.edit) p → (t : Bool) → is_moved x.moves p.1 ≡ t → length (laid_in x p.1).sectors ≡ length p.1.sectors
-    by p at true m = relaid_law.as_many x.m x.m' p.1 (laid_in x p.1) sp.geometry (joining' x kind owners root takings gone a sp p at m)
+    by p at true m =
+        ⊎_elim (λ i. relaid_law.as_many x.m x.m' p.1 (laid_in x p.1) sp.geometry (joining' x p.1 m i))
+        (λ alone. ap (λ (o : Object). length o.sectors) (alone_still x p.1 m alone)) (sp.inside p at m)
     by p at false m = ap (λ (o : Object). length o.sectors) (laid_still x.m' x.moves p.1 m)
 
 pub safe_places_law : SafePlacesLaw
 safe_places_law = record {
   places = λ x kind owners root takings gone a sp. places' x kind owners root takings gone a sp;
-  joining = λ x takings gone p sp at m.
-      subst (IsRelaid x.m x.m' p.1) (sym (laid_there x.m' x.moves p.1 m)) (laid_now x.m x.m' p.1 p.1 refl (sp.before p at m) (sp.reach_joining p at m));
+  joining = joining';
   staying = λ x kind owners root takings gone o a sp s m. staying' x kind owners root takings gone a sp o s m;
   owners = λ x kind owners owners' root takings gone a sp edited. owners_edited x (λ low. ap (λ (g : Geometry). (low - 1) * (g.share / g.sector)) sp.geometry) owners owners' a.owned (lengths' x kind owners root takings gone a sp) edited;
 }

@@ -41,7 +41,7 @@ use Rattle.fc_image.proofs.EntriesLemmas.{later as contains_later, cases as cont
 -- ---- lists
 
 -- what isn't found is not there
-none_found : {X : Type 0} (t : X → Bool) (xs : List X) (x : X) → find t xs ≡ None → Contains xs x → t x ≡ true → ⊥
+pub none_found : {X : Type 0} (t : X → Bool) (xs : List X) (x : X) → find t xs ≡ None → Contains xs x → t x ≡ true → ⊥
 none_found t [] x e at h = no_element x at
 none_found {X} t (y ∷ xs) x e at h = by (t y) refl e (λ f there. none_found t xs x f there h)
   where
@@ -68,16 +68,16 @@ filter_two {X} t (x ∷ xs) ys = by (t x) (filter_two t xs ys)
 
 -- ---- maps with the same runs
 
-all_same : (m m' : Map) → KeepsRuns m m' → all_runs m' ≡ all_runs m
+pub all_same : (m m' : Map) → KeepsRuns m m' → all_runs m' ≡ all_runs m
 all_same m m' kept = ap (λ (g : Geometry). runs_in m' (zone_numbers g)) kept.geometry ∙ runs_same m m' kept (zone_numbers m.geometry)
 
-holes_same : (m m' : Map) → KeepsRuns m m' → hole_runs m' ≡ hole_runs m
+pub holes_same : (m m' : Map) → KeepsRuns m m' → hole_runs m' ≡ hole_runs m
 holes_same m m' kept = ap (filter (λ (p : ZoneRun). is_hole p.1.kind)) (all_same m m' kept)
 
 -- ---- one plan after another
 
 -- a run of an identifier stays when parts are taken
-persists : (m m' : Map) (id : ℕ) (parts : List ZoneRun) → HasTaken m m' id parts → (p : ZoneRun) → Contains (all_runs m) p → is_hole p.1.kind ≡ false → Contains (all_runs m') p
+pub persists : (m m' : Map) (id : ℕ) (parts : List ZoneRun) → HasTaken m m' id parts → (p : ZoneRun) → Contains (all_runs m) p → is_hole p.1.kind ≡ false → Contains (all_runs m') p
 persists m m' id parts taken p at other =
     let there = zone_in m (zone_numbers m.geometry) p at in
     let low : p.0 < m.geometry.zones = let r = (range_in 0 m.geometry.zones p.0 there.0).1 in omega arith in
@@ -89,12 +89,12 @@ persists m m' id parts taken p at other =
     (subst (Contains (placed p.0 (runs_of m' p.0))) run.2 (in_map (λ (r : Run). let q : ZoneRun = (p.0, r) in q) (runs_of m' p.0) run.0 now))
 
 -- the holes in which the other plans can be taken
-can_after : (m m' : Map) (id : ℕ) (parts : List ZoneRun) (plans : List Plan) → HasTaken m m' id parts → CanTakeAll m.geometry (holes_left (hole_runs m) parts) plans → CanTakeAll m'.geometry (hole_runs m') plans
+pub can_after : (m m' : Map) (id : ℕ) (parts : List ZoneRun) (plans : List Plan) → HasTaken m m' id parts → CanTakeAll m.geometry (holes_left (hole_runs m) parts) plans → CanTakeAll m'.geometry (hole_runs m') plans
 can_after m m' id parts plans taken can =
     subst (λ (g : Geometry). CanTakeAll g (hole_runs m') plans) (sym taken.geometry) (subst (λ (hs : List ZoneRun). CanTakeAll m.geometry hs plans) (sym taken.holes) can)
 
 -- no part of a plan stands where an identifier had a run
-away : (m n : Map) (plans : List Plan) → IsNewMap m → AreTaken m plans n → CanTakeAll m.geometry (hole_runs m) plans → (p : ZoneRun) → Contains (all_runs m) p → is_hole p.1.kind ≡ false
+pub away : (m n : Map) (plans : List Plan) → IsNewMap m → AreTaken m plans n → CanTakeAll m.geometry (hole_runs m) plans → (p : ZoneRun) → Contains (all_runs m) p → is_hole p.1.kind ≡ false
     → (q : Plan) → Contains plans q → find (stands_at p) (fronts q.parts.items) ≡ None
 away m n [] is taken can p at other q among = absurd (no_element q among)
 away m n (a ∷ plans) is taken can p at other q among =
@@ -108,7 +108,7 @@ holes_after m n [] same = ap hole_runs same
 holes_after m n (a ∷ plans) taken = holes_after taken.0 n plans taken.3 ∙ ap (λ (hs : List ZoneRun). untaken hs (takings_of plans)) taken.2.holes
 
 -- what no plan takes for stays as it was
-others_after : (m n : Map) (plans : List Plan) (k : ℕ) → AreTaken m plans n → is_taken (takings_of plans) k ≡ false → id_runs n k ≡ id_runs m k
+pub others_after : (m n : Map) (plans : List Plan) (k : ℕ) → AreTaken m plans n → is_taken (takings_of plans) k ≡ false → id_runs n k ≡ id_runs m k
 others_after m n [] k same none = ap (λ (x : Map). id_runs x k) same
 others_after m n (a ∷ plans) k taken none = by (a.id == k) refl none (others_after taken.0 n plans k taken.3)
   where
@@ -116,7 +116,7 @@ others_after m n (a ∷ plans) k taken none = by (a.id == k) refl none (others_a
     by true e f more = absurd (cc)
     by false e f more = more f ∙ taken.2.others k (λ same. let two : (a.id == k) ≡ true = eq-eqb a.id k (sym same) in cc)
 
-not_again : (plans : List Plan) (k : ℕ) → (Contains (map (λ (p : Plan). p.id) plans) k → ⊥) → is_taken (takings_of plans) k ≡ false
+pub not_again : (plans : List Plan) (k : ℕ) → (Contains (map (λ (p : Plan). p.id) plans) k → ⊥) → is_taken (takings_of plans) k ≡ false
 not_again [] k none = refl
 not_again (a ∷ plans) k none = by (a.id == k) refl (not_again plans k (λ at. none (contains_later a.id k (map (λ (p : Plan). p.id) plans) at)))
   where

@@ -1,5 +1,5 @@
 -- The image after `rename` in the safe mode.
-use Rattle.std.proofs.Common.{◌≡◌, inl, true, List, refl, sym, subst, ◌∙◌}
+use Rattle.std.proofs.Common.{◌≡◌, ◌⊎◌, inl, true, List, refl, sym, subst, ◌∙◌}
 use Rattle.std.specs.Prelude.{Contains, Ok}
 use Rattle.fc_model.specs.Answer.{changed}
 use Rattle.fc_model.specs.Command.{Command}
@@ -22,7 +22,7 @@ use Rattle.fc_edits.proofs.lemmas.ShapeLemmas.{of_one}
 use Rattle.fc_safelaws.specs.Relaid.{AreCopied}
 use Rattle.fc_safeedits.specs.Relocation.{Relocation, is_moved, turned_in}
 use Rattle.fc_safeedits.specs.SafeChange.{SafeChange, moves_in}
-use Rattle.fc_safeedits.specs.SafeImage.{IsSafeWritten, IsUnamended, KeepsBody, MovesAllPaths, MovesNode, SafeImage}
+use Rattle.fc_safeedits.specs.SafeImage.{CopiesBody, IsSafeWritten, IsUnamended, KeepsBody, MovesAllPaths, MovesNode, SafeImage}
 use Rattle.fc_safeedits.proofs.lemmas.LaidLemmas.{laid_there}
 use Rattle.fc_safeedits.proofs.lemmas.RelocatedLemmas.{turned_entry}
 use Rattle.fc_safeedits.proofs.lemmas.SafeChangeLemmas.{says_there}
@@ -87,7 +87,7 @@ module _ (d : SafeMoving) where
     written = x.written;
     new_kind = x.new_kind;
     opens = x.opens;
-    bodies = of_one (λ (o : Object). IsUnamended (edit c) o → KeepsBody move o) c.o (λ other. record { sectors = refl; size = refl });
+    bodies = of_one (λ (o : Object). IsUnamended (edit c) o → KeepsBody move o ⊎ CopiesBody move x.image x.image' o) c.o (λ other. inl (record { sectors = refl; size = refl }));
     is_written = there;
     chosen = x.chosen;
     root_is = inl (record { record_stays = d.record_stays; stays = m_.top_stays x.parts d.parts });

@@ -1,5 +1,5 @@
 -- `rename` in the safe mode, in memory.
-use Rattle.std.proofs.Common.{◌≡◌, inl, inr, ⊎_elim, ℕ, Bool, true, false, not, cond, ◌&&◌, ◌||◌, List, [], ◌∷◌, ◌++◌, length, refl, sym, ap, ap₂, subst, ◌∙◌, Some, eq-eqb}
+use Rattle.std.proofs.Common.{◌≡◌, ◌⊎◌, inl, inr, ⊎_elim, ℕ, Bool, true, false, not, cond, ◌&&◌, ◌||◌, List, [], ◌∷◌, ◌++◌, length, refl, sym, ap, ap₂, subst, ◌∙◌, Some, eq-eqb}
 use Rattle.std.specs.Prelude.{Contains, nat_lt, ◌==◌}
 use Rattle.std.proofs.lemmas.Bool.{eqb-true}
 use Rattle.fc_newmap.specs.Map.{Map, is_used}
@@ -26,11 +26,10 @@ use Rattle.fc_edits.proofs.lemmas.MovingLemmas as memory
 use Rattle.fc_edits.proofs.lemmas.NewPlaceLemmas.{owned_by, runs_keep}
 use Rattle.fc_edits.proofs.lemmas.ShapeLemmas.{only}
 use Rattle.fc_edits.proofs.lemmas.StillLemmas.{IsStill}
-use Rattle.fc_safelaws.specs.Relaid.{Reaches}
 use Rattle.fc_safeedits.specs.Relocation.{Relocation, is_moved}
 use Rattle.fc_safeedits.specs.SafeChange.{MovedParts, moves_in}
 use Rattle.fc_safeedits.specs.SafeParts.{SafeParts}
-use Rattle.fc_safeedits.specs.SafePlaces.{SafePlaces}
+use Rattle.fc_safeedits.specs.SafePlaces.{LiesAlone, LiesInside, SafePlaces}
 use Rattle.fc_safeedits.proofs.lemmas.SafeChangeLemmas.{held}
 use Rattle.fc_safeedits.proofs.lemmas.SafePartsLemmas.{safe_parts_law}
 use Rattle.fc_safeedits.proofs.lemmas.SafePlacesLemmas.{reaches_by}
@@ -134,10 +133,9 @@ module _ (x : MovedParts) (d : RenamedParts x) where
     space = x.space;
     gives = d.gives;
     movable = x.movable;
-    before = of_it (λ (q : ℕ × Object). is_moved (moves_in x) q.1 ≡ true → IsAt y q.1) (λ m. o_at);
+    inside = of_it (λ (q : ℕ × Object). is_moved (moves_in x) q.1 ≡ true → LiesInside move q.1 ⊎ LiesAlone move q.1)
+        (λ m. inl (record { before = o_at; reaches = reaches_by x.m' c.o p still.address (size_same x.m') (d.reaches c.o o_in (sym moved_same ∙ m)) }));
     placed = of_it (λ (q : ℕ × Object). is_moved (moves_in x) q.1 ≡ false → IsAt y' q.1) (λ stays. places_law x.m x.m' p x.geometry (o_keeps stays) o_at);
-    reach_joining = of_it (λ (q : ℕ × Object). is_moved (moves_in x) q.1 ≡ true → Reaches x.m' q.1)
-        (λ m. reaches_by x.m' c.o p still.address (size_same x.m') (d.reaches c.o o_in (sym moved_same ∙ m)));
     reach_staying = λ o s m. d.reaches o s.among m;
     lies = of_it (λ (q : ℕ × Object). LiesAgain x.m x.nodes x.listings (edit c) q.1)
         (inl ((c.number, c.o), subst (λ (qs : List (ℕ × Object)). Contains qs (c.number, c.o)) (sym still.leaves) (contains_here (c.number, c.o) []), record { sectors = still.sectors; address = still.address }));

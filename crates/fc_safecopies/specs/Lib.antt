@@ -1,0 +1,2 @@
+pub mod SafeCopying
+pub mod SafeGrownCopying

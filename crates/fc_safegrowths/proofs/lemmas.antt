@@ -1,0 +1,15 @@
+pub mod GrowingPlacesLemmas
+pub mod GrowingImageLemmas
+pub mod GrowingAskedLemmas
+pub mod GrownPartsLemmas
+pub mod GrownImageLemmas
+pub mod GrownEntryLemmas
+pub mod GrownHoldersLemmas
+pub mod GrownAskedLemmas
+pub mod GrownSpaceLemmas
+pub mod SafeGrownAdditionLemmas
+pub mod GrownRenamedPartsLemmas
+pub mod GrownRenamedImageLemmas
+pub mod GrownRenamedEntriesLemmas
+pub mod GrownPathsLemmas
+pub mod SafeGrownMovingLemmas

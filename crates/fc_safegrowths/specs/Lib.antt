@@ -1,0 +1,3 @@
+pub mod SafeGrowth
+pub mod SafeGrownAddition
+pub mod SafeGrownMoving
