@@ -1,22 +1,22 @@
 -- Stretches of rows of sectors, row by row.
-use Rattle.std.proofs.Common.{◌≡◌, ℕ, zero, suc, ◌+◌, ◌-◌, Bool, true, false, cond, min, List, [], ◌∷◌, ◌++◌, length, take, drop, refl, sym, ap, ap₂, subst, ◌∙◌, arith, append-nil, append_assoc}
+use Rattle.std.proofs.Common.{◌≡◌, ℕ, zero, suc, ◌+◌, ◌-◌, Bool, true, min, List, [], ◌∷◌, ◌++◌, length, take, drop, refl, sym, ap, ap₂, subst, ◌∙◌, arith, append-nil, append_assoc}
 use Rattle.std.specs.List.{range_with_len}
-use Rattle.std.proofs.lemmas.List.{length-append, map-append}
+use Rattle.std.proofs.lemmas.List.{length-append}
 use Rattle.std.proofs.lemmas.List.Concat.{flat_map-append}
-use Rattle.std.proofs.lemmas.List.Elements.{filter-append}
 use Rattle.std.proofs.lemmas.List.FromFn.{length-range_with_len}
 use Rattle.fc_device.specs.declared.disk.Extent.{Extent}
 use Rattle.fc_objects.specs.Extents.{extent_sectors, sectors_in}
 use Rattle.fc_record.specs.declared.Geometry.{Geometry}
-use Rattle.fc_newmap.specs.Map.{ZoneRun, extent_of, first_sector, run_sectors, sector_count, sectors_of}
+use Rattle.fc_newmap.specs.Map.{ZoneRun, extent_of, first_sector, sector_count, sectors_of}
 use Rattle.fc_space.specs.Index.{is_met}
 use Rattle.fc_space.proofs.PartLemmas.{part_sectors}
 use Rattle.fc_plan.specs.declared.plan.Part.{Part}
 use Rattle.fc_plan.specs.Parts.{front_at, fronts}
 use Rattle.fc_placing.specs.Extents.{parts_met, sectors_if}
-use Rattle.fc_placing.proofs.ExtentLemmas.{sectors_append, take_append}
+use Rattle.fc_placing.proofs.ExtentLemmas.{take_append}
 use Rattle.fc_safe.specs.declared.extents.Stretch.{Stretch}
 use Rattle.fc_safe.specs.Extents.{stretch_left}
+pub use Rattle.fc_placing.proofs.ExtentLemmas.{met_more as met_on}
 
 pub one_row : (old new : List Extent) (row : Extent) → new ≡ old ++ row ∷ [] → sectors_in new ≡ sectors_in old ++ extent_sectors row
 one_row old new row e = ap sectors_in e ∙ flat_map-append extent_sectors old (row ∷ []) ∙ ap (λ (xs : List ℕ). sectors_in old ++ xs) (append-nil (extent_sectors row))
@@ -85,18 +85,6 @@ more_taken old mid now wanted middle left rows more before sectors left_is = rec
 }
 
 -- ---- parts that are met
-
-pub met_on : (g : Geometry) (id : ℕ) (ahead : Bool) (done : List Part) (part : Part)
-    → sectors_of g (parts_met g id ahead (fronts (done ++ part ∷ []))) ≡ sectors_of g (parts_met g id ahead (fronts done)) ++ sectors_if g (is_met g ahead id part.zone) (front_at part)
-met_on g id ahead done part =
-    ap (λ (ps : List ZoneRun). sectors_of g (parts_met g id ahead ps)) (map-append front_at done (part ∷ []))
-    ∙ ap (sectors_of g) (filter-append (λ (p : ZoneRun). is_met g ahead id p.0) (fronts done) (front_at part ∷ []))
-    ∙ sectors_append g (parts_met g id ahead (fronts done)) (parts_met g id ahead (front_at part ∷ []))
-    ∙ ap (λ (xs : List ℕ). sectors_of g (parts_met g id ahead (fronts done)) ++ xs) (by (is_met g ahead id part.zone))
-  where
-    by : (b : Bool) → sectors_of g (cond b (front_at part ∷ []) []) ≡ sectors_if g b (front_at part)
-    by true = append-nil (run_sectors g (front_at part))
-    by false = refl
 
 pub part_left : (g : Geometry) (p : ZoneRun) (extent : Extent) (met : Bool) (wanted left : Stretch) → extent ≡ extent_of g p → met ≡ true → left ≡ stretch_left wanted extent.sectors → left ≡ stretch_left wanted (length (sectors_if g met p))
 part_left g p extent met wanted left e is l =

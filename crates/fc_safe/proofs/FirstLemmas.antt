@@ -13,6 +13,7 @@ use Rattle.fc_record.specs.Record.{id_limit}
 use Rattle.fc_newmap.specs.Map.{Map, ZoneRun, hole_runs}
 use Rattle.fc_newmap.specs.NewMap.{IsNewMap}
 use Rattle.fc_newmap.proofs.TallyLemmas.{ids_few}
+use Rattle.fc_image.specs.Layout.{id_of}
 use Rattle.fc_image.specs.effects.Sharing.{new_ids}
 use Rattle.fc_image.specs.safe.SafeShort.{SafeRefusal, fitted, spread_or}
 use Rattle.fc_image.proofs.EntriesLemmas.{from_map, in_mapped}
@@ -25,6 +26,7 @@ use Rattle.fc_plan.specs.Parts.{front_at, fronts}
 use Rattle.fc_plan.proofs.Plans.{min_some}
 use Rattle.fc_slack.specs.declared.share.Share.{Share}
 use Rattle.fc_slack.specs.Slack.{place_in}
+use Rattle.fc_tree.specs.Counts.{address_in}
 use Rattle.fc_tree.specs.Parts.{Parts}
 use Rattle.fc_writing.specs.Steps.{CanTakeAll}
 use Rattle.fc_change.specs.declared.job.Growth.{Growth}
@@ -34,9 +36,10 @@ use Rattle.fc_change.specs.Places.{placing_of}
 use Rattle.fc_change.specs.Shortage.{bytes_left, slack_for}
 use Rattle.fc_change.proofs.PlaceLemmas.{placed_id, placing_is}
 use Rattle.fc_safe.specs.Answers.{AnswersSafe}
-use Rattle.fc_safe.specs.FirstNeeds.{Stir, first_gone, first_needs, first_shortage, gone_by, goes, has_ids_for, ids_of, need_of, needs_by, out_need, own_need, shared_by, short_of_needs, stir_of, turns_root, unfit, zones_turned}
+use Rattle.fc_safe.specs.FirstNeeds.{Stir, first_gone, first_needs, first_shortage, gone_by, goes, has_ids_for, ids_of, moving_out, need_of, needs_by, out_need, own_need, shared_by, short_of_needs, stir_of, turns_root, unfit, zones_turned}
 use Rattle.fc_safe.specs.FirstSpace.{CanLie, CanPlaceFirst, IsFirstOf, IsFirstPlacing, LiesInZones}
 use Rattle.fc_safe.specs.Gone.{is_left, is_lost_by}
+use Rattle.fc_safe.specs.Grown.{HasGrownPlan}
 use Rattle.fc_safe.specs.Needs.{AreMet, CanNeed, HaveIds, bits_of, full_for, full_if, parts_of}
 use Rattle.fc_safe.specs.Planned.{IsOwnFirst, IsPlanned}
 use Rattle.fc_safe.specs.Staying.{holds_changed, last_end, remains}
@@ -45,6 +48,7 @@ use Rattle.fc_safe.specs.declared.error.SafeError.TheVariants as errors
 use Rattle.fc_safe.specs.declared.needs.Need.{Need}
 use Rattle.fc_safe.specs.declared.planned.Planned.{Planned}
 use Rattle.fc_safe.proofs.CoverLemmas.{fronts_in_zones}
+use Rattle.fc_safe.proofs.GrownLemmas.{each_lies, grown_plan}
 use Rattle.fc_safe.proofs.ListLemmas.{found_of, in_flat, passes}
 use Rattle.fc_safe.proofs.MovingLemmas.{set_is}
 use Rattle.fc_safe.proofs.PlannedLemmas.{needs_can}
@@ -166,7 +170,7 @@ module _ (m : Map) (is : IsNewMap m) (owners : List Owner) (w : Wants) (share : 
       by : (sh : Option Share) (ow : Option Plan) → option_map place_in sh ≡ slack_for m owners w → IsOwnFirst (bytes_left m owners w) plans ow → IsFirstPlacing m owners w plans (placing_of sh ow)
       by (Some x) ow e f = sym e
       by None None e f = sym (left None (sym e)) ∙ f
-      by None (Some plan) e f = (sym e, f.1)
+      by None (Some plan) e f = (sym e, f.1, subst (λ (n : ℕ). 0 < n) (left None (sym e)) f.0)
 
   pub shared_same : shared_id (placing_of share own) ≡ shared_by m owners w
   shared_same = by share own of
@@ -208,7 +212,7 @@ module _ (m : Map) (is : IsNewMap m) (owners : List Owner) (w : Wants) (share : 
 
 -- ---- all of it
 
-module _ (m : Map) (is : IsNewMap m) (h : Parts) (job : Job) (w : Wants) (can : CanPlaceFirst m h w) (bytes : ℕ) (share : Option Share) (own : Option Plan) (p : Planned)
+module _ (m : Map) (is : IsNewMap m) (h : Parts) (job : Job) (w : Wants) (can : CanPlaceFirst m h job w) (bytes : ℕ) (share : Option Share) (own : Option Plan) (p : Planned)
     (left : bytes ≡ bytes_left m h.owners w) (planned : IsPlanned m h (stir_of m h job w) bytes p) (of : option_map place_in share ≡ slack_for m h.owners w) (own_is : IsOwnFirst bytes p.plans.items own) where
   abbrev s : Stir
   s = stir_of m h job w
@@ -229,13 +233,23 @@ module _ (m : Map) (is : IsNewMap m) (h : Parts) (job : Job) (w : Wants) (can : 
       by true = omega arith
       by false = few
 
+  pub longer : (g : Growth) → w.grows ≡ Some g → (0 < g.len) × (g.len < 2 ^ 32)
+  longer g e = let c = can.grows g e in (c.some, c.few)
+
   pub all_taken : CanTakeAll m.geometry (hole_runs m) p.plans.items
   all_taken =
       plans_can m is h s (bytes_left m h.owners w) owners_low p.plans.items needs_met
-      (needs_can m is.of_record h job w (bytes_left m h.owners w) few_left can.placed (λ g e. absurd (let none = sym can.still ∙ e in cc)))
+      (needs_can m is.of_record h job w (bytes_left m h.owners w) few_left can.placed longer)
 
   first : IsOwnFirst (bytes_left m h.owners w) p.plans.items own
   first = subst (λ (n : ℕ). IsOwnFirst n p.plans.items own) left own_is
+
+  -- a directory that grows has a plan
+  pub grown_first : (g : Growth) → w.grows ≡ Some g → HasGrownPlan (moving_out m h w.grows) p.plans.items (id_of (address_in h.nodes g.node))
+  grown_first g e = grown_plan m h job w g (can.grows g e) (λ o at. (owners_low o at).1) p.plans.items needs_met
+
+  pub plans_lie : (plan : Plan) → Contains p.plans.items plan → LiesInZones m plan × (plan.id < 2 ^ 24)
+  plans_lie plan at = each_lies m is p.plans.items plan all_taken at
 
   pub placing_first : IsFirstPlacing m h.owners w p.plans.items (placing_of share own)
   placing_first = first_placing m is h.owners w share own p.plans.items of first
@@ -254,7 +268,7 @@ module _ (m : Map) (is : IsNewMap m) (h : Parts) (job : Job) (w : Wants) (can : 
 
 -- ---- refusals
 
-module _ (m : Map) (h : Parts) (job : Job) (w : Wants) (still : w.grows ≡ None) where
+module _ (m : Map) (h : Parts) (job : Job) (w : Wants) where
   abbrev needs : List Need
   needs = first_needs m h job w
 
@@ -280,11 +294,11 @@ module _ (m : Map) (h : Parts) (job : Job) (w : Wants) (still : w.grows ≡ None
   short_error S T errors.DiskFault a = absurd a
 
   -- If no need is, only the zones may be too many.
-  pub spread_last : (plans : List Plan) → short_of_needs m needs ≡ None → AreMet m needs plans → first_shortage m h job w ≡ spread_or (zones_turned m (parts_of plans) gone false)
-  spread_last plans none met = by (has_ids_for m needs) none
+  pub spread_last : (plans : List Plan) (root : Bool) → root ≡ turns_root w.grows → short_of_needs m needs ≡ None → AreMet m needs plans → first_shortage m h job w ≡ spread_or (zones_turned m (parts_of plans) gone root)
+  spread_last plans root turns none met = by (has_ids_for m needs) none
     where
       by : (b : Bool) → cond b (full_for m (bits_of m.geometry needs)) (Some (SafeRefusal.Refused refusals.IdsFull)) ≡ None
-          → cond b (unfit m needs gone (turns_root w.grows)) (Some (SafeRefusal.Refused refusals.IdsFull)) ≡ spread_or (zones_turned m (parts_of plans) gone false)
+          → cond b (unfit m needs gone (turns_root w.grows)) (Some (SafeRefusal.Refused refusals.IdsFull)) ≡ spread_or (zones_turned m (parts_of plans) gone root)
       by true e =
-          ap₂ (λ (r : Bool) (o : Option (List (List ZoneRun))). Rattle.fc_safe.specs.FirstNeeds.spread_if m gone r o) (ap turns_root still) met.fit
+          ap₂ (λ (r : Bool) (o : Option (List (List ZoneRun))). Rattle.fc_safe.specs.FirstNeeds.spread_if m gone r o) (sym turns) met.fit
       by false e = absurd (cc)

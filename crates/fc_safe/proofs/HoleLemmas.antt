@@ -13,7 +13,7 @@ use Rattle.fc_image.specs.safe.SafeShort.{fitted}
 use Rattle.fc_plan.specs.declared.plan.Part.{Part}
 use Rattle.fc_plan.specs.declared.plan.Plan.{Plan}
 use Rattle.fc_plan.specs.Parts.{fronts, part_of}
-use Rattle.fc_plan.proofs.FirstFit.{fit_one, fit_some}
+use Rattle.fc_plan.proofs.FirstFit.{fit_one, fit_some, the_same as some_one}
 use Rattle.fc_plan.proofs.Order.{both_all}
 use Rattle.fc_safe.specs.Needs.{parts_of}
 
@@ -39,9 +39,6 @@ found_free bits (h ∷ holes) hole free e = by (nat_le bits h.1.len) e (found_fr
     by : (b : Bool) → cond b (Some h) (find (λ (x : ZoneRun). nat_le bits x.1.len) holes) ≡ Some hole → (find (λ (x : ZoneRun). nat_le bits x.1.len) holes ≡ Some hole → IsFree hole) → IsFree hole
     by true f more = subst IsFree (let same : h ≡ hole = cc in same) free.0
     by false f more = more f
-
-some_one : (x y : List ZoneRun) → (let o : Option (List ZoneRun) = Some x in o) ≡ Some y → x ≡ y
-some_one x y e = cc
 
 gathered_free : (g : Geometry) (bits : ℕ) (holes parts : List ZoneRun) → AreHoles holes → gathered g bits holes ≡ Some parts → AreHoles parts
 unfolding gathered

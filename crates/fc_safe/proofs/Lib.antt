@@ -3,6 +3,7 @@ pub mod ExtentLemmas
 pub mod FirstLemmas
 pub mod GivenLemmas
 pub mod GoneLemmas
+pub mod GrownLemmas
 pub mod HoleLemmas
 pub mod ListLemmas
 pub mod MovingLemmas

@@ -4,20 +4,14 @@ use Rattle.std.specs.Prelude.{Contains, filter, max}
 use Rattle.std.specs.List.{flat_map, fold, list_any}
 use Rattle.std.proofs.lemmas.List.Elements.{Contains-append_cases, Contains-append_right}
 use Rattle.std.proofs.lemmas.List.Sums.{sum_by-cons}
+pub use Rattle.std.proofs.lemmas.Bool.{or_left, or_right}
+pub use Rattle.std.proofs.lemmas.Grind.{same_number_lists as lists_same}
 
 pub same_test : (a b : Bool) → (a ≡ true → b ≡ true) → (b ≡ true → a ≡ true) → a ≡ b
 same_test true true f g = refl
 same_test true false f g = sym (f refl)
 same_test false true f g = g refl
 same_test false false f g = refl
-
-pub or_left : (a b : Bool) → a ≡ true → (a || b) ≡ true
-or_left true b e = refl
-or_left false b e = absurd (cc)
-
-pub or_right : (a b : Bool) → b ≡ true → (a || b) ≡ true
-or_right true b e = refl
-or_right false b e = e
 
 -- ---- tests of lists
 
@@ -47,7 +41,7 @@ pub any_same : {X : Type 0} (t s : X → Bool) (xs : List X) → ((x : X) → Co
 any_same t s [] same = refl
 any_same t s (x ∷ xs) same = ap₂ (λ (a b : Bool). a || b) (same x (0, omega arith, refl)) (any_same t s xs (λ y at. same y (suc at.0, (let low = at.1 in omega (arith, low)), at.2)))
 
-in_left : {Y : Type 0} (ys zs : List Y) (y : Y) → Contains ys y → Contains (ys ++ zs) y
+pub in_left : {Y : Type 0} (ys zs : List Y) (y : Y) → Contains ys y → Contains (ys ++ zs) y
 in_left [] zs y (k, low, e) = absurd (omega (arith, low))
 in_left (a ∷ ys) zs y (zero, low, e) = (0, omega arith, e)
 in_left (a ∷ ys) zs y (suc k, low, e) = let r = in_left ys zs y (k, omega (arith, low), e) in (suc r.0, (let l = r.1 in omega (arith, l)), r.2)
@@ -114,13 +108,6 @@ most_same f xs ys there back =
     omega (arith, a, b)
 
 -- ---- by places
-
-pub lists_same : (xs ys : List ℕ) → length xs ≡ length ys → ((k : ℕ) → k < length xs → get_or xs k 0 ≡ get_or ys k 0) → xs ≡ ys
-lists_same [] [] long each = refl
-lists_same [] (y ∷ ys) long each = absurd (omega (arith, long))
-lists_same (x ∷ xs) [] long each = absurd (omega (arith, long))
-lists_same (x ∷ xs) (y ∷ ys) long each =
-    ap₂ (λ (a : ℕ) (rest : List ℕ). a ∷ rest) (each 0 (omega arith)) (lists_same xs ys (omega (arith, long)) (λ k low. each (suc k) (omega (arith, low))))
 
 pub at_place : (xs : List ℕ) (k x : ℕ) → k < length xs → get_or xs k 0 ≡ x → Contains xs x
 at_place [] k x low e = absurd (omega (arith, low))

@@ -1,10 +1,9 @@
 -- Identifiers that move, and the needs that they are.
-use Rattle.std.proofs.Common.{◌≡◌, ◌<◌, ◌≤◌, ◌&&◌, ◌==◌, ℕ, zero, suc, ◌+◌, Bool, true, false, List, [], ◌∷◌, ◌++◌, length, get_or, map, take, refl, sym, ap, subst, ◌∙◌, arith, Some}
+use Rattle.std.proofs.Common.{◌≡◌, ◌<◌, ◌&&◌, ◌==◌, ℕ, zero, suc, ◌+◌, Bool, true, false, List, [], ◌∷◌, ◌++◌, length, get_or, map, take, refl, sym, ap, subst, ◌∙◌, arith, Some}
 use Rattle.std.specs.Prelude.{Contains, filter, nat_lt}
 use Rattle.std.specs.List.{range_with_len}
 use Rattle.std.specs.List.Sorted.{IsStrictlyIncreasing}
 use Rattle.std.proofs.lemmas.Bool.{and_parts, eqb-true, lt-ltb}
-use Rattle.std.proofs.lemmas.List.FromFn.{get_or-range_with_len, length-range_with_len}
 use Rattle.std.proofs.lemmas.List.Kept.{IsStrictlyIncreasing-filter}
 use Rattle.fc_alloc.specs.declared.owner.Owner.{Owner}
 use Rattle.fc_record.specs.declared.Geometry.{Geometry}
@@ -16,11 +15,7 @@ use Rattle.fc_safe.specs.declared.needs.Need.{Need}
 use Rattle.fc_safe.proofs.ListLemmas.{found_of}
 use Rattle.fc_safe.proofs.SetLemmas.{same_sets}
 use Rattle.fc_safe.proofs.ZoneLemmas.{in_range}
-
-pub range_rises : (from n : ℕ) → IsStrictlyIncreasing (range_with_len from n)
-range_rises from n k lt =
-    let size = length-range_with_len from n in
-    omega (arith, get_or-range_with_len from n k 0 (omega (arith, lt, size)), get_or-range_with_len from n (k + 1) 0 (omega (arith, lt, size)))
+pub use Rattle.fc_placing.proofs.SpaceLemmas.{range_rises}
 
 -- A set of numbers below a limit is what a test leaves of all that are.
 pub set_is : (t : ℕ → Bool) (n : ℕ) (xs : List ℕ) → IsStrictlyIncreasing xs → ((x : ℕ) → is_one_of xs x ≡ t x) → ((x : ℕ) → t x ≡ true → x < n) → xs ≡ filter t (range_with_len 0 n)

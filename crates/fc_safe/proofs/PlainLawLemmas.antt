@@ -1,9 +1,8 @@
 -- `delete`, `set` and `mark` are refused in the safe mode as the nodes tell it, and have what they need.
-use Rattle.std.proofs.Common.{◌≡◌, ◌<◌, ◌≤◌, ◌&&◌, ◌||◌, ◌==◌, ◌⊎◌, inl, inr, ℕ, zero, suc, ◌+◌, ◌-◌, Bool, true, false, cond, List, [], ◌∷◌, ◌++◌, length, map, refl, sym, ap, ap₂, subst, ◌∙◌, arith, eq-eqb, Some, None, Option}
+use Rattle.std.proofs.Common.{◌≡◌, ◌<◌, ◌≤◌, ◌&&◌, ◌||◌, ◌==◌, ◌⊎◌, inl, inr, ℕ, ◌+◌, ◌-◌, Bool, true, false, cond, List, [], ◌∷◌, ◌++◌, length, map, refl, sym, ap, ap₂, subst, ◌∙◌, arith, Some, None, Option}
 use Rattle.std.specs.Prelude.{count_by, is_some, nat_le, nat_lt}
-use Rattle.std.specs.List.{flat_map, list_any, range_with_len}
-use Rattle.std.specs.Option.{option_map_or, option_to_list}
-use Rattle.std.proofs.lemmas.Bool.{and_parts, cases_Bool, eqb-true, le-leb, lt-ltb, or_cases}
+use Rattle.std.specs.List.{flat_map, list_any}
+use Rattle.std.proofs.lemmas.Bool.{and_parts, le-leb, lt-ltb, or_cases}
 use Rattle.fc_alloc.specs.Owners.{owns}
 use Rattle.fc_names.specs.Names.{Path}
 use Rattle.fc_names.specs.declared.refusal.Refusal.TheVariants as refusals
@@ -17,7 +16,7 @@ use Rattle.fc_image.specs.Layout.{Layout}
 use Rattle.fc_image.specs.Opening.{Opened}
 use Rattle.fc_image.specs.effects.Sharing.{new_ids}
 use Rattle.fc_image.specs.effects.Short.{object_units, short, space_reasons}
-use Rattle.fc_image.specs.safe.SafeShort.{SafeRefusal, changed_ids, changed_zones, fit_refusal, fitted, fitted_needs, holds_changed, is_changed_directory, is_given_up, is_suitable, loses_owner, needs, places_given_up, remains_in, root_grows, safe_short, spread_or, suits, takes_slack}
+use Rattle.fc_image.specs.safe.SafeShort.{SafeRefusal, changed_ids, changed_zones, fit_refusal, fitted, fitted_needs, holds_changed, is_given_up, needs, places_given_up, root_grows, safe_short, spread_or, suits, takes_slack}
 use Rattle.fc_placing.specs.Leaving.{is_kept}
 use Rattle.fc_placing.proofs.LeavingLemmas.{any_append}
 use Rattle.fc_plan.specs.declared.plan.Plan.{Plan}
@@ -57,7 +56,7 @@ pub record IsPlainOf (m : Map) (h : Parts) (v : Opened) (c : Command) (job : Job
   pub enough : short v c ≡ None
   pub no_root : root_grows v c ≡ false
 
-room_still : (grows : Option Growth) → room_of grows ≡ rooms.Fits → grows ≡ None
+pub room_still : (grows : Option Growth) → room_of grows ≡ rooms.Fits → grows ≡ None
 room_still None e = refl
 room_still (Some g) e = absurd (cc)
 

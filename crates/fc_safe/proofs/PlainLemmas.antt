@@ -28,9 +28,7 @@ use Rattle.fc_safe.specs.Changed.{changed_in}
 use Rattle.fc_safe.specs.FirstNeeds.{Stir, longer_of, moving_out, node_of, stir_of}
 use Rattle.fc_safe.specs.Views.{IsNodeOf, IsViewOf, StirsAs}
 use Rattle.fc_safe.proofs.ListLemmas.{same_test}
-
-one_number : (a b : ℕ) → (let x : Option ℕ = Some a in x) ≡ Some b → a ≡ b
-one_number a b e = cc
+use Rattle.fc_laws.proofs.lemmas.agree.WalkedLemmas.{same_number as one_number}
 
 or_none : (b : Bool) → (b || false) ≡ b
 or_none true = refl

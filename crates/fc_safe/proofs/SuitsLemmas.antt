@@ -21,15 +21,13 @@ use Rattle.fc_tree.specs.declared.node.Node.{Node}
 use Rattle.fc_tree.proofs.FindLemmas.{object_of_number}
 use Rattle.fc_safe.specs.Suits.{AnswersSuits, Suits, SuitsNot, is_low_directory, is_low_node}
 use Rattle.fc_safe.proofs.ListLemmas.{any_of, found_of}
+use Rattle.fc_laws.proofs.lemmas.agree.WalkedLemmas.{same_number as one_number}
 
 abbrev entry_in : Object → Entry
 entry_in o = o.entry
 
 abbrev pub low_of : Option Node → Bool
 low_of o = option_map_or (λ (node : Node). is_low_directory node.entry) o false
-
-one_number : (a b : ℕ) → (let x : Option ℕ = Some a in x) ≡ Some b → a ≡ b
-one_number a b e = cc
 
 module _ (layout : Layout) (nodes : Nodes) (listings : List Listing) (sound : AreSound layout listings) (held : HoldObjects nodes listings) where
   abbrev entries : List Entry

@@ -1,5 +1,5 @@
 -- Places for what a job wants of a new map in the safe mode.
-use Rattle.std.specs.Prelude.{◌≡◌, ◌<◌, ◌≤◌, ℕ, ◌*◌, ◌^◌, true, All, List, [], ◌∷◌, AllPairs, Contains, IsPermutation, drop, filter, is_some, length, take, Option, Some, None, if◌then◌else◌}
+use Rattle.std.specs.Prelude.{◌≡◌, ◌<◌, ◌≤◌, ℕ, ◌*◌, ◌^◌, true, false, All, List, [], ◌∷◌, ◌++◌, AllPairs, Contains, IsPermutation, drop, filter, is_some, length, take, Option, Some, None, if◌then◌else◌}
 use Rattle.std.specs.Int.{div_ceil}
 use Rattle.std.specs.List.{flat_map}
 use Rattle.fc_alloc.specs.declared.owner.Owner.{Owner}
@@ -30,7 +30,8 @@ use Rattle.fc_change.specs.Places.{IsCopiedFrom, IsPlaceFor, IsPlacingFor, exten
 use Rattle.fc_change.specs.Prepared.{HasPlace}
 use Rattle.fc_change.specs.Shortage.{slack_for}
 use Rattle.fc_slack.specs.Slack.{place_in}
-use Rattle.fc_safe.specs.FirstNeeds.{first_gone, first_needs, longer_of, moving_out}
+use Rattle.fc_safe.specs.Changed.{named_in}
+use Rattle.fc_safe.specs.FirstNeeds.{first_gone, first_needs, leaving_of, longer_of, moving_out}
 use Rattle.fc_safe.specs.Moving.{IsPlacedOwner}
 use Rattle.fc_safe.specs.Needs.{AreMet}
 use Rattle.fc_safe.specs.Zones.{is_turned}
@@ -46,7 +47,7 @@ IsFirstOf (first ∷ rest) plan = (plan.id ≡ first.id) × (plan.parts.items �
 abbrev pub IsFirstPlacing : Map → List Owner → Wants → List Plan → Placing → Type 0
 IsFirstPlacing m owners w plans placings.Nowhere = w.bytes ≡ 0
 IsFirstPlacing m owners w plans (placings.Shared share) = slack_for m owners w ≡ Some (place_in share)
-IsFirstPlacing m owners w plans (placings.New plan) = (slack_for m owners w ≡ None) × IsFirstOf plans plan
+IsFirstPlacing m owners w plans (placings.New plan) = (slack_for m owners w ≡ None) × IsFirstOf plans plan × (0 < w.bytes)
 
 -- ---- the directory that grows
 
@@ -55,10 +56,16 @@ abbrev pub address_then : Option Growth → ℕ → Plan → ℕ
 address_then None address plan = address
 address_then (Some out) address plan = 256 * plan.id
 
+-- With a new identifier its plan is the last.
+abbrev pub IsLastIf : Option Growth → List Plan → Plan → Type 0
+IsLastIf None plans plan = Unit {0}
+IsLastIf (Some out) plans plan = (before : List Plan) × (plans ≡ before ++ plan ∷ [])
+
 -- Its sectors are those of its plan from where it begins in its identifier.
 pub record IsFirstGrown (m : Map) (h : Parts) (g : Growth) (plans : List Plan) (p : GrownPlace) : Type 0 where
   pub plan : Plan
   pub among : Contains plans plan
+  pub last : IsLastIf (moving_out m h (Some g)) plans plan
   pub id : plan.id ≡ id_of p.directory.address
   pub directory : p.directory ≡ record { node = g.node; address = address_then (moving_out m h (Some g)) (address_in h.nodes g.node) plan; len = g.len }
   pub moves : p.moves ≡ true
@@ -110,10 +117,21 @@ pub record ArePlacedFirst (m : Map) (h : Parts) (job : Job) (w : Wants) (s : Spa
 
 -- ---- what has to be known
 
--- No directory grows. A copied file has a place. Each owner has some sectors of an identifier that an object may have.
-pub record CanPlaceFirst (m : Map) (h : Parts) (w : Wants) : Type 0 where
+-- A directory that grows gets some bytes. The job rewrites it, and it neither goes nor is copied; its owner is in the identifier of its address.
+pub record CanGrowFirst (h : Parts) (job : Job) (w : Wants) (g : Growth) : Type 0 where
+  pub some : 0 < g.len
+  pub few : g.len < 2 ^ 32
+  pub own : Owner
+  pub among : Contains h.owners own
+  pub node : own.node ≡ g.node
+  pub id : own.id ≡ id_of (address_in h.nodes g.node)
+  pub named : is_one_of (named_in job) g.node ≡ true
+  pub stays : is_one_of (leaving_of w None) g.node ≡ false
+
+-- A copied file has a place. Each owner has some sectors of an identifier that an object may have.
+pub record CanPlaceFirst (m : Map) (h : Parts) (job : Job) (w : Wants) : Type 0 where
   pub few : w.bytes < 2 ^ 32
-  pub still : w.grows ≡ None
+  pub grows : (g : Growth) → w.grows ≡ Some g → CanGrowFirst h job w g
   pub copied : (n : ℕ) → w.copied ≡ Some n → HasPlace h n
   pub placed : (o : Owner) → Contains h.owners o → IsPlacedOwner m.geometry (longer_of m.geometry w.grows) o
 

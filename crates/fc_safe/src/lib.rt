@@ -7,6 +7,7 @@ mod error;
 mod extents;
 mod first;
 mod gone;
+mod grown;
 mod laws;
 mod lists;
 mod moving;

@@ -1,0 +1,16 @@
+pub mod TestLemmas
+pub mod NumberLemmas
+pub mod GrowthLemmas
+pub mod AroundLemmas
+pub mod StirLemmas
+pub mod SomeLemmas
+pub mod ArrivalLemmas
+pub mod OverLemmas
+pub mod MoveLemmas
+pub mod PlanLemmas
+pub mod ShortageLemmas
+pub mod PlainJobLemmas
+pub mod CommandLemmas
+pub mod JobLemmas
+pub mod JudgedLemmas
+pub mod ListedLemmas
