@@ -1,37 +1,25 @@
 -- What follows from a judgment in the safe mode.
-use Rattle.std.proofs.Common.{◌≡◌, ℕ, Bool, List, [], refl, sym, subst, Option, Some, None}
-use Rattle.std.specs.Prelude.{Err, IfOk, IsFalse, Ok, Result}
+use Rattle.std.proofs.Common.{◌≡◌, ℕ, Bool, refl, sym, subst, Option, Some, None}
+use Rattle.std.specs.Prelude.{Err, IsFalse, Result}
 use Rattle.fc_device.specs.declared.disk.Disk.{Ghosts}
-use Rattle.fc_names.specs.Names.{Path}
 use Rattle.fc_names.specs.declared.refusal.Refusal.{Refusal}
-use Rattle.fc_record.specs.declared.Kind.{Kind}
 use Rattle.fc_model.specs.Answer.{first_of, reasons}
 use Rattle.fc_model.specs.Command.{Command}
 use Rattle.fc_image.specs.Layout.{Layout, dir_form}
 use Rattle.fc_image.specs.Objects.{tree_of}
-use Rattle.fc_image.specs.Walk.{Listing}
 use Rattle.fc_image.specs.safe.SafeShort.{SafeRefusal, safe_refusal}
 use Rattle.fc_laws.specs.nodes.Edits.{Nodes}
-use Rattle.fc_laws.proofs.lemmas.agree.BeforeLemmas.{agreed_law}
-use Rattle.fc_tree.specs.Agree.{Agree}
 use Rattle.fc_tree.specs.Parts.{Parts}
-use Rattle.fc_change.specs.Jobs.{IsJob}
-use Rattle.fc_change.specs.declared.job.Job.{Job}
-use Rattle.fc_change.specs.declared.job.Job.TheVariants as jobs
 use Rattle.fc_holdings.specs.declared.error.CommandError.{CommandError}
 use Rattle.fc_holdings.specs.declared.error.CommandError.TheVariants.{Refused, NoMemory, DiskFault}
 use Rattle.fc_holdings.specs.declared.holdings.Holdings.{Holdings}
 use Rattle.fc_holdings.specs.Holdings.{Stands, parts_of}
-use Rattle.fc_course.specs.Jobs.{FitAttributes, HasLaws, IsJobFor}
-use Rattle.fc_course.proofs.RemovalStageLemmas.{view_of}
-use Rattle.fc_commands.specs.declared.judged.Judged.{Judged}
-use Rattle.fc_commands.specs.Judgments.{IsJudgment, IsRefusalOf, RefusesBy}
+use Rattle.fc_course.specs.Jobs.{FitAttributes}
+use Rattle.fc_commands.specs.Judgments.{IsRefusalOf, RefusesBy}
 use Rattle.fc_safe.specs.declared.error.SafeError.{SafeError}
 use Rattle.fc_safe.specs.declared.error.SafeError.TheVariants as errors
 use Rattle.fc_safe.specs.Suits.{Suits}
-use Rattle.fc_safe.specs.Views.{IsPlain}
 use Rattle.fc_safecourse.specs.Answers.{AnswersSafeOver, AnswersSafely}
-use Rattle.fc_safecourse.specs.Laws.{HasSafeLaws}
 use Rattle.fc_safecourse.specs.Promises.{SafeKeeps}
 use Rattle.fc_safecourse.proofs.CourseLemmas.{kept_same, no_memory}
 use Rattle.fc_safecommands.specs.Answers.{AnswersSafelyOver, refused_or, safe_error, safe_refusal_in}
@@ -72,50 +60,6 @@ judged_short read_only c h result none answers v image sound held =
     (sym (refused_last (first_of (reasons (tree_of image v.layout v.listings) (dir_form v.layout) read_only c)) (safe_refusal v c) (none v image sound held))) (answers v sound held)
 
 -- ---- the laws of jobs
-
--- A job that is the command's has laws in the safe mode if each that is has them.
-pub with_laws : (read_only : Bool) (c : Command) (h : Parts) (bytes : List ℕ) (r : Result Judged CommandError) → ((job : Job) (name : List ℕ) → IsJobFor c h job name bytes → IsPlain job)
-    → IsJudgment read_only c h bytes r → IfOk r (λ j. HasLaws h j.job j.name) → IfOk r (λ j. HasSafeLaws h j.job j.name)
-with_laws read_only c h bytes (Ok j) plain is has = (plain j.job j.name is.0, has)
-with_laws read_only c h bytes (Err e) plain is has = tt
-
-module _ (nodes : Nodes) (listings : List Listing) (path : Path) (name : List ℕ) where
-  deletes : (job : Job) → IsJob nodes listings (Command.Delete path) job name → IsPlain job
-  deletes (jobs.Removal target) is = tt
-  deletes (jobs.Words target words) is = tt
-  deletes (jobs.Marks target attrs) is = tt
-  deletes (jobs.Directory dir) is = absurd is
-  deletes (jobs.File slot words) is = absurd is
-  deletes (jobs.Move renaming) is = absurd is
-
-  sets : (load exec access : ℕ) (job : Job) → IsJob nodes listings (Command.Set path load exec access) job name → IsPlain job
-  sets load exec access (jobs.Removal target) is = tt
-  sets load exec access (jobs.Words target words) is = tt
-  sets load exec access (jobs.Marks target attrs) is = tt
-  sets load exec access (jobs.Directory dir) is = absurd is
-  sets load exec access (jobs.File slot words) is = absurd is
-  sets load exec access (jobs.Move renaming) is = absurd is
-
-  marks : (attrs : ℕ) (job : Job) → IsJob nodes listings (Command.Mark path attrs) job name → IsPlain job
-  marks attrs (jobs.Removal target) is = tt
-  marks attrs (jobs.Words target words) is = tt
-  marks attrs (jobs.Marks target others) is = tt
-  marks attrs (jobs.Directory dir) is = absurd is
-  marks attrs (jobs.File slot words) is = absurd is
-  marks attrs (jobs.Move renaming) is = absurd is
-
-module _ (h : Parts) (kind : Kind) (a : Agree kind h) where
-  job_is : (c : Command) (job : Job) (name bytes : List ℕ) → IsJobFor c h job name bytes → IsJob h.nodes a.listings c job name
-  job_is c job name bytes j = j.is (view_of h kind a) (agreed_law.sound_by kind h a) (agreed_law.viewed kind h a)
-
-  pub deletes_plain : (path : Path) (job : Job) (name : List ℕ) → IsJobFor (Command.Delete path) h job name [] → IsPlain job
-  deletes_plain path job name j = deletes h.nodes a.listings path name job (job_is (Command.Delete path) job name [] j)
-
-  pub sets_plain : (path : Path) (load exec access : ℕ) (job : Job) (name : List ℕ) → IsJobFor (Command.Set path load exec access) h job name [] → IsPlain job
-  sets_plain path load exec access job name j = sets h.nodes a.listings path name load exec access job (job_is (Command.Set path load exec access) job name [] j)
-
-  pub marks_plain : (path : Path) (attrs : ℕ) (job : Job) (name : List ℕ) → IsJobFor (Command.Mark path attrs) h job name [] → IsPlain job
-  marks_plain path attrs job name j = marks h.nodes a.listings path name attrs job (job_is (Command.Mark path attrs) job name [] j)
 
 -- Entries of big directories hold any attributes.
 pub fit_any : (layout : Layout) (nodes : Nodes) (attrs : ℕ) → Suits layout nodes → FitAttributes (dir_form layout) attrs

@@ -4,8 +4,8 @@ ghost use Rattle.fc_device.specs.Calls.{StopsAndExitsLeave};
 ghost use Rattle.fc_model.specs.Command.{Command};
 ghost use Rattle.fc_holdings.specs.Holdings.{Stands, parts_of};
 ghost use Rattle.fc_commands.specs.Judgments.{IsJudgment};
+ghost use Rattle.fc_course.specs.Jobs.{HasLaws};
 ghost use Rattle.fc_safe.specs.Suits.{Suits};
-ghost use Rattle.fc_safecourse.specs.Laws.{HasSafeLaws};
 ghost use Rattle.fc_safecourse.specs.Promises.{HasChangedSafely, LeavesTree, SafeKeeps, WritesFreeOf};
 ghost use Rattle.fc_safecommands.specs.Answers.{AnswersSafelyOver, safe_error};
 
@@ -38,7 +38,7 @@ pub fn carry_out<D: Disk>(
     requires stands { Stands D.Disk holdings.old disk.old }
     requires suits { Suits (parts_of holdings.old).layout (parts_of holdings.old).nodes }
     requires judged { (c : Command) × (read_only : Bool) × IsJudgment read_only c (parts_of holdings.old) bytes.now judged }
-    requires covered { IfOk judged (λ j. HasSafeLaws (parts_of holdings.old) j.job j.name) }
+    requires covered { IfOk judged (λ j. HasLaws (parts_of holdings.old) j.job j.name) }
     ensures refused { (c : Command) (read_only : Bool) → IsJudgment read_only c (parts_of holdings.old) bytes.now judged → AnswersSafelyOver read_only c (parts_of holdings.old) result }
     ensures changed { OnOk result ((c : Command) (read_only : Bool) → IsJudgment read_only c (parts_of holdings.old) bytes.now judged
         → HasChangedSafely D.Disk c (parts_of holdings.old) (parts_of holdings.new) disk.old disk.new) }

@@ -5,7 +5,10 @@
 mod commands;
 mod judged;
 
+pub use commands::cdir::cdir;
 pub use commands::delete::delete;
 pub use commands::mark::mark;
+pub use commands::rename::rename;
+pub use commands::save::{create, save};
 pub use commands::set::set;
 pub use fc_safecourse::{Holdings, SafeError, suits};

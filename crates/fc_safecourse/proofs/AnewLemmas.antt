@@ -1,5 +1,5 @@
 -- Where owners lie in the plans of their identifiers.
-use Rattle.std.proofs.Common.{◌≡◌, ◌<◌, ℕ, zero, suc, ◌+◌, Bool, true, false, cond, List, [], ◌∷◌, ◌++◌, length, get_or, take, ap, ◌∙◌, arith, Some, None, Option}
+use Rattle.std.proofs.Common.{◌≡◌, ◌<◌, ℕ, zero, suc, ◌+◌, ◌==◌, Bool, true, false, cond, List, [], ◌∷◌, ◌++◌, length, get_or, take, ap, ◌∙◌, arith, Some, None, Option}
 use Rattle.std.specs.Prelude.{filter}
 use Rattle.std.specs.List.{find}
 use Rattle.std.proofs.lemmas.List.{take_more}
@@ -11,7 +11,8 @@ use Rattle.fc_tree.specs.Parts.{Parts}
 use Rattle.fc_writing.specs.declared.ready.Piece.{Piece}
 use Rattle.fc_writing.specs.declared.ready.Transfer.{Transfer}
 use Rattle.fc_change.specs.declared.change.Says.{Says}
-use Rattle.fc_safecourse.specs.Anew.{AreTakenAlong, IsPieceAnew, IsTakenAlong, PiecesAnew}
+use Rattle.fc_change.specs.declared.spaces.GrownPlace.{GrownPlace}
+use Rattle.fc_safecourse.specs.Anew.{AreTakenAlong, IsEarlyPiece, IsTakenAlong, PiecesAnew}
 
 -- ---- the first of a list
 
@@ -36,11 +37,12 @@ find_here {X} t (x ∷ xs) (suc i) d low e f = by (t x) e (find_here t xs i d (o
 
 -- ---- one more
 
-pub piece_more : (m : Map) (h : Parts) (plans : List Plan) (says : List Says) (pieces : List Piece) (s : Says) (p : Piece) → PiecesAnew m h plans says pieces → IsPieceAnew m h plans s p → PiecesAnew m h plans (says ++ s ∷ []) (pieces ++ p ∷ [])
-piece_more m h plans [] [] s p before is = (is, tt)
-piece_more m h plans [] (q ∷ pieces) s p before is = absurd before
-piece_more m h plans (t ∷ says) [] s p before is = absurd before
-piece_more m h plans (t ∷ says) (q ∷ pieces) s p before is = (before.0, piece_more m h plans says pieces s p before.1 is)
+pub piece_more : (m : Map) (h : Parts) (plans : List Plan) (grown : Option GrownPlace) (says : List Says) (pieces : List Piece) (s : Says) (p : Piece) → PiecesAnew m h plans grown says pieces → IsEarlyPiece m h plans grown s p
+    → PiecesAnew m h plans grown (says ++ s ∷ []) (pieces ++ p ∷ [])
+piece_more m h plans grown [] [] s p before is = (is, tt)
+piece_more m h plans grown [] (q ∷ pieces) s p before is = absurd before
+piece_more m h plans grown (t ∷ says) [] s p before is = absurd before
+piece_more m h plans grown (t ∷ says) (q ∷ pieces) s p before is = (before.0, piece_more m h plans grown says pieces s p before.1 is)
 
 pub along_more : (m : Map) (h : Parts) (plans : List Plan) (owners : List Owner) (transfers : List Transfer) (o : Owner) (t : Transfer) → AreTakenAlong m h plans owners transfers → IsTakenAlong m h plans o t
     → AreTakenAlong m h plans (owners ++ o ∷ []) (transfers ++ t ∷ [])

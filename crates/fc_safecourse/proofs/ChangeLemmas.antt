@@ -58,7 +58,7 @@ use Rattle.fc_safecourse.proofs.RunLemmas.{have_runs}
 use Rattle.fc_safecourse.proofs.SpaceLemmas as space_of
 use Rattle.fc_safecourse.proofs.WrittenLemmas as written
 
-module _ (x : PlainJob) (s : Spaces) (placed : ArePlacedFirst x.m (h x) x.job x.wants s) (c : Change) (tells : written.TellsOne x c) (r : Ready) (is : IsReadyAnew x.m (h x) c s r) where
+module _ (x : PlainJob) (s : Spaces) (placed : ArePlacedFirst x.m (h x) x.job x.wants s) (c : Change) (tells : written.TellsOne x c) (r : Ready) (is : IsReadyAnew x.m (h x) x.wants c s r) where
   abbrev g : Geometry
   g = x.m.geometry
 

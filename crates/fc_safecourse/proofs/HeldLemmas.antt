@@ -11,15 +11,15 @@ use Rattle.fc_writing.specs.Copies.{HasCopies}
 use Rattle.fc_writing.specs.New.{IsGiven, IsTaken}
 use Rattle.fc_writing.specs.Steps.{HasStepped}
 use Rattle.fc_holdings.specs.declared.holdings.Holdings.{Holdings}
-use Rattle.fc_holdings.specs.Holdings.{CopiesAre, Stands, parts_of}
+use Rattle.fc_holdings.specs.Holdings.{CopiesAre, Stands, TellsVersion, parts_of}
 use Rattle.fc_change.specs.declared.job.Job.{Job}
 use Rattle.fc_course.specs.declared.stages.Prepared.{Prepared}
-use Rattle.fc_course.specs.Jobs.{IsJudged}
+use Rattle.fc_course.specs.Jobs.{HasLaws, IsJudged}
 use Rattle.fc_course.specs.Run.{IsMapIn}
 use Rattle.fc_safe.specs.Suits.{Suits}
 use Rattle.fc_tree.specs.Parts.{Parts}
 use Rattle.fc_safecourse.specs.Anew.{IsPreparedAnew}
-use Rattle.fc_safecourse.specs.Laws.{HasSafeLaws, SafeCourseLaw, SafeJobLaws}
+use Rattle.fc_safecourse.specs.Laws.{SafeCourseLaw, SafeJobLaws}
 
 -- ---- the map
 
@@ -36,9 +36,9 @@ one_map layout m n at other = same m n (sym at ∙ other)
 -- ---- the laws
 
 pub laws_for : {D : Type 0} (d : Ghosts D) (was : Holdings) (old : D) → SafeCourseLaw → (stands : Stands d was old) → IsMapIn (layout_of was.places) → Suits (layout_of was.places) (parts_of was).nodes
-    → (job : Job) (name bytes : List ℕ) → HasSafeLaws (parts_of was) job name → IsJudged (parts_of was) job name bytes → (m : Map) → layout_of was.places ≡ Layout.New m
+    → (job : Job) (name bytes : List ℕ) → HasLaws (parts_of was) job name → IsJudged (parts_of was) job name bytes → (m : Map) → layout_of was.places ≡ Layout.New m
     → SafeJobLaws stands.agree.0 m (parts_of was) job name bytes
-laws_for d was old law stands is suits job name bytes has judged m at = law stands.agree.0 m (parts_of was) job name bytes has (subst IsMapIn at is) at suits stands.agree.1 judged
+laws_for d was old law stands is suits job name bytes has judged m at = law stands.agree.0 m (parts_of was) job name bytes has (subst IsMapIn at is) (subst TellsVersion at stands.version) at suits stands.agree.1 judged
 
 -- what is known of the copies
 pub known_by : (layout : Layout) (m : Map) (copies : Copies) (told : Option (List ℕ)) → layout ≡ Layout.New m → ForSome told (CopiesAre copies layout) → ForSome told (HasCopies copies m)

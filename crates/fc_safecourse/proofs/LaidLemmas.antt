@@ -51,7 +51,7 @@ to_drop (suc a) [] j s at = absurd at
 to_drop (suc a) (x ∷ xs) j s at = let e : suc a + j ≡ suc (a + j) = omega arith in to_drop a xs j s (subst (λ (k : ℕ). HasPlace (x ∷ xs) k s) e at)
 
 -- a stretch of two lists that begin alike
-same_stretch : (k f n : ℕ) (xs ys : List ℕ) → f + n ≤ k → take k xs ≡ take k ys → take n (drop f xs) ≡ take n (drop f ys)
+pub same_stretch : (k f n : ℕ) (xs ys : List ℕ) → f + n ≤ k → take k xs ≡ take k ys → take n (drop f xs) ≡ take n (drop f ys)
 same_stretch k f n xs ys low same = sym (cut xs) ∙ ap (λ (zs : List ℕ). take n (drop f zs)) same ∙ cut ys
   where
     cut : (zs : List ℕ) → take n (drop f (take k zs)) ≡ take n (drop f zs)
@@ -59,16 +59,16 @@ same_stretch k f n xs ys low same = sym (cut xs) ∙ ap (λ (zs : List ℕ). tak
         ap (λ (j : ℕ). take n (drop f (take j zs))) (let e : k ≡ f + (k - f) = omega (arith, low) in e)
         ∙ ap (take n) (drop-take f (k - f) zs) ∙ take-take n (k - f) (drop f zs) (omega (arith, low))
 
-stretch_place : (f n : ℕ) (xs : List ℕ) (s : ℕ) → is_among (take n (drop f xs)) s ≡ true → (j : ℕ) × (j < n) × HasPlace xs (f + j) s
+pub stretch_place : (f n : ℕ) (xs : List ℕ) (s : ℕ) → is_among (take n (drop f xs)) s ≡ true → (j : ℕ) × (j < n) × HasPlace xs (f + j) s
 stretch_place f n xs s e =
     let p = among_place (take n (drop f xs)) s e in
     let q = in_take n (drop f xs) p.0 s p.1 in
     (p.0, q.0, in_drop f xs p.0 s q.1)
 
-place_stretch : (f n : ℕ) (xs : List ℕ) (j s : ℕ) → j < n → HasPlace xs (f + j) s → is_among (take n (drop f xs)) s ≡ true
+pub place_stretch : (f n : ℕ) (xs : List ℕ) (j s : ℕ) → j < n → HasPlace xs (f + j) s → is_among (take n (drop f xs)) s ≡ true
 place_stretch f n xs j s low at = place_among (take n (drop f xs)) j s (to_take n (drop f xs) j s low (to_drop f xs j s at))
 
-stretch_once : (k f n : ℕ) (xs : List ℕ) → f + n ≤ k → Distinct (take k xs) → Distinct (take n (drop f xs))
+pub stretch_once : (k f n : ℕ) (xs : List ℕ) → f + n ≤ k → Distinct (take k xs) → Distinct (take n (drop f xs))
 stretch_once k f n xs low once = subst Distinct (sym (same_stretch k f n xs (take k xs) low (sym (take-take k k xs (omega arith))))) (part n (drop f (take k xs)) (behind f (take k xs) once))
   where
     behind : (a : ℕ) (zs : List ℕ) → Distinct zs → Distinct (drop a zs)

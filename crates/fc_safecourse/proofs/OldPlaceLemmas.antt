@@ -16,7 +16,7 @@ use Rattle.fc_safecourse.proofs.PlainLemmas.{PlainJob, d, d_in, d_some, few_sect
 abbrev pub one_by_one : List ℕ → List Extent
 one_by_one ss = map (λ (s : ℕ). let e : Extent = record { first = s; sectors = 1 } in e) ss
 
-one_by_one_is : (ss : List ℕ) → sectors_in (one_by_one ss) ≡ ss
+pub one_by_one_is : (ss : List ℕ) → sectors_in (one_by_one ss) ≡ ss
 one_by_one_is [] = refl
 one_by_one_is (s ∷ ss) = ap (λ (xs : List ℕ). s ∷ xs) (one_by_one_is ss)
 

@@ -43,6 +43,7 @@ use Rattle.fc_laws.proofs.lemmas.agree.RoomLemmas.{dir_sector}
 use Rattle.fc_placing.proofs.LeavingLemmas.{from_kept}
 use Rattle.fc_refusals.specs.Targets.{IsTarget}
 use Rattle.fc_refusals.specs.declared.target.Target.{Target}
+use Rattle.fc_change.specs.declared.job.Growth.{Growth}
 use Rattle.fc_change.specs.declared.job.Job.{Job}
 use Rattle.fc_change.specs.declared.job.Wants.{Wants}
 use Rattle.fc_change.specs.Shortage.{bytes_left, slack_for}
@@ -50,7 +51,7 @@ use Rattle.fc_course.proofs.NodeLemmas.{each_at}
 use Rattle.fc_course.proofs.OwnerLemmas.{only_owner, owner_is}
 use Rattle.fc_course.proofs.TargetLemmas as target_of
 use Rattle.fc_safe.specs.declared.needs.Need.{Need}
-use Rattle.fc_safe.specs.FirstNeeds.{Stir, first_needs, need_of, needs_by, stir_of}
+use Rattle.fc_safe.specs.FirstNeeds.{Stir, first_needs, leaving_of, moving_out, need_of, needs_by, stir_of}
 use Rattle.fc_safe.specs.Moving.{IsPlacedOwner}
 use Rattle.fc_safe.specs.Needs.{CanNeed}
 use Rattle.fc_safe.specs.Staying.{changed_ids, end_then, holds_changed, last_end, remains}
@@ -199,6 +200,10 @@ module _ (x : PlainJob) where
 
   abbrev pub leaving : List ℕ
   leaving = option_to_list x.goes ++ []
+
+  -- what goes, since nothing is copied
+  pub leaving_is : leaving_of x.wants None ≡ option_to_list x.goes ++ []
+  leaving_is = ap (λ (out : Option Growth). leaving_of x.wants out) (sym (ap (moving_out x.m h) x.still)) ∙ ap (λ (s : Stir). s.leaving) x.stir
 
   pub id_low : (2 ≤ i) × (i < id_limit g)
   id_low = let o = placed_owner own own_in in (o.id_low, o.id_high)

@@ -31,7 +31,7 @@ use Rattle.fc_change.specs.declared.change.Turned.{Turned}
 use Rattle.fc_change.specs.declared.job.Job.TheVariants as jobs
 use Rattle.fc_change.specs.declared.job.Wants.{Wants}
 use Rattle.fc_change.specs.declared.spaces.Spaces.{Spaces}
-use Rattle.fc_change.specs.After.{AreOwnersAfter, gone_in, owners_admitted}
+use Rattle.fc_change.specs.After.{AreOwnersAfter, owners_admitted}
 use Rattle.fc_change.specs.Directories.{CanTellAround, IsGrownThere}
 use Rattle.fc_change.specs.Drafts.{CanDraft, CanTellJob, address_in}
 use Rattle.fc_change.specs.Needs.{AreWants}
@@ -96,7 +96,7 @@ module _ (space : SafeSpaceLaw) (writing : SafeWritingLaw) (law : SafeDeletionLa
     write = λ w s c spaced is.
         (let x = job_of kind m nodes owners a.root a.listings on own_view t path goes suits name w spaced.wants in
         let ch = removal_change h t name s c (none_grown x s spaced.placed) is in
-        can_write_anew x c (record { said = ch.said; says = ch.says; node = ch.tells.number; goes = ap gone_in ch.goes }));
+        can_write_anew x c (record { said = ch.said; says = ch.says; node = ch.tells.number }));
     zones = λ w s spaced p at. zones (job_of kind m nodes owners a.root a.listings on own_view t path goes suits name w spaced.wants) s spaced.placed p at;
   }
     where

@@ -137,7 +137,7 @@ module _ (kind : Kind) (m : Map) (nodes : Nodes) (owners : List Owner) (root : N
     change = removal_change h t name prep.spaces p.change (none_grown x prep.spaces prep.placed) prep.change
 
     abbrev pub tells : TellsOne x p.change
-    tells = record { said = change.said; says = change.says; node = change.tells.number; goes = ap gone_in change.goes }
+    tells = record { said = change.said; says = change.says; node = change.tells.number }
 
     pub can_write : (n : ℕ) → disc_sectors (Layout.New m) ≤ n → CanWrite n m p.ready
     can_write n room = change_of.can_write x prep.spaces prep.placed p.change tells p.ready prep.ready n room

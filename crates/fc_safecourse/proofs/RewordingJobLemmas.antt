@@ -147,7 +147,7 @@ module _ (space : SafeSpaceLaw) (writing : SafeWritingLaw) (law : SafeRewordingL
     write = λ wants s c spaced is.
         (let x = own_job wants spaced.wants in
         let ch = rewording_change h t w name s c (none_grown x s spaced.placed) is in
-        can_write_anew x c (record { said = ch.said; says = ch.says; node = ch.tells.number; goes = ap gone_in ch.turns }));
+        can_write_anew x c (record { said = ch.said; says = ch.says; node = ch.tells.number }));
     zones = λ wants s spaced p at. zones (own_job wants spaced.wants) s spaced.placed p at;
   }
     where

@@ -56,7 +56,7 @@ use Rattle.fc_edits.specs.NewNodes as edited
 use Rattle.fc_edits.specs.Rewording.{IsReworded, Rewording, edit}
 use Rattle.fc_outcomes.specs.Rewording.{HasReworded}
 use Rattle.fc_refusals.specs.Targets.{IsTarget}
-use Rattle.fc_change.specs.After.{gone_in, nodes_after}
+use Rattle.fc_change.specs.After.{nodes_after}
 use Rattle.fc_change.specs.Directories.{Rewriting, Tells}
 use Rattle.fc_change.specs.Jobs.{IsJob}
 use Rattle.fc_course.proofs.RewordingLemmas.{Fit, Gives, Wording, job_of as job_by, worded}
@@ -150,7 +150,7 @@ module _ (kind : Kind) (m : Map) (nodes : Nodes) (owners : List Owner) (root : N
     change = rewording_change h t w name prep.spaces p.change (none_grown x prep.spaces prep.placed) prep.change
 
     abbrev pub tells : TellsOne x p.change
-    tells = record { said = change.said; says = change.says; node = change.tells.number; goes = ap gone_in change.turns }
+    tells = record { said = change.said; says = change.says; node = change.tells.number }
 
     pub can_write : (n : ℕ) → disc_sectors (Layout.New m) ≤ n → CanWrite n m p.ready
     can_write n room = change_of.can_write x prep.spaces prep.placed p.change tells p.ready prep.ready n room

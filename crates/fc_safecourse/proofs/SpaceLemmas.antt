@@ -1,5 +1,5 @@
 -- The space of a job that needs no new object: one plan, for the identifier of the directory that is rewritten, and one step of the map.
-use Rattle.std.proofs.Common.{◌≡◌, ◌^◌, append-nil, get_or, ◌<◌, ◌≤◌, ◌&&◌, ◌||◌, inr, ℕ, zero, suc, Bool, true, false, not, cond, List, [], ◌∷◌, filter, length, map, refl, sym, ap, ap₂, subst, ◌∙◌, arith, eq-eqb, Option, Some, None}
+use Rattle.std.proofs.Common.{◌≡◌, ◌^◌, ◌==◌, append-nil, get_or, ◌<◌, ◌≤◌, ◌&&◌, ◌||◌, inr, ℕ, zero, suc, Bool, true, false, not, cond, List, [], ◌∷◌, filter, length, map, refl, sym, ap, ap₂, subst, ◌∙◌, arith, eq-eqb, Option, Some, None}
 use Rattle.std.specs.Prelude.{All, Contains, IfSome, IsPermutation, IsSome, is_none, is_some, nat_lt}
 use Rattle.std.specs.List.{find}
 use Rattle.std.specs.List.Sorted.{IsStrictlyIncreasing}
@@ -37,8 +37,10 @@ use Rattle.fc_edits.specs.NewNodes.{AreDistinct}
 use Rattle.fc_edits.specs.NewPlaces.{IsSpaceChange}
 use Rattle.fc_change.specs.declared.job.Growth.{Growth}
 use Rattle.fc_change.specs.declared.spaces.GrownPlace.{GrownPlace}
+use Rattle.fc_change.specs.declared.spaces.Place.{Place}
 use Rattle.fc_change.specs.declared.spaces.Spaces.{Spaces}
 use Rattle.fc_change.specs.GrownSpace.{root_of}
+use Rattle.fc_change.specs.Places.{IsPlaceFor}
 use Rattle.fc_change.proofs.LeadsLemmas.{IsPlaceable}
 use Rattle.fc_safe.specs.declared.needs.Need.{Need}
 use Rattle.fc_safe.specs.FirstNeeds.{first_gone}
@@ -123,6 +125,18 @@ module _ (x : PlainJob) (s : Spaces) (placed : ArePlacedFirst x.m (h x) x.job x.
 
   pub none_grown : s.grown ≡ None
   none_grown = subst (λ (o : Option Growth). IsGrownFirst x.m (h x) o placed.plans s.grown) x.still placed.grown
+
+  -- Nothing comes, so that nothing has a place.
+  pub no_object : s.object ≡ None
+  no_object = by s.object placed.object
+    where
+      by : (o : Option Place) → IsPlaceFor x.m x.wants placed.placing o → o ≡ None
+      by None at = refl
+      by (Some p) at = absurd (
+          let bytes = x.no_bytes in
+          let shares = ap is_none x.no_share in
+          let none : (x.wants.bytes == 0 && is_none x.wants.shares) ≡ true = ap₂ (λ (a b : Bool). a && b) (eq-eqb x.wants.bytes 0 bytes) shares in
+          let some : (x.wants.bytes == 0 && is_none x.wants.shares) ≡ false = at.2 in cc)
 
   pub step : (st : SpaceStep) × (s.take ≡ steps.New st) × IsFirstStep x.m placed.plans gone None st
   step = by s.take (subst (λ (o : Option GrownPlace). IsStepFirst x.m placed.plans gone (root_of o) s.take) none_grown placed.take)

@@ -51,10 +51,10 @@ module _ (x : PlainJob) where
       let number : o.node ≡ has.number = ap (λ (w : Owner). w.node) (sym p.3) ∙ ap (λ (k : Option ℕ). unwrap_or k 0) has.at_path in
       record { node = _; there = ap (get x.nodes) number ∙ has.is; placed = ap is_some (each_at (y x) x.listings (sound x) p.0 p.1) }
 
-  pub can_place : x.wants.copied ≡ None → CanPlaceFirst x.m (h x) x.wants
+  pub can_place : x.wants.copied ≡ None → CanPlaceFirst x.m (h x) x.job x.wants
   can_place no_copy = record {
     few = subst (λ (n : ℕ). n < 2 ^ 32) (sym x.no_bytes) (omega arith);
-    still = x.still;
+    grows = λ g e. absurd (let none = sym x.still ∙ e in cc);
     copied = λ n some. absurd (let no = sym no_copy ∙ some in cc);
     placed = λ o at. subst (λ (growth : Option Growth). IsPlacedOwner x.m.geometry (longer_of x.m.geometry growth) o) (sym x.still) (placed_owner x o at);
   }
@@ -93,7 +93,7 @@ module _ (x : PlainJob) where
           map = chooses_first x.m.geometry m'.zones image' changed.copies;
         }
 
-    module _ (s : Spaces) (placed : ArePlacedFirst x.m (h x) x.job x.wants s) (c : Change) (tells : written.TellsOne x c) (r : Ready) (is : IsReadyAnew x.m (h x) c s r) (m' : Map) (taken : IsTaken x.m r m')
+    module _ (s : Spaces) (placed : ArePlacedFirst x.m (h x) x.job x.wants s) (c : Change) (tells : written.TellsOne x c) (r : Ready) (is : IsReadyAnew x.m (h x) x.wants c s r) (m' : Map) (taken : IsTaken x.m r m')
         (space : SafeSpaceLaw) (writing : SafeWritingLaw) (nodes' : Nodes) (owners' : List Owner) (bytes image' : List ℕ) (there : IsThere (mapped x.m by) r bytes m' image') where
       abbrev pub moved : MovedParts
       moved = change_of.moved x s placed c tells r is m' taken space nodes' owners'

@@ -1,37 +1,37 @@
 -- A change of the safe mode, ready to be written: each directory that says something is written into the new runs of its identifier, and what
--- else stays in that identifier is copied there.
-use Rattle.std.specs.Prelude.{◌≡◌, ℕ, ◌==◌, ◌&&◌, not, Bool, false, List, [], ◌∷◌, filter, drop, take, Option, Some, None, Contains, IsSome}
+-- else stays in that identifier is copied there. A new object is written into its place.
+use Rattle.std.specs.Prelude.{◌≡◌, ℕ, ◌==◌, ◌&&◌, not, Bool, true, false, List, [], ◌∷◌, ◌++◌, filter, drop, take, Option, Some, None, Contains, IsSome}
 use Rattle.std.specs.FinMap.{get}
 use Rattle.std.specs.List.{find, list_any}
 use Rattle.std.specs.Option.{option_map_or}
 use Rattle.fc_alloc.specs.declared.owner.Owner.{Owner}
 use Rattle.fc_alloc.specs.Owners.{is_node}
+use Rattle.fc_device.specs.declared.disk.Extent.{Extent}
 use Rattle.fc_newmap.specs.Map.{Map}
 use Rattle.fc_image.specs.Layout.{Layout, dir_form, sectors_at}
 use Rattle.fc_image.specs.Walk.{object_size}
 use Rattle.fc_objects.specs.Extents.{sectors_in}
 use Rattle.fc_plan.specs.declared.plan.Plan.{Plan}
+use Rattle.fc_plan.specs.Giving.{is_one_of}
 use Rattle.fc_tree.specs.Parts.{Parts}
 use Rattle.fc_tree.specs.declared.node.Node.{Node}
 use Rattle.fc_writing.specs.declared.ready.MapStep.{MapStep}
 use Rattle.fc_writing.specs.declared.ready.MapStep.TheVariants as steps
 use Rattle.fc_writing.specs.declared.ready.Piece.{Piece}
 use Rattle.fc_writing.specs.declared.ready.Ready.{Ready}
-use Rattle.fc_writing.specs.declared.ready.Source.TheVariants as sources
 use Rattle.fc_writing.specs.declared.ready.Transfer.{Transfer}
-use Rattle.fc_change.specs.After.{gone_in}
 use Rattle.fc_change.specs.declared.change.Change.{Change}
 use Rattle.fc_change.specs.declared.change.Says.{Says}
-use Rattle.fc_change.specs.declared.change.Turned.{Turned}
 use Rattle.fc_change.specs.declared.job.Job.{Job}
 use Rattle.fc_change.specs.declared.job.Wants.{Wants}
+use Rattle.fc_change.specs.declared.spaces.GrownPlace.{GrownPlace}
 use Rattle.fc_change.specs.declared.spaces.Spaces.{Spaces}
 use Rattle.fc_change.specs.Drafts.{IsChangeOf}
 use Rattle.fc_change.specs.GrownSpace.{plan_sectors}
 use Rattle.fc_change.specs.Needs.{AreWants}
-use Rattle.fc_change.specs.Prepared.{HasPlace, IsDrafted}
+use Rattle.fc_change.specs.Prepared.{HasPlace, IsDrafted, IsNewPiece, IsSourceOf}
 use Rattle.fc_course.specs.declared.stages.Prepared.{Prepared}
-use Rattle.fc_safe.specs.FirstNeeds.{first_shortage}
+use Rattle.fc_safe.specs.FirstNeeds.{first_shortage, leaving_of}
 use Rattle.fc_safe.specs.FirstSpace.{ArePlacedFirst}
 
 -- ---- where an owner lies then
@@ -53,25 +53,36 @@ pub record IsPieceAnew (m : Map) (h : Parts) (plans : List Plan) (s : Says) (p :
   pub place : sectors_in p.place.items ≡ laid_by m plans own
   pub drafted : IsDrafted s.draft p
 
-abbrev pub PiecesAnew : Map → Parts → List Plan → List Says → List Piece → Type 0
-PiecesAnew m h plans [] [] = Unit {0}
-PiecesAnew m h plans (s ∷ says) (p ∷ pieces) = IsPieceAnew m h plans s p × PiecesAnew m h plans says pieces
-PiecesAnew m h plans _ _ = ⊥
+-- that of the one that grows to all its sectors then
+abbrev pub IsPieceIn : (grows : Bool) → Map → Parts → List Plan → List Extent → Says → Piece → Type 0
+IsPieceIn true m h plans extents s p = (p.place.items ≡ extents) × IsDrafted s.draft p
+IsPieceIn false m h plans extents s p = IsPieceAnew m h plans s p
+
+abbrev pub IsEarlyPiece : Map → Parts → List Plan → Option GrownPlace → Says → Piece → Type 0
+IsEarlyPiece m h plans None s p = IsPieceAnew m h plans s p
+IsEarlyPiece m h plans (Some g) s p = IsPieceIn (g.directory.node == s.node) m h plans g.extents.items s p
+
+abbrev pub PiecesAnew : Map → Parts → List Plan → Option GrownPlace → List Says → List Piece → Type 0
+PiecesAnew m h plans grown [] [] = Unit {0}
+PiecesAnew m h plans grown (s ∷ says) (p ∷ pieces) = IsEarlyPiece m h plans grown s p × PiecesAnew m h plans grown says pieces
+PiecesAnew m h plans grown _ _ = ⊥
 
 -- ---- what is copied there
 
--- The owner's identifier gets new runs, and the owner stays in it and says nothing else.
+-- The owner's identifier gets new runs, and the owner stays in it and says nothing else. A directory that grows out of its identifier says
+-- something.
 abbrev pub has_plan : List Plan → ℕ → Bool
 has_plan plans id = list_any (λ (p : Plan). p.id == id) plans
 
 abbrev pub is_said : List Says → ℕ → Bool
 is_said says n = list_any (λ (s : Says). s.node == n) says
 
-abbrev pub is_gone : Turned → ℕ → Bool
-is_gone object n = option_map_or (λ (k : ℕ). k == n) (gone_in object) false
+-- The object goes, or is copied elsewhere.
+abbrev pub is_leaving : Wants → ℕ → Bool
+is_leaving w n = is_one_of (leaving_of w None) n
 
-abbrev pub is_taken_along : List Plan → Change → Owner → Bool
-is_taken_along plans c o = has_plan plans o.id && (not (is_said c.says.items o.node) && not (is_gone c.object o.node))
+abbrev pub is_taken_along : List Plan → Wants → Change → Owner → Bool
+is_taken_along plans w c o = has_plan plans o.id && (not (is_said c.says.items o.node) && not (is_leaving w o.node))
 
 -- Its sectors are copied one for one.
 pub record IsTakenAlong (m : Map) (h : Parts) (plans : List Plan) (o : Owner) (t : Transfer) : Type 0 where
@@ -92,11 +103,19 @@ plans_in (steps.New s) = s.plans.items
 plans_in (steps.Old space) = []
 plans_in steps.Nothing = []
 
--- All directories and all that is taken along come early; one step follows, and nothing is late.
-pub record IsReadyAnew (m : Map) (h : Parts) (c : Change) (s : Spaces) (r : Ready) : Type 0 where
-  pub no_source : r.source ≡ sources.Nothing
-  pub early : PiecesAnew m h (plans_in s.take) c.says.items r.early.items
-  pub carried : AreTakenAlong m h (plans_in s.take) (filter (is_taken_along (plans_in s.take) c) h.owners) r.carried.items
+-- The pieces of all directories: of those that say something, and then of a new one.
+pub record AreEarly (m : Map) (h : Parts) (c : Change) (s : Spaces) (ps : List Piece) : Type 0 where
+  pub told : List Piece
+  pub made : List Piece
+  pub tells : PiecesAnew m h (plans_in s.take) s.grown c.says.items told
+  pub makes : IsNewPiece c.object s.object made
+  pub all : ps ≡ told ++ made
+
+-- The object has its source. All directories come early, and so does all that is taken along; one step follows, and nothing is late.
+pub record IsReadyAnew (m : Map) (h : Parts) (w : Wants) (c : Change) (s : Spaces) (r : Ready) : Type 0 where
+  pub source : IsSourceOf c.object s.object s.copied r.source
+  pub early : AreEarly m h c s r.early.items
+  pub carried : AreTakenAlong m h (plans_in s.take) (filter (is_taken_along (plans_in s.take) w c) h.owners) r.carried.items
   pub no_late : r.late.items ≡ []
   pub take : r.take ≡ s.take
   pub no_give : r.give ≡ steps.Nothing
@@ -118,4 +137,4 @@ pub record IsPreparedAnew (m : Map) (h : Parts) (job : Job) (name : List ℕ) (p
   pub placed : ArePlacedFirst m h job wants spaces
   pub enough : first_shortage m h job wants ≡ None
   pub change : IsChangeOf h job name spaces p.change
-  pub ready : IsReadyAnew m h p.change spaces p.ready
+  pub ready : IsReadyAnew m h wants p.change spaces p.ready

@@ -1,5 +1,5 @@
 -- What has to be proved of a job for its course in the safe mode. Whatever follows from these is proved once.
-use Rattle.std.specs.Prelude.{◌≡◌, ◌≤◌, ℕ, List, Some}
+use Rattle.std.specs.Prelude.{◌≡◌, ◌≤◌, ℕ, List, Some, None}
 use Rattle.fc_names.specs.declared.refusal.Refusal.TheVariants as refusals
 use Rattle.fc_drafts.specs.declared.room.Room.TheVariants as rooms
 use Rattle.fc_record.specs.declared.DiscRecord.{DiscRecord}
@@ -22,12 +22,12 @@ use Rattle.fc_change.specs.After.{CanTakeOver, nodes_more, owners_admitted}
 use Rattle.fc_change.specs.declared.job.Job.{Job}
 use Rattle.fc_change.specs.declared.job.Wants.{Wants}
 use Rattle.fc_change.specs.Needs.{AreWants, HasRoomOf}
+use Rattle.fc_holdings.specs.Holdings.{TellsVersion}
 use Rattle.fc_course.specs.declared.stages.Prepared.{Prepared}
 use Rattle.fc_course.specs.Jobs.{HasLaws, IsJobFor, IsJudged}
 use Rattle.fc_course.specs.Run.{IsRun}
 use Rattle.fc_safe.specs.FirstNeeds.{first_shortage}
 use Rattle.fc_safe.specs.Suits.{Suits}
-use Rattle.fc_safe.specs.Views.{IsPlain}
 use Rattle.fc_safelaws.specs.Free.{MappedImage, view}
 use Rattle.fc_safecrash.specs.Crash.{LeadsTo}
 use Rattle.fc_safecourse.specs.Anew.{IsPreparedAnew}
@@ -67,10 +67,7 @@ pub record SafeJobLaws (kind : Kind) (m : Map) (h : Parts) (job : Job) (name byt
   pub full : (c : Command) (v : Opened) → IsJobFor c h job name bytes → HasRoomOf h.nodes job name rooms.Full → AreSound v.layout v.listings → ArePartsOf h v
       → safe_refusal v c ≡ Some (SafeRefusal.Refused refusals.DirFull)
 
--- The laws of these jobs stand in the safe mode, if an entry can hold what they give: `delete`, `set` and `mark`.
-abbrev pub HasSafeLaws : Parts → Job → List ℕ → Type 0
-HasSafeLaws h job name = IsPlain job × HasLaws h job name
-
+-- They hold of every job whose entry can hold what it gives.
 abbrev pub SafeCourseLaw : Type 0
-SafeCourseLaw = (kind : Kind) (m : Map) (h : Parts) (job : Job) (name bytes : List ℕ) → HasSafeLaws h job name → IsNewMap m → h.layout ≡ Layout.New m → Suits h.layout h.nodes → Agree kind h
+SafeCourseLaw = (kind : Kind) (m : Map) (h : Parts) (job : Job) (name bytes : List ℕ) → HasLaws h job name → IsNewMap m → TellsVersion (Layout.New m) → h.layout ≡ Layout.New m → Suits h.layout h.nodes → Agree kind h
     → IsJudged h job name bytes → SafeJobLaws kind m h job name bytes

@@ -26,7 +26,7 @@ pub record IsSpacedFirst (m : Map) (h : Parts) (job : Job) (name : List ℕ) (w 
 -- Each stage can follow on the one before.
 pub record CanPrepareAnew (m : Map) (h : Parts) (job : Job) (name : List ℕ) : Type 0 where
   pub want : CanWant h.nodes job
-  pub place : (w : Wants) → AreWants h job name w → CanPlaceFirst m h w
+  pub place : (w : Wants) → AreWants h job name w → CanPlaceFirst m h job w
   pub draft : (w : Wants) (s : Spaces) → IsSpacedFirst m h job name w s → CanDraft h job name s
   pub placed : (w : Wants) (s : Spaces) → IsSpacedFirst m h job name w s → IsPlaced job (address_in s)
   pub write : (w : Wants) (s : Spaces) (c : Change) → IsSpacedFirst m h job name w s → IsChangeOf h job name s c → CanWriteAnew h c

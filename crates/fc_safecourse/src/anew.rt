@@ -1,7 +1,6 @@
 // A change, made ready to be written into new runs of the identifiers that it touches.
-ghost use Rattle.std.specs.Prelude.{◌≡◌, ◌++◌, ◌∷◌, [], List, Contains, IfOk, IsSome, OnOk, filter, if◌then◌else◌};
+ghost use Rattle.std.specs.Prelude.{◌≡◌, ◌++◌, Contains, IfOk, IsSome, OnOk, filter};
 ghost use Rattle.std.specs.List.{find};
-ghost use Rattle.fc_alloc.specs.declared.owner.Owner.{Owner};
 ghost use Rattle.fc_alloc.specs.Owners.{is_node};
 ghost use Rattle.fc_image.specs.Layout.{Layout};
 ghost use Rattle.fc_objects.specs.Extents.{sectors_in};
@@ -10,12 +9,12 @@ ghost use Rattle.fc_space.specs.Space.{layout_of};
 ghost use Rattle.fc_change.specs.Held.{parts_of};
 ghost use Rattle.fc_change.specs.Prepared.{HasPlace};
 ghost use Rattle.fc_safe.specs.FirstSpace.{LiesInZones};
-ghost use Rattle.fc_safecourse.specs.Anew.{AreTakenAlong, CanWriteAnew, IsPieceAnew, IsReadyAnew, IsTakenAlong, PiecesAnew, has_plan, is_gone, is_said, is_taken_along, laid_by, plans_in};
+ghost use Rattle.fc_safecourse.specs.Anew.{AreEarly, AreTakenAlong, CanWriteAnew, IsEarlyPiece, IsPieceAnew, IsReadyAnew, IsTakenAlong, PiecesAnew, has_plan, is_leaving, is_said, is_taken_along, laid_by, plans_in};
 
 use fc_alloc::Owner;
 use fc_change::{
-    Change, Held, MapStep, Piece, Ready, Says, Source, Spaces, Transfer, Turned, piece_of,
-    place_of_node,
+    Change, GrownPlace, Held, MapStep, Piece, Ready, Says, Spaces, Transfer, Wants, new_pieces,
+    piece_of, place_of_node, source_of,
 };
 use fc_device::{Extent, NoMemory};
 use fc_newmap::NewMap;
@@ -67,23 +66,84 @@ fn piece_anew(
     piece_of(alloc, &said.draft, place)
 }
 
+// Extents with memory of their own.
+fn copy_of(alloc: Global, extents: &[Extent]) -> Result<Vec<Extent>, NoMemory>
+    ensures { IfOk result (λ copy. copy.items ≡ extents.now) }
+{
+    let mut copy = Vec::new(alloc);
+    copy.extend_from_slice(extents)?;
+    Ok(copy)
+}
+
+// The bytes of a directory's draft, for all its sectors then.
+fn early_piece(
+    alloc: Global,
+    held: &Held,
+    map: &NewMap,
+    plans: &[Plan],
+    grown: &Option<GrownPlace>,
+    said: &Says,
+) -> Result<Piece, NoMemory>
+    requires zones { (p : Plan) → Contains plans.now p → LiesInZones map.now p }
+    requires own { IsSome (find (is_node said.now.node) held.now.owners.now) }
+    ensures { IfOk result (IsEarlyPiece map.now (parts_of held.now) plans.now grown.now said.now) }
+{
+    let Some(g) = grown else {
+        return piece_anew(alloc, held, map, plans, said);
+    };
+    if g.directory.node != said.node {
+        return piece_anew(alloc, held, map, plans, said);
+    }
+    piece_of(alloc, &said.draft, copy_of(alloc, &g.extents)?)
+}
+
 // The same of each.
 fn pieces_anew(
     alloc: Global,
     held: &Held,
     map: &NewMap,
     plans: &[Plan],
+    grown: &Option<GrownPlace>,
     change: &Change,
 ) -> Result<Vec<Piece>, NoMemory>
     requires zones { (p : Plan) → Contains plans.now p → LiesInZones map.now p }
     requires can { CanWriteAnew (parts_of held.now) change.now }
-    ensures { IfOk result (λ pieces. PiecesAnew map.now (parts_of held.now) plans.now change.now.says.items pieces.items) }
+    ensures { IfOk result (λ pieces. PiecesAnew map.now (parts_of held.now) plans.now grown.now change.now.says.items pieces.items) }
 {
     let mut pieces = Vec::new(alloc);
     for said in &change.says {
-        let piece = piece_anew(alloc, held, map, plans, said)?;
+        let piece = early_piece(alloc, held, map, plans, grown, said)?;
         push(&mut pieces, piece)?;
     }
+    Ok(pieces)
+}
+
+// Puts pieces after the others, in their order.
+fn append(pieces: &mut Vec<Piece>, more: Vec<Piece>) -> Result<(), NoMemory>
+    ensures { OnOk result (pieces.new.items ≡ pieces.old.items ++ more.items) }
+{
+    for piece in more {
+        push(pieces, piece)?;
+    }
+    Ok(())
+}
+
+// All pieces: those of the directories that say something, and that of a new one.
+fn early_pieces(
+    alloc: Global,
+    held: &Held,
+    map: &NewMap,
+    change: &Change,
+    spaces: &Spaces,
+) -> Result<Vec<Piece>, NoMemory>
+    requires zones { (p : Plan) → Contains (plans_in spaces.now.take) p → LiesInZones map.now p }
+    requires can { CanWriteAnew (parts_of held.now) change.now }
+    ensures { IfOk result (λ pieces. AreEarly map.now (parts_of held.now) change.now spaces.now pieces.items) }
+{
+    let plans = plans_in(&spaces.take);
+    let mut pieces = pieces_anew(alloc, held, map, plans, &spaces.grown, change)?;
+    let made = new_pieces(alloc, &change.object, &spaces.object)?;
+    append(&mut pieces, made)?;
     Ok(pieces)
 }
 
@@ -96,24 +156,18 @@ fn is_said(says: &[Says], n: u64) -> bool
     says.iter().any(|said| said.node == n)
 }
 
-// Whether the object of a node goes.
-fn is_gone(object: &Turned, n: u64) -> bool
-    ensures { result ≡ is_gone object.now n }
+// Whether the object of a node leaves its identifier: it goes, or it is copied elsewhere.
+fn is_leaving(wants: &Wants, n: u64) -> bool
+    ensures { result ≡ is_leaving wants.now n }
 {
-    match object {
-        Turned::Goes(gone) => *gone == n,
-        Turned::Comes(_, _, _) => false,
-        Turned::Turns(_, _, _) => false,
-    }
+    wants.goes == Some(n) || wants.copied == Some(n)
 }
 
 // Whether an owner is taken along.
-fn is_taken_along(plans: &[Plan], change: &Change, own: &Owner) -> bool
-    ensures { result ≡ is_taken_along plans.now change.now own.now }
+fn is_taken_along(plans: &[Plan], wants: &Wants, change: &Change, own: &Owner) -> bool
+    ensures { result ≡ is_taken_along plans.now wants.now change.now own.now }
 {
-    has_plan(plans, own.id)
-        && !is_said(&change.says, own.node)
-        && !is_gone(&change.object, own.node)
+    has_plan(plans, own.id) && !is_said(&change.says, own.node) && !is_leaving(wants, own.node)
 }
 
 // An owner's sectors, for its new ones.
@@ -134,46 +188,26 @@ fn taken_along(
     Ok(Transfer { from, to })
 }
 
-// Adds those of an owner, if it is taken along.
-fn push_along(
-    alloc: Global,
-    held: &Held,
-    map: &NewMap,
-    plans: &[Plan],
-    change: &Change,
-    own: &Owner,
-    transfers: &mut Vec<Transfer>,
-) -> Result<(), NoMemory>
-    requires map { layout_of held.now.places.now ≡ Layout.New map.now }
-    requires zones { (p : Plan) → Contains plans.now p → LiesInZones map.now p }
-    requires placed { HasPlace (parts_of held.now) own.now.node }
-    ensures { OnOk result ((done : List Owner) → AreTakenAlong map.now (parts_of held.now) plans.now done transfers.old.items
-        → AreTakenAlong map.now (parts_of held.now) plans.now (done ++ (if is_taken_along plans.now change.now own.now then own.now ∷ [] else [])) transfers.new.items) }
-{
-    if !is_taken_along(plans, change, own) {
-        return Ok(());
-    }
-    let transfer = taken_along(alloc, held, map, plans, own)?;
-    push(transfers, transfer)?;
-    Ok(())
-}
-
 // Those of all owners that are taken along.
 fn all_taken_along(
     alloc: Global,
     held: &Held,
     map: &NewMap,
     plans: &[Plan],
+    wants: &Wants,
     change: &Change,
 ) -> Result<Vec<Transfer>, NoMemory>
     requires map { layout_of held.now.places.now ≡ Layout.New map.now }
     requires zones { (p : Plan) → Contains plans.now p → LiesInZones map.now p }
     requires can { CanWriteAnew (parts_of held.now) change.now }
-    ensures { IfOk result (λ transfers. AreTakenAlong map.now (parts_of held.now) plans.now (filter (is_taken_along plans.now change.now) held.now.owners.now) transfers.items) }
+    ensures { IfOk result (λ transfers. AreTakenAlong map.now (parts_of held.now) plans.now (filter (is_taken_along plans.now wants.now change.now) held.now.owners.now) transfers.items) }
 {
     let mut transfers = Vec::new(alloc);
     for own in held.owners.list() {
-        push_along(alloc, held, map, plans, change, own, &mut transfers)?;
+        if is_taken_along(plans, wants, change, own) {
+            let transfer = taken_along(alloc, held, map, plans, own)?;
+            push(&mut transfers, transfer)?;
+        }
     }
     Ok(transfers)
 }
@@ -191,25 +225,31 @@ fn plans_in(take: &MapStep) -> &[Plan]
     }
 }
 
-/// Makes a change that needs no new object ready to be written: everything early, and one step of the map.
+/// Makes a change ready to be written: everything early, and one step of the map.
 pub fn prepare_anew(
     alloc: Global,
     held: &Held,
     map: &NewMap,
+    wants: &Wants,
     change: &Change,
     spaces: Spaces,
 ) -> Result<Ready, NoMemory>
     requires map { layout_of held.now.places.now ≡ Layout.New map.now }
     requires zones { (p : Plan) → Contains (plans_in spaces.take) p → LiesInZones map.now p }
     requires can { CanWriteAnew (parts_of held.now) change.now }
-    ensures { IfOk result (IsReadyAnew map.now (parts_of held.now) change.now spaces) }
+    ensures { IfOk result (IsReadyAnew map.now (parts_of held.now) wants.now change.now spaces) }
 {
+    let early = early_pieces(alloc, held, map, change, &spaces)?;
     let plans = plans_in(&spaces.take);
-    let early = pieces_anew(alloc, held, map, plans, change)?;
-    let carried = all_taken_along(alloc, held, map, plans, change)?;
-    let Spaces { take, .. } = spaces;
+    let carried = all_taken_along(alloc, held, map, plans, wants, change)?;
+    let Spaces {
+        object,
+        copied,
+        take,
+        ..
+    } = spaces;
     Ok(Ready {
-        source: Source::Nothing,
+        source: source_of(&change.object, object, copied),
         carried,
         early,
         late: Vec::new(alloc),

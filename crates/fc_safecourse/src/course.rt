@@ -7,12 +7,11 @@ ghost use Rattle.fc_newmap.specs.Map.{Map};
 ghost use Rattle.fc_space.specs.Space.{layout_of};
 ghost use Rattle.fc_change.specs.Held.{parts_of as held_parts};
 ghost use Rattle.fc_holdings.specs.Holdings.{Stands, parts_of};
-ghost use Rattle.fc_course.specs.Jobs.{IsJobFor, IsJudged};
+ghost use Rattle.fc_course.specs.Jobs.{HasLaws, IsJobFor, IsJudged};
 ghost use Rattle.fc_course.specs.Stages.{IsAdmitted};
 ghost use Rattle.fc_safe.specs.Suits.{Suits};
 ghost use Rattle.fc_safecourse.specs.Anew.{IsPreparedAnew};
 ghost use Rattle.fc_safecourse.specs.Answers.{AnswersSafeOver};
-ghost use Rattle.fc_safecourse.specs.Laws.{HasSafeLaws};
 ghost use Rattle.fc_safecourse.specs.Stages.{CanPrepareAnew, RefusesAnew};
 ghost use Rattle.fc_safecourse.specs.Promises.{HasChangedSafely, LeavesTree, SafeKeeps, WritesFreeOf};
 
@@ -47,7 +46,7 @@ fn prepare_job(
     };
     let spaces = place_first(alloc, held, map, job, &wanted)?;
     let change = draft(alloc, held, *job, name, &spaces)?;
-    let ready = prepare_anew(alloc, held, map, &change, spaces)?;
+    let ready = prepare_anew(alloc, held, map, &wanted, &change, spaces)?;
     Ok(Prepared { change, ready })
 }
 
@@ -105,7 +104,7 @@ pub fn transact<D: Disk>(
     requires stands { Stands D.Disk holdings.old disk.old }
     requires suits { Suits (parts_of holdings.old).layout (parts_of holdings.old).nodes }
     requires judged { IsJudged (parts_of holdings.old) job.now name.now bytes.now }
-    requires covered { HasSafeLaws (parts_of holdings.old) job.now name.now }
+    requires covered { HasLaws (parts_of holdings.old) job.now name.now }
     ensures refused { (c : Command) → IsJobFor c (parts_of holdings.old) job.now name.now bytes.now → AnswersSafeOver c (parts_of holdings.old) result }
     ensures changed { OnOk result ((c : Command) → IsJobFor c (parts_of holdings.old) job.now name.now bytes.now
         → HasChangedSafely D.Disk c (parts_of holdings.old) (parts_of holdings.new) disk.old disk.new) }

@@ -4,4 +4,4 @@ use Rattle.fc_safecourse.specs.Anew.{PiecesAnew}
 use Rattle.fc_safecourse.proofs.anew.pieces_anew.Given as goal
 
 abbrev pub invariant-loop-said : goal.invariant-loop-said
-invariant-loop-said l = PiecesAnew l.map (parts_of l.held) l.plans (take l.said-index l.change.says.items) l.pieces.items
+invariant-loop-said l = PiecesAnew l.map (parts_of l.held) l.plans l.grown (take l.said-index l.change.says.items) l.pieces.items

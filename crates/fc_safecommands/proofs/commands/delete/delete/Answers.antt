@@ -1,17 +1,9 @@
-use Rattle.std.proofs.Common.{[]}
 use Rattle.fc_model.specs.Command.{Command}
-use Rattle.fc_holdings.specs.Holdings.{parts_of}
 use Rattle.fc_commands.proofs.JudgmentLemmas.{ok_then}
-use Rattle.fc_safecommands.proofs.JudgmentLemmas.{deletes_plain, with_laws}
 use Rattle.fc_safecommands.proofs.commands.delete.delete.Goals as goal
 
 pub carry_out-requires-clause-judged : goal.carry_out-requires-clause-judged
 carry_out-requires-clause-judged g c = (Command.Delete c.args.path.now, c.args.read_only, c.delete_job-judged.ensures.judged)
-
-pub carry_out-requires-clause-covered : goal.carry_out-requires-clause-covered
-carry_out-requires-clause-covered g c =
-    with_laws c.args.read_only (Command.Delete c.args.path.now) (parts_of c.args.holdings.now) [] c.delete_job-judged.result
-    (deletes_plain (parts_of c.args.holdings.now) c.requires.stands.agree.0 c.requires.stands.agree.1 c.args.path.now) c.delete_job-judged.ensures.judged c.delete_job-judged.ensures.covered
 
 pub returns-clause-refused : goal.returns-clause-refused
 returns-clause-refused g c = c.carry_out.ensures.refused (Command.Delete c.args.path.now) c.args.read_only c.delete_job-judged.ensures.judged

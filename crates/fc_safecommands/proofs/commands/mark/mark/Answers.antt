@@ -1,8 +1,7 @@
-use Rattle.std.proofs.Common.{[]}
 use Rattle.fc_model.specs.Command.{Command}
 use Rattle.fc_holdings.specs.Holdings.{parts_of}
 use Rattle.fc_commands.proofs.JudgmentLemmas.{ok_then}
-use Rattle.fc_safecommands.proofs.JudgmentLemmas.{fit_any, marks_plain, with_laws}
+use Rattle.fc_safecommands.proofs.JudgmentLemmas.{fit_any}
 use Rattle.fc_safecommands.proofs.commands.mark.mark.Goals as goal
 
 pub mark_job-judged-requires : goal.mark_job-judged-requires
@@ -10,11 +9,6 @@ mark_job-judged-requires g c = let h = parts_of c.args.holdings.now in fit_any h
 
 pub carry_out-requires-clause-judged : goal.carry_out-requires-clause-judged
 carry_out-requires-clause-judged g c = (Command.Mark c.args.path.now c.args.attrs, c.args.read_only, c.mark_job-judged.ensures.judged)
-
-pub carry_out-requires-clause-covered : goal.carry_out-requires-clause-covered
-carry_out-requires-clause-covered g c =
-    with_laws c.args.read_only (Command.Mark c.args.path.now c.args.attrs) (parts_of c.args.holdings.now) [] c.mark_job-judged.result
-    (marks_plain (parts_of c.args.holdings.now) c.requires.stands.agree.0 c.requires.stands.agree.1 c.args.path.now c.args.attrs) c.mark_job-judged.ensures.judged c.mark_job-judged.ensures.covered
 
 pub returns-clause-refused : goal.returns-clause-refused
 returns-clause-refused g c = c.carry_out.ensures.refused (Command.Mark c.args.path.now c.args.attrs) c.args.read_only c.mark_job-judged.ensures.judged

@@ -1,0 +1,45 @@
+// `rename` in the safe mode.
+ghost use Rattle.std.specs.Prelude.{IsFalse, IsTrue, OnOk};
+ghost use Rattle.fc_device.specs.Calls.{StopsAndExitsLeave};
+ghost use Rattle.fc_model.specs.Command.{Command};
+ghost use Rattle.fc_holdings.specs.Holdings.{Stands, parts_of};
+ghost use Rattle.fc_safe.specs.Suits.{Suits};
+ghost use Rattle.fc_safecourse.specs.Promises.{HasChangedSafely, LeavesTree, SafeKeeps, WritesFreeOf};
+ghost use Rattle.fc_safecommands.specs.Answers.{AnswersSafelyOver};
+
+use crate::judged::carry_out;
+use fc_commands::rename_job;
+use fc_device::Disk;
+use fc_names::Path;
+use fc_safecourse::{Holdings, SafeError};
+use std::alloc::Global;
+
+/// Gives an object another name, another directory, or both, whole or not at all: at any moment, a crash or an I/O error, the disc has the
+/// tree before the command or the tree after it. The directories whose entries change, and the object's own if it is a directory, are
+/// written into new runs of their identifiers, with copies of what else lies there, and a file that shares its identifier and leaves its
+/// directory is copied; one commit of at most nine zones makes all of it count and gives the old space back. Beside the map only sectors
+/// are written in which nothing lay.
+///
+/// Refused with the first reason that applies, `Spread` the last of them, and then nothing has changed; `NoMemory` leaves all as it was,
+/// too. `DiskFault` only if the disk's count of faults rose; the holdings stand for nothing afterwards.
+pub fn rename<D: Disk>(
+    alloc: Global,
+    disk: &mut D,
+    holdings: &mut Holdings,
+    read_only: bool,
+    from: &Path,
+    to: &Path,
+) -> Result<(), SafeError>
+    requires attached { IsTrue (D.attached disk.old) }
+    requires settled { IsFalse (D.pending disk.old) }
+    requires stands { Stands D.Disk holdings.old disk.old }
+    requires suits { Suits (parts_of holdings.old).layout (parts_of holdings.old).nodes }
+    ensures refused { AnswersSafelyOver read_only (Command.Rename from.now to.now) (parts_of holdings.old) result }
+    ensures changed { OnOk result (HasChangedSafely D.Disk (Command.Rename from.now to.now) (parts_of holdings.old) (parts_of holdings.new) disk.old disk.new) }
+    ensures tree { StopsAndExitsLeave D.Disk disk.old disk.new (LeavesTree (Command.Rename from.now to.now) (parts_of holdings.old)) }
+    ensures free { StopsAndExitsLeave D.Disk disk.old disk.new (WritesFreeOf (parts_of holdings.old)) }
+    ensures keeps { SafeKeeps D.Disk disk.old disk.new holdings.old holdings.new result }
+{
+    let judged = rename_job(alloc, holdings, read_only, from, to);
+    carry_out(alloc, disk, holdings, judged, &[])
+}
