@@ -1,8 +1,8 @@
 -- Serving line after line, if lines may move files of a host.
-use Rattle.std.proofs.Common.{◌≡◌, inl, ⊎_elim, ℕ, ◌+◌, Bool, true, false, List, [], ◌∷◌, ◌++◌, length, take, Option, Some, None, Result, Ok, Err, refl, sym, ap, subst, ◌∙◌, arith, append_assoc}
+use Rattle.std.proofs.Common.{◌≡◌, inl, inr, ⊎_elim, ℕ, ◌+◌, Bool, true, false, List, [], ◌∷◌, ◌++◌, length, take, Option, Some, None, Result, Ok, Err, refl, sym, ap, subst, ◌∙◌, arith, append_assoc}
 use Rattle.std.specs.Prelude.{slice_get}
 use Rattle.std.specs.List.{list_any}
-use Rattle.std.proofs.lemmas.List.{append-nil, take_at}
+use Rattle.std.proofs.lemmas.List.{append-nil, length-append, take_at}
 use Rattle.std.proofs.Math.Seq.{take-append-add}
 use Rattle.fc_device.specs.declared.disk.Disk.{Ghosts}
 use Rattle.fc_device.proofs.DiskLaws.{Laws}
@@ -15,20 +15,21 @@ use Rattle.fc_record.specs.declared.Kind.{Kind}
 use Rattle.fc_names.specs.declared.refusal.Refusal.{Refusal}
 use Rattle.fc_image.specs.Stays.{OpensAs}
 use Rattle.fc_image.specs.effects.Effect.{State, tree_in}
-use Rattle.fc_image.specs.safe.SafeEffect.{HasTree}
+use Rattle.fc_image.specs.safe.SafeEffect.{HasTree, HasTreeBeforeOrAfter}
 use Rattle.fc_script.specs.HostLines.{HostLine}
 use Rattle.fc_runs.specs.AskedRun.{AskedSteps}
 use Rattle.fc_runs.specs.Early.{FilesLeftBy, host_reply_begun, text_begun}
-use Rattle.fc_runs.specs.HostPromises.{AskedBegun, AskedBegunBy, AskedHasRun, AskedHasStopped, AskedStepsTo}
+use Rattle.fc_runs.specs.HostPromises.{AskedBegun, AskedBegunBy, AskedHasRun, AskedHasStopped, AskedLeaves, AskedStepsTo, AskedTreeAround}
 use Rattle.fc_runs.specs.HostRun.{Reading, all_host_keep_tree, host_keeps_tree}
 use Rattle.fc_runs.specs.HostServing.{AreMoved, IsBrokenOff, IsMoved}
 use Rattle.fc_runs.specs.Meanwhile.{GoesOn}
 use Rattle.fc_runs.specs.Promises.{Cause, StaysBy, cuts_replies, spares_disk}
-use Rattle.fc_runs.specs.Run.{Mode, commands_in, is_error, text_of}
-use Rattle.fc_runs.specs.Stops.{HostLeftByLine, IsLeftInLine, LeftIn, MayHaveLeft, all_host_leave_image, host_leaves_image, is_kept_by_next}
+use Rattle.fc_runs.specs.Run.{Mode, commands_in, is_error, text_of, whole_replies}
+use Rattle.fc_runs.specs.Stops.{HasTreeBetween, HostLeftBy, HostLeftByLine, IsLeftInLine, LeftIn, MayHaveLeft, all_host_leave_image, host_leaves_image, is_kept_by_next}
 use Rattle.fc_runs.proofs.HostStepLemmas.{asked_more, asks_keep, asks_leave, asks_long, asks_many, asks_more, asks_new, asks_weaker, each_done, each_last, each_next}
 use Rattle.fc_runs.proofs.LeftLemmas.{asked_longer, asked_to_all, asked_to_more, host_ends_same, host_left_same, left_front, left_last, left_more, left_next}
 use Rattle.fc_runs.proofs.MeanwhileLemmas.{goes_then}
+use Rattle.fc_runs.proofs.ModeLemmas.{as_plain, as_safe, asked_around, asked_before, asked_leaves_before, asked_between, between_last, between_more, left_unbegun, whole_most}
 use Rattle.fc_runs.proofs.StepLemmas.{has_tree}
 use Rattle.fc_runs.proofs.TextLemmas.{begun_front, front_part, get_next, one_more, whole_all}
 
@@ -69,20 +70,46 @@ module _ {D : Type 0} {d : Ghosts D} (law : Laws d) (read : Reading) (mode : Mod
   abbrev by : State → Bool → List ℕ → List ℕ → Type 0
   by = HostLeftByLine read mode.kind
 
+  -- and what one may that broke off, in the safe mode and outside of it
+  abbrev Safely : List ℕ → State → List Asked → Option Files → List ℕ → Type 0
+  Safely line x asked held = AskedLeaves mode x (read line) asked held
+
+  abbrev Plainly : List ℕ → State → List ℕ → Type 0
+  Plainly line x = HostLeftBy mode.kind x false (read line)
+
   same_by : (x : State) → OpensAs x.image mode.kind x.view → (image : List ℕ) (refused : Bool) (line : List ℕ) → image ≡ x.image → by x refused line image
   same_by x there image refused line same = host_left_same mode.kind x there image same refused (read line)
 
   -- Some lines were done, and `rest` are left.
-  along_done : (new : D) (held : Option Files) (asked : List Asked) (rest : List (List ℕ)) → (are : AreMoved d read old new mode s files held asked (commands_in script) rest) → (image : List ℕ)
+  along_done : (new : D) (held : Option Files) (asked : List Asked) (rest : List (List ℕ)) → (are : AreMoved d read old new mode s files held asked (commands_in script) rest) → mode.safe ≡ false → (image : List ℕ)
       → d.left_since new (d.moment old) image → IsLeftInLine (AskedStepsTo read mode s (commands_in script) are.replies are.asks) by (commands_in script) are.replies image
-  along_done new held asked rest are image left =
+  along_done new held asked rest are plain image left =
       let May = MayHaveLeft d old new in
       let long = asks_long read May mode s are.state are.done are.replies are.asks are.steps in
       let many = asks_many read May mode s are.state are.done are.replies are.asks are.steps in
       subst (λ (lines : List (List ℕ)). IsLeftInLine (AskedStepsTo read mode s lines are.replies are.asks) by lines are.replies image) (sym are.cut)
       (left_front (AskedStepsTo read mode s are.done are.replies are.asks) (AskedStepsTo read mode s (are.done ++ rest) are.replies are.asks) by are.state are.done are.replies long
       (asked_to_all read May mode s are.state are.done are.replies are.asks long many are.steps) image (same_by are.state are.opens image)
-      (λ n x low to. asked_longer mode s are.done are.replies long n low x read are.asks many rest to) rest (are.along image left))
+      (λ n x low to. asked_longer mode s are.done are.replies long n low x read are.asks many rest to) rest (are.along plain image left))
+
+  during_done : (new : D) (held : Option Files) (asked : List Asked) (rest : List (List ℕ)) → (are : AreMoved d read old new mode s files held asked (commands_in script) rest) → mode.safe ≡ true → (image : List ℕ)
+      → d.left_since new (d.moment old) image → HasTreeBetween (AskedStepsTo read mode s (commands_in script) are.replies are.asks) (length are.replies) mode.kind image
+  during_done new held asked rest are safe image left =
+      let May = MayHaveLeft d old new in
+      let long = asks_long read May mode s are.state are.done are.replies are.asks are.steps in
+      let many = asks_many read May mode s are.state are.done are.replies are.asks are.steps in
+      subst (λ (lines : List (List ℕ)). HasTreeBetween (AskedStepsTo read mode s lines are.replies are.asks) (length are.replies) mode.kind image) (sym are.cut)
+      (between_more (AskedStepsTo read mode s are.done are.replies are.asks) (AskedStepsTo read mode s (are.done ++ rest) are.replies are.asks) (length are.replies) (length are.replies) mode.kind image (omega arith)
+      (λ n x low to. asked_longer mode s are.done are.replies long n low x read are.asks many rest to) (are.during safe image left))
+
+  -- The lines that were done lead to where they do.
+  done_to : (May : List ℕ → Type 0) (done replies : List (List ℕ)) (asks : List (List Asked)) (state : State) (rest : List (List ℕ)) → commands_in script ≡ done ++ rest → AskedSteps read May mode s done replies asks state
+      → AskedStepsTo read mode s (commands_in script) replies asks (length replies) state
+  done_to May done replies asks state rest cut steps =
+      let long = asks_long read May mode s state done replies asks steps in
+      let many = asks_many read May mode s state done replies asks steps in
+      subst (λ (lines : List (List ℕ)). AskedStepsTo read mode s lines replies asks (length replies) state) (sym cut)
+      (asked_longer mode s done replies long (length replies) (omega arith) state read asks many rest (asked_to_all read May mode s state done replies asks long many steps))
 
   -- before the first line
   pub moved_start : (left : List (List ℕ)) → left ≡ commands_in script → AreMoved d read old old mode s files files [] (commands_in script) left
@@ -99,7 +126,9 @@ module _ {D : Type 0} {d : Ghosts D} (law : Laws d) (read : Reading) (mode : Mod
     opens = opens;
     kept = λ keep new_map image left. has_tree mode.kind s image opens (law.settled old quiet s.image told image left);
     still = λ leave image left. law.settled old quiet s.image told image left;
-    along = λ image left. inl (law.settled old quiet s.image told image left);
+    during = λ safe image left.
+        record { count = 0; within = omega arith; mid = s; steps = refl; tree = has_tree mode.kind s image opens (law.settled old quiet s.image told image left) };
+    along = λ plain image left. inl (law.settled old quiet s.image told image left);
   }
 
   -- one line more
@@ -137,14 +166,32 @@ module _ {D : Type 0} {d : Ghosts D} (law : Laws d) (read : Reading) (mode : Mod
             ⊎_elim (λ was. are.still both.0 image was)
             (λ since. is.still both.1 image since ∙ ap (λ (x : State). x.image) (asks_leave read May mode s are.state are.done are.replies are.asks are.steps both.0))
             (second.stops.before (d.moment old) image first.stops.later left);
-        along = λ image left.
+        during = λ safe image left.
+            let Before = AskedStepsTo read mode s are.done are.replies are.asks in
+            let After = AskedStepsTo read mode s (are.done ++ line ∷ []) (are.replies ++ reply ∷ []) (are.asks ++ more ∷ []) in
+            let all = asked_to_all read May mode s are.state are.done are.replies are.asks long many are.steps in
+            let steps = asks_more read Might mode s are.state next are.done are.replies are.asks line reply more
+            (asks_weaker read May Might (λ image may tells. second.stops.keeps (d.moment old) image first.stops.later (may tells)) mode s are.state are.done are.replies are.asks are.steps)
+            (λ tells. law.earlier new (d.moment old) (d.moment new) next.image (omega (arith, first.stops.later, second.stops.later))
+            (law.leaves_what_is_read new (second.form.tells_stays ∙ first.form.tells_stays ∙ tells) next.image is.holds)) is.step in
+            let long' = asks_long read Might mode s next (are.done ++ line ∷ []) (are.replies ++ reply ∷ []) (are.asks ++ more ∷ []) steps in
+            let many' = asks_many read Might mode s next (are.done ++ line ∷ []) (are.replies ++ reply ∷ []) (are.asks ++ more ∷ []) steps in
+            let last = asked_to_all read Might mode s next (are.done ++ line ∷ []) (are.replies ++ reply ∷ []) (are.asks ++ more ∷ []) long' many' steps in
+            let l = length-append are.replies (reply ∷ []) in
+            between_last Before After (length are.replies) (length (are.replies ++ reply ∷ [])) mode.kind image (omega (arith, l))
+            (λ n x low to. asked_to_more mode s are.done are.replies long n low x read are.asks many (line ∷ []) (reply ∷ []) (more ∷ []) to) are.state next all last
+            (⊎_elim (λ was. inl (are.during safe image was))
+            (λ since. inr (as_safe (HasTreeBeforeOrAfter mode.kind are.state (tree_in next)) (HostLeftBy mode.kind are.state (is_error reply) (read line)) image mode.safe safe (is.spared image since)))
+            (second.stops.before (d.moment old) image first.stops.later left));
+        along = λ plain image left.
             let Before = AskedStepsTo read mode s are.done are.replies are.asks in
             let After = AskedStepsTo read mode s (are.done ++ line ∷ []) (are.replies ++ reply ∷ []) (are.asks ++ more ∷ []) in
             let all = asked_to_all read May mode s are.state are.done are.replies are.asks long many are.steps in
             ⊎_elim (λ was. left_more Before After by are.state are.done are.replies long all image (same_by are.state are.opens image)
-            (λ n x low to. asked_to_more mode s are.done are.replies long n low x read are.asks many (line ∷ []) (reply ∷ []) (more ∷ []) to) line reply next (are.along image was))
+            (λ n x low to. asked_to_more mode s are.done are.replies long n low x read are.asks many (line ∷ []) (reply ∷ []) (more ∷ []) to) line reply next (are.along plain image was))
             (λ since. left_last Before After by are.state are.done are.replies long all image (same_by are.state are.opens image)
-            (λ n x low to. asked_to_more mode s are.done are.replies long n low x read are.asks many (line ∷ []) (reply ∷ []) (more ∷ []) to) line reply next (is.spared image since))
+            (λ n x low to. asked_to_more mode s are.done are.replies long n low x read are.asks many (line ∷ []) (reply ∷ []) (more ∷ []) to) line reply next
+            (as_plain (HasTreeBeforeOrAfter mode.kind are.state (tree_in next)) (HostLeftBy mode.kind are.state (is_error reply) (read line)) image mode.safe plain (is.spared image since)))
             (second.stops.before (d.moment old) image first.stops.later left);
       }
 
@@ -189,8 +236,12 @@ module _ {D : Type 0} {d : Ghosts D} (law : Laws d) (read : Reading) (mode : Mod
           still = λ fresh leave image left.
               are.still (subst (λ (lines : List (List ℕ)). all_host_leave_image read lines are.replies ≡ true) (sym all) leave) image left;
           rest = λ next image left. law.settled new settled are.state.image are.holds image left;
-          along = λ fresh. along_done new held asked [] are;
-          ending = λ image left. host_ends_same read mode.kind are.state are.opens (slice_get (commands_in script) (length are.replies)) image (law.settled new settled are.state.image are.holds image left);
+          along = λ plain fresh. along_done new held asked [] are plain;
+          ending = λ plain image left. host_ends_same read mode.kind are.state are.opens (slice_get (commands_in script) (length are.replies)) image (law.settled new settled are.state.image are.holds image left);
+          during = λ safe fresh image left. asked_between mode s (commands_in script) are.replies image read are.asks [] held (during_done new held asked [] are safe image left);
+          exit = λ safe image left. asked_around mode s (commands_in script) are.replies image read are.asks [] held are.state (whole_replies (length (text_of are.replies)) are.replies)
+              (whole_most (length (text_of are.replies)) are.replies) (done_to (MayHaveLeft d old new) are.done are.replies are.asks are.state [] are.cut are.steps)
+              (asked_before read mode are.state (slice_get (commands_in script) (length are.replies)) [] held image (has_tree mode.kind are.state image are.opens (law.settled new settled are.state.image are.holds image left)));
         };
       }
 
@@ -232,7 +283,9 @@ module _ {D : Type 0} {d : Ghosts D} (law : Laws d) (read : Reading) (mode : Mod
         whole = λ whole. absurd (let clash : false ≡ true = sym whole ∙ cut in cc);
         holds = λ spares. (are.state.image, are.holds, stays_same cause mode.kind are.state are.opens);
         settled = λ spares. inl settled;
-        spared = λ image here. host_ends_same read mode.kind are.state are.opens after image (one_told (sym here ∙ are.holds));
+        spared = λ plain image here. host_ends_same read mode.kind are.state are.opens after image (one_told (sym here ∙ are.holds));
+        saved = λ safe image here. left_unbegun (λ refused line. Safely line are.state [] now) are.state after image (one_told (sym here ∙ are.holds))
+            (λ line. asked_leaves_before mode are.state (read line) [] now image (has_tree mode.kind are.state image are.opens (one_told (sym here ∙ are.holds))));
         stops = λ was_quiet. record {
           idle = λ new_map fresh keep image left'.
               let done = each_done keeps are.done are.replies left long (subst (λ (lines : List (List ℕ)). all_host_keep_tree read lines are.replies ≡ true) are.cut keep) in
@@ -242,8 +295,12 @@ module _ {D : Type 0} {d : Ghosts D} (law : Laws d) (read : Reading) (mode : Mod
           still = λ fresh leave image left'.
               are.still (each_done leaves are.done are.replies left long (subst (λ (lines : List (List ℕ)). all_host_leave_image read lines are.replies ≡ true) are.cut leave)) image left';
           rest = λ leave image left'. law.settled new settled are.state.image are.holds image left';
-          along = λ fresh. along_done new now (asked ++ more) left are;
-          ending = λ image left'. host_ends_same read mode.kind are.state are.opens after image (law.settled new settled are.state.image are.holds image left');
+          along = λ plain fresh. along_done new now (asked ++ more) left are plain;
+          ending = λ plain image left'. host_ends_same read mode.kind are.state are.opens after image (law.settled new settled are.state.image are.holds image left');
+          during = λ safe fresh image left'. asked_between mode s (commands_in script) are.replies image read are.asks [] now (during_done new now (asked ++ more) left are safe image left');
+          exit = λ safe image left'. asked_around mode s (commands_in script) are.replies image read are.asks [] now are.state (whole_replies (length (text_of has.replies ++ take n reply)) are.replies)
+              (whole_most (length (text_of has.replies ++ take n reply)) are.replies) (done_to Might are.done are.replies are.asks are.state left are.cut are.steps)
+              (asked_before read mode are.state after [] now image (has_tree mode.kind are.state image are.opens (law.settled new settled are.state.image are.holds image left')));
         };
       }
 
@@ -283,7 +340,8 @@ module _ {D : Type 0} {d : Ghosts D} (law : Laws d) (read : Reading) (mode : Mod
         whole = λ disk. whole_all are.replies (take n (begun line));
         holds = λ spares. broke.holds spares;
         settled = λ spares. inl (settled spares);
-        spared = λ image here. subst (λ (o : Option (List ℕ)). LeftIn (by are.state) are.state o None image) (sym next) (broke.exit image here);
+        spared = λ plain image here. subst (λ (o : Option (List ℕ)). LeftIn (by are.state) are.state o None image) (sym next) (as_plain (Safely line are.state more held) (Plainly line are.state) image mode.safe plain (broke.exit image here));
+        saved = λ safe image here. subst (λ (o : Option (List ℕ)). LeftIn (λ refused l. Safely l are.state more held) are.state o None image) (sym next) (as_safe (Safely line are.state more held) (Plainly line are.state) image mode.safe safe (broke.exit image here));
         stops = λ was_quiet. record {
           idle = λ new_map fresh keep image left'.
               let all = subst (λ (lines : List (List ℕ)). all_host_keep_tree read lines are.replies ≡ true) are.cut keep in
@@ -309,18 +367,30 @@ module _ {D : Type 0} {d : Ghosts D} (law : Laws d) (read : Reading) (mode : Mod
           rest = λ leave image left'.
               broke.still (subst (λ (o : Option (List ℕ)). is_kept_by_next (λ l. host_leaves_image false (read l)) o ≡ true) next leave) image
               (law.earlier new (d.moment mid) (d.moment new) image second.stops.later left');
-          along = λ fresh image left'.
+          during = λ safe fresh image left'.
+              ⊎_elim (λ was. asked_between mode s (commands_in script) are.replies image read are.asks more held (during_done mid held asked (line ∷ left) are safe image was))
+              (λ since. asked_around mode s (commands_in script) are.replies image read are.asks more held are.state 0 (omega arith) (done_to May are.done are.replies are.asks are.state (line ∷ left) are.cut are.steps)
+              (subst (λ (o : Option (List ℕ)). AskedTreeAround read mode are.state o more held image) (sym next) (as_safe (Safely line are.state more held) (Plainly line are.state) image mode.safe safe (broke.spared image since))))
+              (second.stops.before (d.moment old) image first.stops.later left');
+          exit = λ safe image left'.
+              let written = text_of are.replies ++ take n (begun line) in
+              asked_around mode s (commands_in script) are.replies image read are.asks more held are.state (whole_replies (length written) are.replies) (whole_most (length written) are.replies)
+              (done_to May are.done are.replies are.asks are.state (line ∷ left) are.cut are.steps)
+              (subst (λ (o : Option (List ℕ)). AskedTreeAround read mode are.state o more held image) (sym next)
+              (as_safe (Safely line are.state more held) (Plainly line are.state) image mode.safe safe (broke.spared image (law.earlier new (d.moment mid) (d.moment new) image second.stops.later left'))));
+          along = λ plain fresh image left'.
               let many = asks_many read May mode s are.state are.done are.replies are.asks are.steps in
               let Before = AskedStepsTo read mode s are.done are.replies are.asks in
               let After = AskedStepsTo read mode s (are.done ++ line ∷ left) are.replies are.asks in
               let all = asked_to_all read May mode s are.state are.done are.replies are.asks long many are.steps in
               subst (λ (lines : List (List ℕ)). IsLeftInLine (AskedStepsTo read mode s lines are.replies are.asks) by lines are.replies image) (sym are.cut)
               (⊎_elim (λ was. left_front Before After by are.state are.done are.replies long all image (same_by are.state are.opens image)
-              (λ n x low to. asked_longer mode s are.done are.replies long n low x read are.asks many (line ∷ left) to) (line ∷ left) (are.along image was))
+              (λ n x low to. asked_longer mode s are.done are.replies long n low x read are.asks many (line ∷ left) to) (line ∷ left) (are.along plain image was))
               (λ since. left_next Before After by are.state are.done are.replies long all image (same_by are.state are.opens image)
-              (λ n x low to. asked_longer mode s are.done are.replies long n low x read are.asks many (line ∷ left) to) line left (broke.spared image since))
+              (λ n x low to. asked_longer mode s are.done are.replies long n low x read are.asks many (line ∷ left) to) line left (as_plain (Safely line are.state more held) (Plainly line are.state) image mode.safe plain (broke.spared image since)))
               (second.stops.before (d.moment old) image first.stops.later left'));
-          ending = λ image left'.
-              subst (λ (o : Option (List ℕ)). LeftIn (by are.state) are.state o None image) (sym next) (broke.spared image (law.earlier new (d.moment mid) (d.moment new) image second.stops.later left'));
+          ending = λ plain image left'.
+              subst (λ (o : Option (List ℕ)). LeftIn (by are.state) are.state o None image) (sym next)
+              (as_plain (Safely line are.state more held) (Plainly line are.state) image mode.safe plain (broke.spared image (law.earlier new (d.moment mid) (d.moment new) image second.stops.later left')));
         };
       }

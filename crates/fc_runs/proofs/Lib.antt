@@ -12,5 +12,7 @@ pub mod TextLemmas
 pub mod SpaceLemmas
 pub mod LeftLemmas
 pub mod MeanwhileLemmas
+pub mod ModeLemmas
+pub mod SafeShortageLemmas
 pub mod HostStepLemmas
 pub mod HostServingLemmas

@@ -1,5 +1,5 @@
 -- What lines may ask of a host, whatever disk and host hold: each of its own file alone, and a file is changed only if the line made it.
-use Rattle.std.specs.Prelude.{◌≡◌, ◌⊎◌, ℕ, true, false, List, [], ◌∷◌, ◌++◌, All, Result, Ok}
+use Rattle.std.specs.Prelude.{◌≡◌, ◌⊎◌, ℕ, false, List, [], ◌∷◌, ◌++◌, All, Result, Ok}
 use Rattle.fc_host.specs.Answers.{made_of}
 use Rattle.fc_host.specs.Asked.{Asked}
 use Rattle.fc_host.specs.Looks.{IsLook}

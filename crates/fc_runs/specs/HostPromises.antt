@@ -1,24 +1,26 @@
--- What a run whose lines may move files of a host promises over an accepted image, whatever host it is and outside the safe mode.
-use Rattle.std.specs.Prelude.{◌≡◌, ◌⊎◌, ℕ, Bool, true, false, List, [], ◌∷◌, ◌++◌, length, slice_get, take, Option, Some, None, Result, Ok, IsOk}
+-- What a run whose lines may move files of a host promises over an accepted image, whatever host it is.
+use Rattle.std.specs.Prelude.{◌≡◌, ◌≤◌, ◌⊎◌, ℕ, Bool, true, false, List, [], ◌∷◌, ◌++◌, length, slice_get, take, Option, Some, None, Result, Ok, IsOk}
 use Rattle.std.specs.List.{list_any}
 use Rattle.std.specs.Option.{ForSome}
+use Rattle.std.specs.FinMap.{get}
 use Rattle.fc_device.specs.declared.disk.Disk.{Ghosts}
 use Rattle.fc_host.specs.Answers.{AnswersCalls, all_asked, joined, made_of}
-use Rattle.fc_host.specs.Asked.{Asked}
+use Rattle.fc_host.specs.Asked.{Asked, taken_by}
 use Rattle.fc_host.specs.Files.{Files}
 use Rattle.fc_host.specs.declared.asks.HostCall.TheVariants as calls
 use Rattle.fc_names.specs.declared.refusal.Refusal.{Refusal}
+use Rattle.fc_model.specs.Tree.{Tree}
 use Rattle.fc_model.specs.Command.{Command}
 use Rattle.fc_image.specs.Stays.{IsNewLayout, KeepsTree}
 use Rattle.fc_image.specs.effects.Effect.{State, tree_in}
-use Rattle.fc_image.specs.safe.SafeEffect.{HasTree}
+use Rattle.fc_image.specs.safe.SafeEffect.{HasTree, HasTreeBeforeOrAfter}
 use Rattle.fc_script.specs.HostLines.{HostLine}
 use Rattle.fc_runs.specs.AskedRun.{AskedSteps}
 use Rattle.fc_runs.specs.Early.{FilesLeftBy, host_reply_begun, text_begun}
 use Rattle.fc_runs.specs.HostAsks.{PutAsks}
-use Rattle.fc_runs.specs.HostRun.{Reading, all_host_keep_tree, answer_in, file_in}
+use Rattle.fc_runs.specs.HostRun.{Reading, all_host_keep_tree, answer_in, file_in, longest_file}
 use Rattle.fc_runs.specs.Promises.{Cause, HostHasRun, HostHasStopped, StaysBy, cuts_replies, spares_disk}
-use Rattle.fc_runs.specs.Run.{Mode, commands_in, is_error, text_of, whole_replies}
+use Rattle.fc_runs.specs.Run.{Mode, commands_in, is_error, line_begun, text_of, tree_after, whole_replies}
 use Rattle.fc_runs.specs.Stops.{HostLeftByLine, IsLeftInLine, LeftIn, MayHaveLeft, all_host_leave_image, next_host_keeps_tree, next_host_leaves_image}
 
 -- ---- crashes
@@ -27,8 +29,35 @@ use Rattle.fc_runs.specs.Stops.{HostLeftByLine, IsLeftInLine, LeftIn, MayHaveLef
 abbrev pub AskedStepsTo : Reading → Mode → State → List (List ℕ) → List (List ℕ) → List (List Asked) → ℕ → State → Type 0
 AskedStepsTo read mode s lines replies asks n mid = AskedSteps read (λ between. Unit {0}) mode s (take n lines) (take n replies) (take n asks) mid
 
--- `HostStops` of Stops, but for what it says of the safe mode alone
-pub record AskedStops {D : Type 0} (d : Ghosts D) (read : Reading) (old new : D) (mode : Mode) (fresh : Bool) (s end : State) (lines replies : List (List ℕ)) (asks : List (List Asked)) : Type 0 where
+-- t is the tree after a line that broke off. `asked` is what was asked of the host in it, and `files` are its files, if it tells them. If
+-- a `put` was whole, t is the tree with the bytes that were taken, and these are those of the file.
+abbrev pub IsTreeAfter : Mode → State → Result HostLine Refusal → List Asked → Option Files → Tree → Type 0
+IsTreeAfter mode s (Ok (HostLine.Put host path load exec)) asked files t = (t ≡ tree_in s)
+    ⊎ ((length (taken_by asked) ≤ longest_file) × ForSome files (λ held. get held host ≡ Some (taken_by asked)) × (t ≡ tree_after mode s (Ok (Command.Save path load exec (taken_by asked)))))
+IsTreeAfter mode s (Ok (HostLine.Other command)) asked files t = t ≡ tree_after mode s (Ok command)
+IsTreeAfter mode s line asked files t = t ≡ tree_in s
+
+-- The image has the tree before that line, or the one after it.
+abbrev pub AskedLeaves : Mode → State → Result HostLine Refusal → List Asked → Option Files → List ℕ → Type 0
+AskedLeaves mode s line asked files image = (t : Tree) × IsTreeAfter mode s line asked files t × HasTreeBeforeOrAfter mode.kind s t image
+
+-- The image has the tree of the state, or the one after the line that broke off, if one did.
+abbrev pub AskedTreeAround : Reading → Mode → State → Option (List ℕ) → List Asked → Option Files → List ℕ → Type 0
+AskedTreeAround read mode s None asked files image = HasTree mode.kind (tree_in s) image
+AskedTreeAround read mode s (Some line) asked files image = AskedLeaves mode s (read line) asked files image
+
+-- `HostHasTreeAfter` of HostRun, whatever host it is. `begun` is what was asked in the line that broke off, and `between` are the files
+-- of the host before it, if it tells them.
+pub record AskedHasTreeAfter (read : Reading) (mode : Mode) (s : State) (lines replies : List (List ℕ)) (asks : List (List Asked)) (begun : List Asked) (between : Option Files) (least : ℕ) (image : List ℕ) : Type 0 where
+  pub count : ℕ
+  pub enough : least ≤ count
+  pub within : count ≤ length replies
+  pub mid : State
+  pub steps : AskedStepsTo read mode s lines replies asks count mid
+  pub tree : AskedTreeAround read mode mid (line_begun lines replies count) begun between image
+
+-- `HostStops` of Stops, whatever host it is. `text` was written.
+pub record AskedStops {D : Type 0} (d : Ghosts D) (read : Reading) (old new : D) (mode : Mode) (fresh : Bool) (s end : State) (lines replies : List (List ℕ)) (asks : List (List Asked)) (begun : List Asked) (between : Option Files) (text : List ℕ) : Type 0 where
   pub idle : IsNewLayout s.view.layout → fresh ≡ false → all_host_keep_tree read lines replies ≡ true
       → (image : List ℕ) → d.left_since new (d.moment old) image → KeepsTree mode.kind s.image s.view image
   pub last : IsNewLayout s.view.layout → next_host_keeps_tree read lines replies ≡ true
@@ -36,8 +65,10 @@ pub record AskedStops {D : Type 0} (d : Ghosts D) (read : Reading) (old new : D)
   pub still : fresh ≡ false → all_host_leave_image read lines replies ≡ true
       → (image : List ℕ) → d.left_since new (d.moment old) image → image ≡ s.image
   pub rest : next_host_leaves_image read lines replies ≡ true → (image : List ℕ) → d.left_since new (d.moment new) image → image ≡ end.image
-  pub along : fresh ≡ false → (image : List ℕ) → d.left_since new (d.moment old) image → IsLeftInLine (AskedStepsTo read mode s lines replies asks) (HostLeftByLine read mode.kind) lines replies image
-  pub ending : (image : List ℕ) → d.left_since new (d.moment new) image → LeftIn (HostLeftByLine read mode.kind end) end (slice_get lines (length replies)) None image
+  pub along : mode.safe ≡ false → fresh ≡ false → (image : List ℕ) → d.left_since new (d.moment old) image → IsLeftInLine (AskedStepsTo read mode s lines replies asks) (HostLeftByLine read mode.kind) lines replies image
+  pub ending : mode.safe ≡ false → (image : List ℕ) → d.left_since new (d.moment new) image → LeftIn (HostLeftByLine read mode.kind end) end (slice_get lines (length replies)) None image
+  pub during : mode.safe ≡ true → fresh ≡ false → (image : List ℕ) → d.left_since new (d.moment old) image → AskedHasTreeAfter read mode s lines replies asks begun between 0 image
+  pub exit : mode.safe ≡ true → (image : List ℕ) → d.left_since new (d.moment new) image → AskedHasTreeAfter read mode s lines replies asks begun between (whole_replies (length text) replies) image
 
 -- ---- the script's end
 
@@ -55,7 +86,7 @@ pub record AskedHasRun {D : Type 0} (d : Ghosts D) (read : Reading) (old new : D
   pub refused_is : refused ≡ list_any is_error replies
   pub holds : d.bytes new ≡ Some end.image
   pub settled : d.pending new ≡ false
-  pub stops : d.pending old ≡ false → AskedStops d read old new mode fresh s end (commands_in script) replies asks
+  pub stops : d.pending old ≡ false → AskedStops d read old new mode fresh s end (commands_in script) replies asks [] left text
 
 -- ---- ends before it
 
@@ -104,8 +135,9 @@ pub record AskedHasStopped {D : Type 0} (d : Ghosts D) (read : Reading) (old new
   pub whole : cuts_replies cause ≡ false → whole_replies (length text) replies ≡ length replies
   pub holds : spares_disk cause ≡ true → (image : List ℕ) × (d.bytes new ≡ Some image) × StaysBy cause mode.kind end image
   pub settled : spares_disk cause ≡ true → (d.pending new ≡ false) ⊎ (new ≡ old)
-  pub spared : ForSome (d.bytes new) (LeftIn (HostLeftByLine read mode.kind end) end (slice_get (commands_in script) (length replies)) None)
-  pub stops : d.pending old ≡ false → AskedStops d read old new mode fresh s end (commands_in script) replies asks
+  pub spared : mode.safe ≡ false → ForSome (d.bytes new) (LeftIn (HostLeftByLine read mode.kind end) end (slice_get (commands_in script) (length replies)) None)
+  pub saved : mode.safe ≡ true → ForSome (d.bytes new) (LeftIn (λ refused line. AskedLeaves mode end (read line) begun between) end (slice_get (commands_in script) (length replies)) None)
+  pub stops : d.pending old ≡ false → AskedStops d read old new mode fresh s end (commands_in script) replies asks begun between text
 
 -- ---- a host that tells its files
 

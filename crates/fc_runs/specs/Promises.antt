@@ -8,9 +8,11 @@ use Rattle.fc_host.specs.Files.{Files}
 use Rattle.fc_record.specs.declared.Kind.{Kind}
 use Rattle.fc_image.specs.Stays.{OpensAs, stored_objects}
 use Rattle.fc_image.specs.effects.Effect.{State}
-use Rattle.fc_runs.specs.Run.{Mode, Run, commands_in, script_for, is_error, whole_replies}
+use Rattle.fc_image.specs.safe.SafeEffect.{HasTreeBeforeOrAfter}
+use Rattle.fc_script.specs.Lines.{command_of}
+use Rattle.fc_runs.specs.Run.{Mode, Run, commands_in, script_for, is_error, tree_after, whole_replies}
 use Rattle.fc_runs.specs.Early.{EndsEarly, HostEndsEarly}
-use Rattle.fc_runs.specs.HostRun.{HostRun, Reading}
+use Rattle.fc_runs.specs.HostRun.{HostRun, Reading, host_tree_after}
 use Rattle.fc_runs.specs.Stops.{HostLeftByLine, LeftByLine, LeftIn, MayHaveLeft, Stops, HostStops}
 
 -- ---- ends without a run
@@ -88,7 +90,8 @@ IsUnmade fresh cause old new text = ⊥
 
 -- Some lines were done, and a part of their text was written. The disk has the image after these lines, and nothing is pending if
 -- anything was asked of it, except after an I/O error of the disk itself. Then it has what the line that broke off may leave, and the
--- text has the replies to all lines that were done, so it tells which line that is; a demo's text tells nothing before its end.
+-- text has the replies to all lines that were done, so it tells which line that is; a demo's text tells nothing before its end. In the
+-- safe mode it has the tree before that line or the one after it.
 pub record HasStopped {D : Type 0} (d : Ghosts D) (old new : D) (mode : Mode) (fresh : Bool) (demo : Option ℕ) (s : State) (script text : List ℕ) (cause : Cause) : Type 0 where
   pub end : State
   pub ended : EndsEarly (MayHaveLeft d old new) mode demo s script text end
@@ -96,6 +99,7 @@ pub record HasStopped {D : Type 0} (d : Ghosts D) (old new : D) (mode : Mode) (f
   pub holds : spares_disk cause ≡ true → d.bytes new ≡ Some end.image
   pub settled : spares_disk cause ≡ true → (d.pending new ≡ false) ⊎ (new ≡ old)
   pub spared : mode.safe ≡ false → ForSome (d.bytes new) (LeftIn (LeftByLine mode.kind end) end (slice_get (commands_in (script_for demo script)) (length ended.replies)) None)
+  pub saved : mode.safe ≡ true → ForSome (d.bytes new) (LeftIn (λ refused line. HasTreeBeforeOrAfter mode.kind end (tree_after mode end (command_of line))) end (slice_get (commands_in (script_for demo script)) (length ended.replies)) None)
   pub stops : d.pending old ≡ false → Stops d old new mode fresh demo s end (commands_in (script_for demo script)) ended.replies text
 
 -- what holds after a run that ended early
@@ -112,6 +116,7 @@ pub record HostHasStopped {D : Type 0} (d : Ghosts D) (read : Reading) (old new 
   pub holds : spares_disk cause ≡ true → (image : List ℕ) × (d.bytes new ≡ Some image) × StaysBy cause mode.kind end image
   pub settled : spares_disk cause ≡ true → (d.pending new ≡ false) ⊎ (new ≡ old)
   pub spared : mode.safe ≡ false → ForSome (d.bytes new) (LeftIn (HostLeftByLine read mode.kind end) end (slice_get (commands_in (script_for demo script)) (length ended.replies)) None)
+  pub saved : mode.safe ≡ true → ForSome (d.bytes new) (LeftIn (λ refused line. HasTreeBeforeOrAfter mode.kind end (host_tree_after mode end ended.between (read line))) end (slice_get (commands_in (script_for demo script)) (length ended.replies)) None)
   pub stops : d.pending old ≡ false → HostStops d read old new mode fresh demo s end files (commands_in (script_for demo script)) ended.replies text
 
 -- The files of the host stay, if the fresh image isn't there.

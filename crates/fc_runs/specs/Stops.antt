@@ -6,10 +6,11 @@ use Rattle.fc_device.specs.declared.disk.Disk.{Ghosts}
 use Rattle.fc_host.specs.Files.{Files}
 use Rattle.fc_names.specs.declared.refusal.Refusal.{Refusal}
 use Rattle.fc_record.specs.declared.Kind.{Kind}
+use Rattle.fc_model.specs.Tree.{Tree}
 use Rattle.fc_model.specs.Command.{Command}
 use Rattle.fc_image.specs.Stays.{KeepsTree, IsNewLayout}
 use Rattle.fc_image.specs.effects.Effect.{State, tree_in}
-use Rattle.fc_image.specs.safe.SafeEffect.{HasTree}
+use Rattle.fc_image.specs.safe.SafeEffect.{HasTree, HasTreeBeforeOrAfter}
 use Rattle.fc_script.specs.Lines.{command_of}
 use Rattle.fc_script.specs.HostLines.{HostLine}
 use Rattle.fc_runs.specs.ReadLaw.{is_reading}
@@ -99,6 +100,15 @@ LeftByLine kind s refused line image = LeftBy kind s refused (command_of line) i
 abbrev pub HostLeftByLine : Reading → Kind → State → Bool → List ℕ → List ℕ → Type 0
 HostLeftByLine read kind s refused line image = HostLeftBy kind s refused (read line) image
 
+-- In the safe mode the first of two relations holds of the image, and outside of it the second.
+abbrev pub LeftAs : Bool → (List ℕ → Type 0) → (List ℕ → Type 0) → List ℕ → Type 0
+LeftAs true Safe Plain image = Safe image
+LeftAs false Safe Plain image = Plain image
+
+-- A line leaves the tree before it or t, the tree after it, in the safe mode; and outside of it what `LeftBy` or `HostLeftBy` says.
+abbrev pub LeftByMode : Mode → State → Tree → (List ℕ → Type 0) → List ℕ → Type 0
+LeftByMode mode s t Plain image = LeftAs mode.safe (HasTreeBeforeOrAfter mode.kind s t) Plain image
+
 -- by the line that was begun, if one was, and by its reply, if it was done
 abbrev pub LeftIn : (Bool → List ℕ → List ℕ → Type 0) → State → Option (List ℕ) → Option (List ℕ) → List ℕ → Type 0
 LeftIn by s None reply image = image ≡ s.image
@@ -123,6 +133,14 @@ HostStepsTo read mode s files lines replies n mid = (between : Files) × HostSte
 -- These lines led to the image, or it is one that one of them may leave.
 abbrev pub IsLeftBefore : (ℕ → State → Type 0) → (State → Bool → List ℕ → List ℕ → Type 0) → List (List ℕ) → List (List ℕ) → State → List ℕ → Type 0
 IsLeftBefore To by lines replies state image = (image ≡ state.image) ⊎ ((left : IsLeftInLine To by lines replies image) × (left.count < length replies))
+
+-- The image has the tree that stands after some of the lines, so many at most. `To n mid` says that the first n lead to the state mid.
+pub record HasTreeBetween (To : ℕ → State → Type 0) (most : ℕ) (kind : Kind) (image : List ℕ) : Type 0 where
+  pub count : ℕ
+  pub within : count ≤ most
+  pub mid : State
+  pub steps : To count mid
+  pub tree : HasTree kind (tree_in mid) image
 
 -- ---- what crashes leave
 

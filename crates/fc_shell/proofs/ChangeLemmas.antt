@@ -48,7 +48,7 @@ use Rattle.fc_shell.specs.Answered.{Answered, IsCaused}
 use Rattle.fc_shell.specs.Reads.{is_reading_line}
 use Rattle.fc_shell.specs.Changing.{Tells, TellsBy, done_reply}
 use Rattle.fc_shell.specs.Line.{IsDone, IsReady, KeepsGoing, LineEnds}
-use Rattle.fc_shell.specs.Modes.{plain_mode}
+use Rattle.fc_shell.specs.Modes.{mode_of}
 use Rattle.fc_shell.specs.Writing.{Wrote, WrotePart}
 use Rattle.fc_shell.proofs.AnsweredLemmas.{caused_alone}
 use Rattle.fc_shell.proofs.CommandLemmas.{accepted_by, effect_of, locked, no_reason, not_reading, refused_by}
@@ -93,25 +93,25 @@ answer_refused t form read_only c r is = ap (answer_or (changed t c)) is
 
 module _ (kind : Kind) (read_only : Bool) (s : State) (c : Command) (changes : keeps_tree c ≡ false) where
   by_shortage : (o : Option Refusal) (reply : List ℕ) (next : State) → first_of (reasons (tree_in s) (dir_form s.view.layout) read_only c) ≡ None → short s.view c ≡ o
-      → Serves (plain_mode kind read_only) s c (changed (tree_in s) c) (option_map refusal_line o) reply next → Takes (plain_mode kind read_only) s (Ok c) reply next
+      → Serves (mode_of kind read_only false) s c (changed (tree_in s) c) (option_map refusal_line o) reply next → Takes (mode_of kind read_only false) s (Ok c) reply next
   by_shortage o reply next accepted short_is serves =
-      subst (λ (x : Result Tree Refusal). Answers (plain_mode kind read_only) s c x reply next) (sym (answer_accepted (tree_in s) (dir_form s.view.layout) read_only c accepted))
-      (subst (λ (x : Option (List ℕ)). Serves (plain_mode kind read_only) s c (changed (tree_in s) c) x reply next) (sym (shortage_as s.view c o changes short_is)) serves)
+      subst (λ (x : Result Tree Refusal). Answers (mode_of kind read_only false) s c x reply next) (sym (answer_accepted (tree_in s) (dir_form s.view.layout) read_only c accepted))
+      (subst (λ (x : Option (List ℕ)). Serves (mode_of kind read_only false) s c (changed (tree_in s) c) x reply next) (sym (shortage_as s.view c o changes short_is)) serves)
 
   -- An accepted command is a step,
-  pub done_takes : (next : State) → refusal_in s.view s.image read_only c ≡ None → Changes kind s next c (changed (tree_in s) c) → Takes (plain_mode kind read_only) s (Ok c) ok_line next
+  pub done_takes : (next : State) → refusal_in s.view s.image read_only c ≡ None → Changes kind s next c (changed (tree_in s) c) → Takes (mode_of kind read_only false) s (Ok c) ok_line next
   done_takes next accepted does =
       let both = accepted_by (reasons (tree_in s) (dir_form s.view.layout) read_only c) (short s.view c) accepted in
-      by_shortage None ok_line next both.0 both.1 (sym (changing_reply s next c changes), effect_of kind read_only s next c (changed (tree_in s) c) changes does)
+      by_shortage None ok_line next both.0 both.1 (sym (changing_reply s next c changes), effect_of (mode_of kind read_only false) s next c (changed (tree_in s) c) changes does)
 
   -- and so is one that is refused.
-  pub refused_takes : (r : Refusal) → refusal_in s.view s.image read_only c ≡ Some r → Takes (plain_mode kind read_only) s (Ok c) (refusal_line r) s
+  pub refused_takes : (r : Refusal) → refusal_in s.view s.image read_only c ≡ Some r → Takes (mode_of kind read_only false) s (Ok c) (refusal_line r) s
   refused_takes r refused = by (refused_by (reasons (tree_in s) (dir_form s.view.layout) read_only c) (short s.view c) r refused)
     where
       by : (first_of (reasons (tree_in s) (dir_form s.view.layout) read_only c) ≡ Some r)
-          ⊎ ((first_of (reasons (tree_in s) (dir_form s.view.layout) read_only c) ≡ None) × (short s.view c ≡ Some r)) → Takes (plain_mode kind read_only) s (Ok c) (refusal_line r) s
+          ⊎ ((first_of (reasons (tree_in s) (dir_form s.view.layout) read_only c) ≡ None) × (short s.view c ≡ Some r)) → Takes (mode_of kind read_only false) s (Ok c) (refusal_line r) s
       by (inl first) =
-          subst (λ (x : Result Tree Refusal). Answers (plain_mode kind read_only) s c x (refusal_line r) s) (sym (answer_refused (tree_in s) (dir_form s.view.layout) read_only c r first)) (refl, refl)
+          subst (λ (x : Result Tree Refusal). Answers (mode_of kind read_only false) s c x (refusal_line r) s) (sym (answer_refused (tree_in s) (dir_form s.view.layout) read_only c r first)) (refl, refl)
       by (inr last) = by_shortage (Some r) (refusal_line r) s last.0 last.1 (refl, refl)
 
 -- ---- what becomes of the line
@@ -126,10 +126,10 @@ spared_line kind s line c is refused leaves keeps image spares =
 -- the line breaks off, after a call of the disk failed
 fault_ends : {D : Type 0} (d : Ghosts D) (kind : Kind) (read_only : Bool) (s : State) (v : Volume) (line : List ℕ) (c : Command) (old new : D) (before after : Option (List ℕ)) → keeps_tree c ≡ false
     → command_of line ≡ Ok c → after ≡ before → ((image : List ℕ) → d.left_since new (d.moment old) image → Spares kind s.view c s.image image) → ForSome (d.bytes new) (Spares kind s.view c s.image)
-    → LineEnds d old new kind read_only s v line before after (Err LineFault.Disk)
+    → LineEnds d old new (mode_of kind read_only false) s v line before after (Err LineFault.Disk)
 fault_ends d kind read_only s v line c old new before after changes is same spared exit =
-    let begun : reply_begun (plain_mode kind read_only) s (command_of line) ≡ [] =
-    ap (reply_begun (plain_mode kind read_only) s) is ∙ ap (λ (b : Bool). if b then reading_reply (plain_mode kind read_only) s c else []) (not_reading c changes) in
+    let begun : reply_begun (mode_of kind read_only false) s (command_of line) ≡ [] =
+    ap (reply_begun (mode_of kind read_only false) s) is ∙ ap (λ (b : Bool). if b then reading_reply (mode_of kind read_only false) s c else []) (not_reading c changes) in
     let tree : keeps_tree_or false (command_of line) ≡ false = ap (keeps_tree_or false) is ∙ changes in
     let image : leaves_image_or false (command_of line) ≡ false = ap (leaves_image_or false) is ∙ not_reading c changes in
     inr (record {
@@ -145,8 +145,8 @@ module _ {D K : Type 0} {d : Ghosts D} (law : Laws d) (k : Sinks K) (kind : Kind
     (changes : keeps_tree c ≡ false) (is : command_of line ≡ Ok c) (quiet : d.pending old ≡ false) (told : d.bytes old ≡ Some s.image) (opens : OpensAs s.image kind s.view)
     (parts : ArePartsOf (parts_of was) s.view) (agree : (k : Kind) × Agree k (parts_of was)) (is_map : IsMapIn (parts_of was).layout) where
   -- a step of the command is one of the line
-  taken_by : (reply : List ℕ) (next : State) → Takes (plain_mode kind was.read_only) s (Ok c) reply next → Step (plain_mode kind was.read_only) s line reply next
-  taken_by reply next takes = subst (λ (r : Result Command Refusal). Takes (plain_mode kind was.read_only) s r reply next) (sym is) takes
+  taken_by : (reply : List ℕ) (next : State) → Takes (mode_of kind was.read_only false) s (Ok c) reply next → Step (mode_of kind was.read_only false) s line reply next
+  taken_by reply next takes = subst (λ (r : Result Command Refusal). Takes (mode_of kind was.read_only false) s r reply next) (sym is) takes
 
   -- What the command leaves of free space and of the map.
   space : (image : List ℕ) → CommandLeaves c (parts_of was) s.image image → SparesSpace s.view.layout s.view c s.image image
@@ -154,7 +154,7 @@ module _ {D K : Type 0} {d : Ghosts D} (law : Laws d) (k : Sinks K) (kind : Kind
 
   -- It was done.
   done_ends : (done : Unit {0}) (result : Result Bool LineFault) → IsAsked d c was v old new (Ok done) → Tells k before after (Ok done) result
-      → LineEnds d old new kind was.read_only s v line (k.taken before) (k.taken after) result
+      → LineEnds d old new (mode_of kind was.read_only false) s v line (k.taken before) (k.taken after) result
   done_ends done result asked tells = by result tells.0 tells.1.no_disk
     where
       accepted : refusal_in s.view s.image was.read_only c ≡ None
@@ -181,7 +181,7 @@ module _ {D K : Type 0} {d : Ghosts D} (law : Laws d) (k : Sinks K) (kind : Kind
       spared : (image : List ℕ) → d.left_since new (d.moment old) image → LeftBy kind s (is_error ok_line) (command_of line) image
       spared at left = spared_line kind s line c is (is_error ok_line) image tree at (spares_of (parts_of was) kind s.view c s.image at opens parts (asked.places.stops.since at left s.image told) (space at (asked.leaves.stops.since at left s.image told)))
 
-      step : IsDone d old new kind was.read_only s line ok_line next
+      step : IsDone d old new (mode_of kind was.read_only false) s line ok_line next
       step = record {
         step = taken_by ok_line next (done_takes kind was.read_only s c changes next accepted does);
         holds = (asked.changed s.image told).1;
@@ -192,7 +192,7 @@ module _ {D K : Type 0} {d : Ghosts D} (law : Laws d) (k : Sinks K) (kind : Kind
       }
 
       by : (result : Result Bool LineFault) → Answered ok_line (k.taken before) (k.taken after) result → (result ≡ Err LineFault.Disk → ⊥)
-          → LineEnds d old new kind was.read_only s v line (k.taken before) (k.taken after) result
+          → LineEnds d old new (mode_of kind was.read_only false) s v line (k.taken before) (k.taken after) result
       by (Ok refused) answered never = record {
         reply = ok_line;
         next = next;
@@ -205,27 +205,27 @@ module _ {D K : Type 0} {d : Ghosts D} (law : Laws d) (k : Sinks K) (kind : Kind
 
   -- It left everything.
   unchanged : (e : CommandError) (result : Result Bool LineFault) → IsAsked d c was v old new (Err e) → (e ≡ DiskFault → ⊥)
-      → (OnlyReads d old new → LineEnds d old new kind was.read_only s was line (k.taken before) (k.taken after) result)
-      → LineEnds d old new kind was.read_only s v line (k.taken before) (k.taken after) result
+      → (OnlyReads d old new → LineEnds d old new (mode_of kind was.read_only false) s was line (k.taken before) (k.taken after) result)
+      → LineEnds d old new (mode_of kind was.read_only false) s v line (k.taken before) (k.taken after) result
   unchanged e result asked never ends =
       let same = asked.keeps.unchanged never in
-      subst (λ (w : Volume). LineEnds d old new kind was.read_only s w line (k.taken before) (k.taken after) result) (sym same.0)
+      subst (λ (w : Volume). LineEnds d old new (mode_of kind was.read_only false) s w line (k.taken before) (k.taken after) result) (sym same.0)
       (ends (subst (λ (x : D). OnlyReads d old x) (sym same.1) (reads_start law old)))
 
   pub change_ends : (done : Result (Unit {0}) CommandError) (result : Result Bool LineFault) → IsAsked d c was v old new done → Tells k before after done result
-      → LineEnds d old new kind was.read_only s v line (k.taken before) (k.taken after) result
+      → LineEnds d old new (mode_of kind was.read_only false) s v line (k.taken before) (k.taken after) result
   change_ends (Ok done) result asked tells = done_ends done result asked tells
   change_ends (Err (Refused r)) result asked tells =
       let refused : refusal_in s.view s.image was.read_only c ≡ Some r =
       refusal_is (refusal_in s.view s.image was.read_only c) r (asked.refused s.view s.image (sound_law s.image kind s.view opens) parts) in
       unchanged (Refused r) result asked (λ fault. absurd (cc)) (λ reads.
-      left_ends law kind was s line old new (k.taken before) (k.taken after) quiet told opens (refusal_line r) result (taken_by (refusal_line r) s (refused_takes kind was.read_only s c changes r refused)) reads parts tells.1.no_disk tells.0)
+      left_ends law kind false was s line old new (k.taken before) (k.taken after) quiet told opens (refusal_line r) result (taken_by (refusal_line r) s (refused_takes kind was.read_only s c changes r refused)) reads parts tells.1.no_disk tells.0)
   change_ends (Err NoMemory) result asked tells =
       unchanged NoMemory result asked (λ fault. absurd (cc)) (λ reads.
-      subst (λ (x : Result Bool LineFault). LineEnds d old new kind was.read_only s was line (k.taken before) (k.taken after) x) (sym tells.0)
-      (unbegun_ends law kind was s line old new (k.taken before) (k.taken after) quiet told opens LineFault.NoMemory reads (ap k.taken (sym tells.1))))
+      subst (λ (x : Result Bool LineFault). LineEnds d old new (mode_of kind was.read_only false) s was line (k.taken before) (k.taken after) x) (sym tells.0)
+      (unbegun_ends law kind false was s line old new (k.taken before) (k.taken after) quiet told opens LineFault.NoMemory reads (ap k.taken (sym tells.1))))
   change_ends (Err DiskFault) result asked tells =
-      subst (λ (x : Result Bool LineFault). LineEnds d old new kind was.read_only s v line (k.taken before) (k.taken after) x) (sym tells.0)
+      subst (λ (x : Result Bool LineFault). LineEnds d old new (mode_of kind was.read_only false) s v line (k.taken before) (k.taken after) x) (sym tells.0)
       (fault_ends d kind was.read_only s v line c old new (k.taken before) (k.taken after) changes is (ap k.taken tells.1)
       (λ at left. spares_of (parts_of was) kind s.view c s.image at opens parts (asked.places.stops.since at left s.image told) (space at (asked.leaves.stops.since at left s.image told)))
       (λ at here. (let exit = asked.places.exit s.image told in

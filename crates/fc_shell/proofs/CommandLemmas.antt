@@ -4,15 +4,13 @@ use Rattle.std.specs.Prelude.{slice_get}
 use Rattle.fc_names.specs.declared.name.NameForm.{NameForm}
 use Rattle.fc_names.specs.declared.refusal.Refusal.{Refusal}
 use Rattle.fc_names.specs.declared.refusal.Refusal.TheVariants as refusals
-use Rattle.fc_record.specs.declared.Kind.{Kind}
 use Rattle.fc_model.specs.Tree.{Tree}
 use Rattle.fc_model.specs.Command.{Command}
 use Rattle.fc_model.specs.Answer.{first_of, reasons}
 use Rattle.fc_image.specs.Layout.{Layout}
-use Rattle.fc_image.specs.effects.Effect.{Changes, State}
+use Rattle.fc_image.specs.effects.Effect.{State}
 use Rattle.fc_runs.specs.ReadLaw.{is_reading}
-use Rattle.fc_runs.specs.Run.{Effect, keeps_tree, layout_reason}
-use Rattle.fc_shell.specs.Modes.{plain_mode}
+use Rattle.fc_runs.specs.Run.{ChangesBy, Effect, Mode, keeps_tree, layout_reason}
 
 -- ---- which commands these are
 
@@ -51,22 +49,22 @@ no_reason (Layout.Old space) (Command.Rename from to) changes = refl
 no_reason (Layout.Old space) (Command.Set path load exec access) changes = refl
 no_reason (Layout.Old space) (Command.Mark path attrs) changes = refl
 
--- and outside the safe mode they do what is said of changes.
-pub effect_of : (kind : Kind) (read_only : Bool) (s next : State) (c : Command) (t : Tree) → keeps_tree c ≡ false → Changes kind s next c t → Effect (plain_mode kind read_only) s c t next
-effect_of kind read_only s next (Command.Cat path) t changes does = absurd (cc)
-effect_of kind read_only s next (Command.Load path) t changes does = absurd (cc)
-effect_of kind read_only s next (Command.Digest path) t changes does = absurd (cc)
-effect_of kind read_only s next Command.Free t changes does = absurd (cc)
-effect_of kind read_only s next Command.Check t changes does = absurd (cc)
-effect_of kind read_only s next Command.Compact t changes does = absurd (cc)
-effect_of kind read_only s next Command.Reclaim t changes does = absurd (cc)
-effect_of kind read_only s next (Command.Save path load exec bytes) t changes does = does
-effect_of kind read_only s next (Command.Create path load exec len) t changes does = does
-effect_of kind read_only s next (Command.Cdir path) t changes does = does
-effect_of kind read_only s next (Command.Delete path) t changes does = does
-effect_of kind read_only s next (Command.Rename from to) t changes does = does
-effect_of kind read_only s next (Command.Set path load exec access) t changes does = does
-effect_of kind read_only s next (Command.Mark path attrs) t changes does = does
+-- and they do what is said of changes in the mode.
+pub effect_of : (mode : Mode) (s next : State) (c : Command) (t : Tree) → keeps_tree c ≡ false → ChangesBy mode.safe mode.kind s next c t → Effect mode s c t next
+effect_of mode s next (Command.Cat path) t changes does = absurd (cc)
+effect_of mode s next (Command.Load path) t changes does = absurd (cc)
+effect_of mode s next (Command.Digest path) t changes does = absurd (cc)
+effect_of mode s next Command.Free t changes does = absurd (cc)
+effect_of mode s next Command.Check t changes does = absurd (cc)
+effect_of mode s next Command.Compact t changes does = absurd (cc)
+effect_of mode s next Command.Reclaim t changes does = absurd (cc)
+effect_of mode s next (Command.Save path load exec bytes) t changes does = does
+effect_of mode s next (Command.Create path load exec len) t changes does = does
+effect_of mode s next (Command.Cdir path) t changes does = does
+effect_of mode s next (Command.Delete path) t changes does = does
+effect_of mode s next (Command.Rename from to) t changes does = does
+effect_of mode s next (Command.Set path load exec access) t changes does = does
+effect_of mode s next (Command.Mark path attrs) t changes does = does
 
 -- ---- the first refusal
 

@@ -26,13 +26,13 @@ use Rattle.fc_image.specs.Stays.{IsNewKind, IsNewLayout, OpensAs}
 use Rattle.fc_image.proofs.FreeLemmas.{parts_of as opened_parts}
 use Rattle.fc_image.specs.effects.Effect.{Compacts, State, tree_in}
 use Rattle.fc_image.specs.effects.Sharing.{new_ids}
-use Rattle.fc_image.specs.safe.SafeEffect.{HasTree}
+use Rattle.fc_image.specs.safe.SafeEffect.{HasTree, HasTreeBeforeOrAfter}
 use Rattle.fc_image.specs.effects.Short.{needed_bits, needed_ids, old_need, short, space_reasons}
 use Rattle.fc_script.specs.Lines.{command_of}
 use Rattle.fc_script.specs.Texts.{ok_line, refusal_line}
 use Rattle.fc_runs.specs.Early.{reply_begun}
-use Rattle.fc_runs.specs.Run.{Answers, Mode, Serves, Step, Takes, is_error, keeps_tree_or, layout_reason, shortage}
-use Rattle.fc_runs.specs.Stops.{leaves_image_or}
+use Rattle.fc_runs.specs.Run.{Answers, Mode, Serves, Step, Takes, is_error, keeps_tree_or, layout_reason, shortage, tree_after}
+use Rattle.fc_runs.specs.Stops.{LeftBy, leaves_image_or}
 use Rattle.fc_tree.specs.Parts.{ArePartsOf}
 use Rattle.fc_holdings.specs.declared.error.CommandError.{CommandError}
 use Rattle.fc_volume.specs.Volume.{Volume, parts_of}
@@ -43,7 +43,7 @@ use Rattle.fc_shell.specs.Reads.{is_reading_line}
 use Rattle.fc_shell.specs.Changing.{IsCompacting, Tells, done_reply}
 use Rattle.fc_runs.specs.Meanwhile.{LeavesTree}
 use Rattle.fc_shell.specs.Line.{IsDone, KeepsGoing, LineEnds}
-use Rattle.fc_shell.specs.Modes.{plain_mode}
+use Rattle.fc_shell.specs.Modes.{SuitsMode, mode_of}
 use Rattle.fc_shell.specs.Writing.{Wrote, WrotePart}
 use Rattle.fc_shell.proofs.ChangeLemmas.{going}
 use Rattle.fc_shell.proofs.ShortageLemmas.{few_holes, new_enough, no_need, old_enough}
@@ -52,6 +52,9 @@ use Rattle.fc_shell.proofs.WritingLemmas.{wrote_nothing}
 use Rattle.fc_laws.proofs.lemmas.takeover.KindLemmas.{old_never}
 use Rattle.fc_runs.proofs.ErrorLemmas.{ok_no_error}
 use Rattle.fc_runs.proofs.LeftLemmas.{left_if_kept}
+use Rattle.fc_runs.proofs.ModeLemmas.{as_either}
+use Rattle.fc_runs.proofs.SafeShortageLemmas.{keeping_enough}
+use Rattle.fc_shell.proofs.SuitsLemmas.{suits_new}
 use Rattle.fc_volume.proofs.StandsLemmas.{new_layout as new_of}
 
 pub or_true : (b : Bool) → (b || true) ≡ true
@@ -95,17 +98,18 @@ no_reason : (layout : Layout) → layout_reason layout Command.Compact ≡ None
 no_reason (Layout.New m) = refl
 no_reason (Layout.Old space) = refl
 
-no_shortage : (image : List ℕ) (kind : Kind) (v : Opened) → OpensAs image kind v → shortage false v Command.Compact ≡ None
-no_shortage image kind v opens = ap₂ (λ (a b : Option Refusal). option_map refusal_line (first_of (a ∷ b ∷ []))) (no_reason v.layout) (never_short image kind v opens)
+no_shortage : (image : List ℕ) (kind : Kind) (v : Opened) → OpensAs image kind v → (safe : Bool) → shortage safe v Command.Compact ≡ None
+no_shortage image kind v opens false = ap₂ (λ (a b : Option Refusal). option_map refusal_line (first_of (a ∷ b ∷ []))) (no_reason v.layout) (never_short image kind v opens)
+no_shortage image kind v opens true = keeping_enough v Command.Compact (never_short image kind v opens) refl
 
 -- ---- steps
 
-compact_step : (mode : Mode) (s next : State) (line : List ℕ) → mode.read_only ≡ false → mode.safe ≡ false → command_of line ≡ Ok Command.Compact
+compact_step : (mode : Mode) (s next : State) (line : List ℕ) → mode.read_only ≡ false → command_of line ≡ Ok Command.Compact
     → OpensAs s.image mode.kind s.view → Compacts mode.kind s next → Step mode s line ok_line next
-compact_step mode s next line writable plain is opens compacts =
+compact_step mode s next line writable is opens compacts =
     let answered : answer (tree_in s) (dir_form s.view.layout) mode.read_only Command.Compact ≡ Ok (tree_in s) =
     ap (λ (b : Bool). answer (tree_in s) (dir_form s.view.layout) b Command.Compact) writable ∙ answer_writable (tree_in s) (dir_form s.view.layout) in
-    let enough : shortage mode.safe s.view Command.Compact ≡ None = ap (λ (b : Bool). shortage b s.view Command.Compact) plain ∙ no_shortage s.image mode.kind s.view opens in
+    let enough : shortage mode.safe s.view Command.Compact ≡ None = no_shortage s.image mode.kind s.view opens mode.safe in
     let serves : Serves mode s Command.Compact (tree_in s) (shortage mode.safe s.view Command.Compact) ok_line next =
     subst (λ (o : Option (List ℕ)). Serves mode s Command.Compact (tree_in s) o ok_line next) (sym enough) (refl, compacts) in
     subst (λ (r : Result Command Refusal). Takes mode s r ok_line next) (sym is)
@@ -134,8 +138,15 @@ writable_ok false done refused = refl
 
 -- ---- what becomes of the line
 
-module _ {D K : Type 0} {d : Ghosts D} (law : Laws d) (k : Sinks K) (kind : Kind) (s : State) (line : List ℕ) (was v : Volume) (old new : D) (before after : K)
-    (is : command_of line ≡ Ok Command.Compact) (quiet : d.pending old ≡ false) (told : d.bytes old ≡ Some s.image) (opens : OpensAs s.image kind s.view) (parts : ArePartsOf (parts_of was) s.view) where
+module _ {D K : Type 0} {d : Ghosts D} (law : Laws d) (k : Sinks K) (kind : Kind) (safe : Bool) (s : State) (line : List ℕ) (was v : Volume) (old new : D) (before after : K)
+    (suits : SuitsMode safe was) (is : command_of line ≡ Ok Command.Compact) (quiet : d.pending old ≡ false) (told : d.bytes old ≡ Some s.image) (opens : OpensAs s.image kind s.view) (parts : ArePartsOf (parts_of was) s.view) where
+  abbrev mode : Mode
+  mode = mode_of kind was.read_only safe
+
+  -- The safe mode has a new map.
+  new_map_of : safe ≡ true → IsNewLayout s.view.layout
+  new_map_of e = subst IsNewLayout parts.layout (suits_new (parts_of was).layout (parts_of was).nodes (suits e))
+
   -- A crash meanwhile leaves the tree, on a new map.
   kept : (done : Result (Unit {0}) CommandError) → IsCompacting d was v old new done → LeavesTree d old new kind s
   kept done asked new_map image left =
@@ -155,7 +166,7 @@ module _ {D K : Type 0} {d : Ghosts D} (law : Laws d) (k : Sinks K) (kind : Kind
 
   -- It was done.
   done_ends : (done : Unit {0}) (result : Result Bool LineFault) → IsCompacting d was v old new (Ok done) → Tells k before after (Ok done) result
-      → LineEnds d old new kind was.read_only s v line (k.taken before) (k.taken after) result
+      → LineEnds d old new mode s v line (k.taken before) (k.taken after) result
   done_ends done result asked tells = by result tells.0 tells.1.no_disk
     where
       next : State
@@ -170,18 +181,19 @@ module _ {D K : Type 0} {d : Ghosts D} (law : Laws d) (k : Sinks K) (kind : Kind
       tree : keeps_tree_or (is_error ok_line) (command_of line) ≡ true
       tree = ap (keeps_tree_or (is_error ok_line)) is ∙ or_true (is_error ok_line)
 
-      step : IsDone d old new kind was.read_only s line ok_line next
+      step : IsDone d old new mode s line ok_line next
       step = record {
-        step = compact_step (plain_mode kind was.read_only) s next line (writable_ok was.read_only done asked.refused.1) refl is opens compacts;
+        step = compact_step mode s next line (writable_ok was.read_only done asked.refused.1) is opens compacts;
         holds = (asked.compacted s.image told).1;
         opens = compacts.opens.opens;
         kept = λ keep. kept (Ok done) asked;
         still = λ leaves. absurd (let clash : false ≡ true = sym image ∙ leaves in cc);
-        spared = λ at left. left_if_kept _ _ kind s _ at image tree (λ new_map. kept (Ok done) asked new_map at left);
+        spared = λ at left. as_either (HasTreeBeforeOrAfter kind s (tree_in next)) (LeftBy kind s (is_error ok_line) (command_of line)) at safe (λ e. inl (kept (Ok done) asked (new_map_of e) at left))
+            (λ e. left_if_kept _ _ kind s _ at image tree (λ new_map. kept (Ok done) asked new_map at left));
       }
 
       by : (result : Result Bool LineFault) → Answered ok_line (k.taken before) (k.taken after) result → (result ≡ Err LineFault.Disk → ⊥)
-          → LineEnds d old new kind was.read_only s v line (k.taken before) (k.taken after) result
+          → LineEnds d old new mode s v line (k.taken before) (k.taken after) result
       by (Ok refused) answered never = record {
         reply = ok_line;
         next = next;
@@ -193,43 +205,45 @@ module _ {D K : Type 0} {d : Ghosts D} (law : Laws d) (k : Sinks K) (kind : Kind
       by (Err fault) answered never = inl (record { reply = ok_line; next = next; done = step; part = answered; no_disk = λ disk. never (ap Err disk) })
 
   -- The disk failed.
-  fails : IsCompacting d was v old new (Err CommandError.DiskFault) → k.taken after ≡ k.taken before → LineEnds d old new kind was.read_only s v line (k.taken before) (k.taken after) (Err LineFault.Disk)
+  fails : IsCompacting d was v old new (Err CommandError.DiskFault) → k.taken after ≡ k.taken before → LineEnds d old new mode s v line (k.taken before) (k.taken after) (Err LineFault.Disk)
   fails asked same =
-      let begun : reply_begun (plain_mode kind was.read_only) s (command_of line) ≡ [] = ap (reply_begun (plain_mode kind was.read_only) s) is in
+      let begun : reply_begun mode s (command_of line) ≡ [] = ap (reply_begun mode s) is in
       inr (record {
         part = subst (WrotePart (k.taken before) (k.taken after)) (sym begun) (0, subst (λ (a : Option (List ℕ)). Wrote (k.taken before) a []) (sym same) (wrote_nothing (k.taken before)));
         holds = λ never. absurd (never refl);
         kept = λ keep. kept (Err CommandError.DiskFault) asked;
         still = λ leaves. absurd (let clash : false ≡ true = sym (ap (leaves_image_or false) is) ∙ leaves in cc);
-        spared = λ at left. left_if_kept _ _ kind s _ at (ap (leaves_image_or false) is) (ap (keeps_tree_or false) is) (λ new_map. kept (Err CommandError.DiskFault) asked new_map at left);
-        exit = λ at here. left_if_kept _ _ kind s _ at (ap (leaves_image_or false) is) (ap (keeps_tree_or false) is) (λ new_map. exits (Err CommandError.DiskFault) asked new_map at here);
+        spared = λ at left. as_either (HasTreeBeforeOrAfter kind s (tree_after mode s (command_of line))) (LeftBy kind s false (command_of line)) at safe (λ e. inl (kept (Err CommandError.DiskFault) asked (new_map_of e) at left))
+            (λ e. left_if_kept _ _ kind s _ at (ap (leaves_image_or false) is) (ap (keeps_tree_or false) is) (λ new_map. kept (Err CommandError.DiskFault) asked new_map at left));
+        exit = λ at here. as_either (HasTreeBeforeOrAfter kind s (tree_after mode s (command_of line))) (LeftBy kind s false (command_of line)) at safe (λ e. inl (exits (Err CommandError.DiskFault) asked (new_map_of e) at here))
+            (λ e. left_if_kept _ _ kind s _ at (ap (leaves_image_or false) is) (ap (keeps_tree_or false) is) (λ new_map. exits (Err CommandError.DiskFault) asked new_map at here));
       })
 
   -- It left everything.
   unchanged : (e : CommandError) (result : Result Bool LineFault) → IsCompacting d was v old new (Err e) → (e ≡ CommandError.DiskFault → ⊥)
-      → (OnlyReads d old new → LineEnds d old new kind was.read_only s was line (k.taken before) (k.taken after) result)
-      → LineEnds d old new kind was.read_only s v line (k.taken before) (k.taken after) result
+      → (OnlyReads d old new → LineEnds d old new mode s was line (k.taken before) (k.taken after) result)
+      → LineEnds d old new mode s v line (k.taken before) (k.taken after) result
   unchanged e result asked never ends =
       let same = asked.keeps.unchanged never in
-      subst (λ (w : Volume). LineEnds d old new kind was.read_only s w line (k.taken before) (k.taken after) result) (sym same.0)
+      subst (λ (w : Volume). LineEnds d old new mode s w line (k.taken before) (k.taken after) result) (sym same.0)
       (ends (subst (λ (x : D). OnlyReads d old x) (sym same.1) (reads_start law old)))
 
   pub compact_ends : (done : Result (Unit {0}) CommandError) (result : Result Bool LineFault) → IsCompacting d was v old new done → Tells k before after done result
-      → LineEnds d old new kind was.read_only s v line (k.taken before) (k.taken after) result
+      → LineEnds d old new mode s v line (k.taken before) (k.taken after) result
   compact_ends (Ok done) result asked tells = done_ends done result asked tells
   compact_ends (Err (CommandError.Refused r)) result asked tells =
       let why : r ≡ refusals.ReadOnly = only_read_only (parts_of was).layout r asked.errors in
       let locked : was.read_only ≡ true = asked.refused.0 (ap (λ (x : Refusal). Err (CommandError.Refused x)) why) in
-      let step : Step (plain_mode kind was.read_only) s line (refusal_line r) s =
-      subst (λ (x : Refusal). Step (plain_mode kind was.read_only) s line (refusal_line x) s) (sym why) (refused_step (plain_mode kind was.read_only) s line locked is) in
+      let step : Step mode s line (refusal_line r) s =
+      subst (λ (x : Refusal). Step mode s line (refusal_line x) s) (sym why) (refused_step mode s line locked is) in
       unchanged (CommandError.Refused r) result asked (λ fault. absurd (cc)) (λ reads.
-      left_ends law kind was s line old new (k.taken before) (k.taken after) quiet told opens (refusal_line r) result step reads parts tells.1.no_disk tells.0)
+      left_ends law kind safe was s line old new (k.taken before) (k.taken after) quiet told opens (refusal_line r) result step reads parts tells.1.no_disk tells.0)
   compact_ends (Err CommandError.NoMemory) result asked tells =
       unchanged CommandError.NoMemory result asked (λ fault. absurd (cc)) (λ reads.
-      subst (λ (x : Result Bool LineFault). LineEnds d old new kind was.read_only s was line (k.taken before) (k.taken after) x) (sym tells.0)
-      (unbegun_ends law kind was s line old new (k.taken before) (k.taken after) quiet told opens LineFault.NoMemory reads (ap k.taken (sym tells.1))))
+      subst (λ (x : Result Bool LineFault). LineEnds d old new mode s was line (k.taken before) (k.taken after) x) (sym tells.0)
+      (unbegun_ends law kind safe was s line old new (k.taken before) (k.taken after) quiet told opens LineFault.NoMemory reads (ap k.taken (sym tells.1))))
   compact_ends (Err CommandError.DiskFault) result asked tells =
-      subst (λ (x : Result Bool LineFault). LineEnds d old new kind was.read_only s v line (k.taken before) (k.taken after) x) (sym tells.0) (fails asked (ap k.taken tells.1))
+      subst (λ (x : Result Bool LineFault). LineEnds d old new mode s v line (k.taken before) (k.taken after) x) (sym tells.0) (fails asked (ap k.taken tells.1))
 
 -- ---- what it keeps
 

@@ -10,14 +10,14 @@ use Rattle.hex.specs.Hex.{encode_lower}
 use Rattle.sha2.specs.Sha256.{sha256}
 use Rattle.fc_demo.proofs.SizeLemmas.{script_short}
 use Rattle.fc_device.specs.declared.disk.Disk.{Ghosts}
-use Rattle.fc_record.specs.declared.Kind.{Kind}
 use Rattle.fc_image.specs.effects.Effect.{State}
+use Rattle.fc_image.specs.safe.SafeEffect.{HasTreeBeforeOrAfter}
 use Rattle.fc_script.specs.Lines.{command_of}
 use Rattle.fc_script.specs.Texts.{line_of}
 use Rattle.fc_runs.specs.Demo.{demo_script}
 use Rattle.fc_runs.specs.Early.{reply_begun, text_begun}
 use Rattle.fc_runs.specs.Promises.{Cause, HasRun, HasStopped, spares_disk}
-use Rattle.fc_runs.specs.Run.{Mode, Steps, commands_in, demo_line, text_of}
+use Rattle.fc_runs.specs.Run.{HasTreeAfter, Mode, Steps, commands_in, demo_line, text_of, tree_after}
 use Rattle.fc_runs.specs.Stops.{MayHaveLeft, Stops, next_keeps_tree, next_leaves_image}
 use Rattle.fc_words.specs.CommandLine.{Request, Settings, Text, format_of, image_of, is_decimal, is_set, number_of, optional, request_from, request_of, settings_after, value_of}
 use Rattle.fc_words.specs.declared.Format.{Format as Word}
@@ -27,7 +27,6 @@ use Rattle.fc_shell.specs.declared.ending.End.TheVariants.{DiskFault, OutFault, 
 use Rattle.fc_shell.specs.declared.tally.Tally.{Tally}
 use Rattle.fc_shell.specs.Counted.{AreCounted, has_refused, tally_line}
 use Rattle.fc_shell.specs.Ends.{end_after}
-use Rattle.fc_shell.specs.Modes.{plain_mode}
 use Rattle.fc_shell.specs.Promise.{EndsOver}
 use Rattle.fc_shell.specs.Replies.{demo_limit, script_limit}
 use Rattle.fc_shell.specs.Serving.{ServesAs, cause_of}
@@ -102,10 +101,7 @@ get_none : (xs : List (List ℕ)) → (let o : Option (List ℕ) = slice_get xs 
 get_none [] = refl
 get_none (x ∷ xs) = get_none xs
 
-module _ {D : Type 0} (d : Ghosts D) (old new : D) (kind : Kind) (read_only : Bool) (s : State) (n : ℕ) (script : List ℕ) (own : demo_script n ≡ script) where
-  abbrev mode : Mode
-  mode = plain_mode kind read_only
-
+module _ {D : Type 0} (d : Ghosts D) (old new : D) (mode : Mode) (s : State) (n : ℕ) (script : List ℕ) (own : demo_script n ≡ script) where
   -- whatever was written
   stops_demo : (end : State) (replies : List (List ℕ)) (text line : List ℕ) → Stops d old new mode false None s end (commands_in script) replies text
       → Stops d old new mode false (Some n) s end (commands_in (demo_script n)) replies line
@@ -115,11 +111,15 @@ module _ {D : Type 0} (d : Ghosts D) (old new : D) (kind : Kind) (read_only : Bo
     still = λ fresh none leave image left. absurd (cc);
     rest = λ leave image left. stops.rest (subst (λ (t : List ℕ). next_leaves_image (commands_in t) replies ≡ true) own leave) image left;
     along = λ plain fresh image left.
-        subst (λ (t : List ℕ). IsLeftInLine (StepsTo mode s (commands_in t) replies) (LeftByLine kind) (commands_in t) replies image) (sym own) (stops.along plain fresh image left);
+        subst (λ (t : List ℕ). IsLeftInLine (StepsTo mode s (commands_in t) replies) (LeftByLine mode.kind) (commands_in t) replies image) (sym own) (stops.along plain fresh image left);
     ending = λ plain image left.
-        subst (λ (t : List ℕ). LeftIn (LeftByLine kind end) end (slice_get (commands_in t) (length replies)) None image) (sym own) (stops.ending plain image left);
-    during = λ safe fresh image left. absurd (no_fresh safe);
-    exit = λ safe image left. absurd (no_fresh safe);
+        subst (λ (t : List ℕ). LeftIn (LeftByLine mode.kind end) end (slice_get (commands_in t) (length replies)) None image) (sym own) (stops.ending plain image left);
+    during = λ safe fresh image left.
+        subst (λ (t : List ℕ). HasTreeAfter (λ between. Unit {0}) mode s (commands_in t) replies 0 image) (sym own) (stops.during safe fresh image left);
+    exit = λ safe image left.
+        let has = stops.exit safe image left in
+        subst (λ (t : List ℕ). HasTreeAfter (λ between. Unit {0}) mode s (commands_in t) replies 0 image) (sym own)
+        (record { count = has.count; enough = omega arith; within = has.within; mid = has.mid; steps = has.steps; tree = has.tree });
   }
 
   -- All lines were done, and its line was written,
@@ -163,7 +163,9 @@ module _ {D : Type 0} (d : Ghosts D) (old new : D) (kind : Kind) (read_only : Bo
         whole = λ demo disk. absurd (cc);
         holds = λ spares. has.holds;
         settled = λ spares. inl has.settled;
-        spared = λ plain image here. subst (λ (o : Option (List ℕ)). LeftIn (LeftByLine kind has.end) has.end o None image) (sym none) (one_told (sym here ∙ has.holds));
+        spared = λ plain image here. subst (λ (o : Option (List ℕ)). LeftIn (LeftByLine mode.kind has.end) has.end o None image) (sym none) (one_told (sym here ∙ has.holds));
+        saved = λ safe image here. subst (λ (o : Option (List ℕ)). LeftIn (λ refused line. HasTreeBeforeOrAfter mode.kind has.end (tree_after mode has.end (command_of line))) has.end o None image) (sym none)
+            (one_told (sym here ∙ has.holds));
         stops = λ quiet. stops_demo has.end replies text line (has.stops quiet);
       }
 
@@ -182,7 +184,10 @@ module _ {D : Type 0} (d : Ghosts D) (old new : D) (kind : Kind) (read_only : Bo
     holds = λ spares. has.holds (less spares);
     settled = λ spares. has.settled (less spares);
     spared = λ plain image here.
-        subst (λ (t : List ℕ). LeftIn (LeftByLine kind has.end) has.end (slice_get (commands_in t) (length has.ended.replies)) None image) (sym own) (has.spared plain image here);
+        subst (λ (t : List ℕ). LeftIn (LeftByLine mode.kind has.end) has.end (slice_get (commands_in t) (length has.ended.replies)) None image) (sym own) (has.spared plain image here);
+    saved = λ safe image here.
+        subst (λ (t : List ℕ). LeftIn (λ refused line. HasTreeBeforeOrAfter mode.kind has.end (tree_after mode has.end (command_of line))) has.end (slice_get (commands_in t) (length has.ended.replies)) None image) (sym own)
+        (has.saved safe image here);
     stops = λ quiet. stops_demo has.end has.ended.replies text [] (has.stops quiet);
   }
 
@@ -191,7 +196,7 @@ module _ {D : Type 0} (d : Ghosts D) (old new : D) (kind : Kind) (read_only : Bo
   over_demo false line has = has
 
   -- All lines were done, and then the line was told, or wasn't.
-  pub demo_ends : (bytes : List ℕ) (tally : Tally) (end : End) (before after : Option (List ℕ)) → ServesAs d old new kind read_only s script (Some []) (Some bytes) (Ok tally)
+  pub demo_ends : (bytes : List ℕ) (tally : Tally) (end : End) (before after : Option (List ℕ)) → ServesAs d old new mode s script (Some []) (Some bytes) (Ok tally)
       → (end ≡ end_after (has_refused tally)) ⊎ ((end ≡ OutFault) ⊎ (end ≡ NoMemory)) → (end ≡ end_after (has_refused tally) → Wrote before after (tally_line n tally bytes))
       → WrotePart before after (tally_line n tally bytes) → (end ≡ NoMemory → after ≡ before)
       → (text : List ℕ) × Wrote before after text × EndsOver d old new mode false (Some n) s script text end
@@ -213,12 +218,12 @@ module _ {D : Type 0} (d : Ghosts D) (old new : D) (kind : Kind) (read_only : Bo
       )
 
   -- An I/O error of the disk came in a line,
-  pub demo_fault : (before after told : Option (List ℕ)) → ServesAs d old new kind read_only s script before after (Err LineFault.Disk)
+  pub demo_fault : (before after told : Option (List ℕ)) → ServesAs d old new mode s script before after (Err LineFault.Disk)
       → (text : List ℕ) × Wrote told told text × EndsOver d old new mode false (Some n) s script text DiskFault
   demo_fault before after told served = ([], wrote_nothing told, inl (broke_demo served.0 Cause.Disk Cause.Disk (λ same. same) served.2))
 
   -- or memory was short, for a line or for its reply.
-  pub demo_memory : (fault : LineFault) (before after told : Option (List ℕ)) → (fault ≡ LineFault.Out) ⊎ (fault ≡ LineFault.NoMemory) → ServesAs d old new kind read_only s script before after (Err fault)
+  pub demo_memory : (fault : LineFault) (before after told : Option (List ℕ)) → (fault ≡ LineFault.Out) ⊎ (fault ≡ LineFault.NoMemory) → ServesAs d old new mode s script before after (Err fault)
       → (text : List ℕ) × Wrote told told text × EndsOver d old new mode false (Some n) s script text NoMemory
   demo_memory fault before after told (inl is) served = ([], wrote_nothing told, inl (broke_demo served.0 (cause_of fault) Cause.Memory (λ same. ap (λ (f : LineFault). spares_disk (cause_of f)) is) served.2))
   demo_memory fault before after told (inr is) served = ([], wrote_nothing told, inl (broke_demo served.0 (cause_of fault) Cause.Memory (λ same. ap (λ (f : LineFault). spares_disk (cause_of f)) is) served.2))

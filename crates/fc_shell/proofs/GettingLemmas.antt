@@ -45,17 +45,16 @@ use Rattle.fc_shell.specs.declared.answer.LineFault.{LineFault}
 use Rattle.fc_shell.specs.declared.moving.MoveFault.{MoveFault}
 use Rattle.fc_shell.specs.Answered.{Answered}
 use Rattle.fc_shell.specs.Getting.{FileMoves, IsGot, IsNotGot}
-use Rattle.fc_shell.specs.Modes.{plain_mode}
+use Rattle.fc_shell.specs.Modes.{mode_of}
 use Rattle.fc_shell.specs.MoveFaults.{moved_result}
 use Rattle.fc_shell.specs.Moving.{LineMoves, move_cause}
 use Rattle.fc_shell.specs.Writing.{Wrote}
-use Rattle.fc_shell.proofs.MovingLemmas.{moved_same, cuts_move}
+use Rattle.fc_shell.proofs.MovingLemmas.{broke_left, moved_same, cuts_move}
 use Rattle.fc_tree.proofs.PathLemmas.{some_same as same_node}
 use Rattle.fc_shell.proofs.StepLemmas.{same_image, same_tree}
 use Rattle.fc_shell.proofs.WritingLemmas.{wrote_nothing}
 use Rattle.fc_device.proofs.StopLemmas.{one_told}
 use Rattle.fc_runs.proofs.HostServingLemmas.{stays_same}
-use Rattle.fc_runs.proofs.LeftLemmas.{host_left_same}
 
 -- ---- the file's bytes
 
@@ -143,11 +142,11 @@ told_file host bytes asked files left before after reply got (Err fault) never i
 
 -- ---- the line
 
-module _ {D : Type 0} {d : Ghosts D} (law : Laws d) (kind : Kind) (v : Volume) (s : State) (path : Path) (host : List ℕ) (old new : D) (before after : Option (List ℕ))
+module _ {D : Type 0} {d : Ghosts D} (law : Laws d) (kind : Kind) (safe : Bool) (v : Volume) (s : State) (path : Path) (host : List ℕ) (old new : D) (before after : Option (List ℕ))
     (quiet : d.pending old ≡ false) (told : d.bytes old ≡ Some s.image) (opens : OpensAs s.image kind s.view) (reads : OnlyReads d old new) (t : Tree)
-    (accepted : answer_in (plain_mode kind v.read_only) s (Command.Load path) ≡ Ok t) (asked : List Asked) (files left : Option Files) where
+    (accepted : answer_in (mode_of kind v.read_only safe) s (Command.Load path) ≡ Ok t) (asked : List Asked) (files left : Option Files) where
   abbrev mode : Mode
-  mode = plain_mode kind v.read_only
+  mode = mode_of kind v.read_only safe
 
   abbrev line : Result HostLine Refusal
   line = Ok (HostLine.Get path host)
@@ -163,11 +162,11 @@ module _ {D : Type 0} {d : Ghosts D} (law : Laws d) (kind : Kind) (v : Volume) (
   not_begun (inr some) = inr (is_ok, some)
 
   pub got_moves : (r : Result Bool MoveFault) → ArePartsOf (parts_of v) s.view → FileMoves host (file_in s path) asked files left before after r
-      → LineMoves d old new kind v.read_only s v line before after asked files left r
+      → LineMoves d old new mode s v line before after asked files left r
   got_moves (Ok refused) parts x = record {
     reply = x.0;
     next = s;
-    moved = moved_same law kind v s line old new before after quiet told opens reads x.0 asked files left (got_step x.0 x.1) x.1.answered;
+    moved = moved_same law kind safe v s line old new before after quiet told opens reads x.0 asked files left (got_step x.0 x.1) x.1.answered;
     parts = parts;
     wrote = x.2;
     refused_is = x.3;
@@ -175,7 +174,7 @@ module _ {D : Type 0} {d : Ghosts D} (law : Laws d) (kind : Kind) (v : Volume) (
   got_moves (Err fault) parts (inl x) = inl (record {
     reply = x.0;
     next = s;
-    moved = moved_same law kind v s line old new before after quiet told opens reads x.0 asked files left (got_step x.0 x.1) x.1.answered;
+    moved = moved_same law kind safe v s line old new before after quiet told opens reads x.0 asked files left (got_step x.0 x.1) x.1.answered;
     part = x.2;
     cuts = x.3;
   })
@@ -186,10 +185,10 @@ module _ {D : Type 0} {d : Ghosts D} (law : Laws d) (kind : Kind) (v : Volume) (
       back = x.1.back;
       files_left = λ held known. let rest = x.1.files_left held known in (rest.0, rest.1, ⊎_elim (λ same. inl same) (λ part. inr (is_ok, part.0, part.1)) rest.2);
       holds = λ spares. (s.image, reads.bytes ∙ told, stays_same (move_cause fault) kind s opens);
-      kept = λ keeps. same_tree law kind v s [] old new before after quiet told opens reads.stops;
-      still = λ leaves. same_image law kind v s [] old new before after quiet told opens reads.stops;
-      spared = λ image since. host_left_same kind s opens image (same_image law kind v s [] old new before after quiet told opens reads.stops image since) false line;
-      exit = λ image here. host_left_same kind s opens image (one_told (sym here ∙ (reads.bytes ∙ told))) false line;
+      kept = λ keeps. same_tree law kind safe v s [] old new before after quiet told opens reads.stops;
+      still = λ leaves. same_image law kind safe v s [] old new before after quiet told opens reads.stops;
+      spared = λ image since. broke_left mode s opens line asked files image (same_image law kind safe v s [] old new before after quiet told opens reads.stops image since);
+      exit = λ image here. broke_left mode s opens line asked files image (one_told (sym here ∙ (reads.bytes ∙ told)));
     };
   })
 

@@ -16,13 +16,13 @@ use Rattle.fc_runs.specs.Run.{Mode, commands_in}
 use Rattle.fc_runs.specs.Stops.{MayHaveLeft}
 use Rattle.fc_words.specs.CommandLine.{Request}
 use Rattle.fc_shell.specs.declared.ending.End.{End}
-use Rattle.fc_shell.specs.declared.ending.End.TheVariants.{Done, Refused, BadWords, BadImage, DiskFault, ScriptFault, OutFault, HostFault, NoMemory, ScriptTooLong, NotBuilt, NoImage}
+use Rattle.fc_shell.specs.declared.ending.End.TheVariants.{Done, Refused, BadWords, BadImage, DiskFault, ScriptFault, OutFault, HostFault, NoMemory, ScriptTooLong, NotSafe, NoImage}
 use Rattle.fc_shell.specs.Headline.{start_of}
 use Rattle.fc_shell.specs.HostHeadline.{IsAnsweredByMaps, IsInLines, IsServedWithHost}
-use Rattle.fc_shell.specs.HostPromise.{HostPromise, MovesByDemo, MovesByGiving, MovesByLength, MovesByOpening, MovesByWords, ToldOver}
-use Rattle.fc_shell.specs.Modes.{plain_mode}
-use Rattle.fc_shell.specs.Promise.{EndsBefore, EndsOnFault, EndsWithout}
-use Rattle.fc_shell.specs.Replies.{blank_size, image_for, is_unbuilt, script_limit}
+use Rattle.fc_shell.specs.HostPromise.{HostPromise, MovesByDemo, MovesByGiving, MovesByLength, MovesByOpening, MovesBySuiting, ToldOver}
+use Rattle.fc_shell.specs.Modes.{is_unsuited, mode_of}
+use Rattle.fc_shell.specs.Promise.{EndsBefore, EndsOnFault, EndsUnsuited, EndsWithout}
+use Rattle.fc_shell.specs.Replies.{blank_size, image_for, script_limit}
 use Rattle.fc_shell.proofs.HostPromiseLemmas.{over_told}
 
 -- The run ended in its lines or after them.
@@ -49,8 +49,28 @@ module _ {D : Type 0} (d : Ghosts D) (old new : D) (r : Request) (files left : O
   on_fault fault OutFault w x = w
   on_fault fault NoMemory w x = w
   on_fault fault ScriptTooLong w x = w
-  on_fault fault NotBuilt w x = w
+  on_fault fault NotSafe w x = w
   on_fault fault NoImage w x = w
+
+  unsuited : (fresh : Bool) (s : State) (end : End) → IsLate end → EndsUnsuited d old new fresh s text end → ⊥
+  unsuited fresh s Done w x = x
+  unsuited fresh s Refused w x = x
+  unsuited fresh s HostFault w x = x
+  unsuited fresh s BadWords w x = w
+  unsuited fresh s (BadImage found) w x = w
+  unsuited fresh s DiskFault w x = w
+  unsuited fresh s ScriptFault w x = w
+  unsuited fresh s OutFault w x = w
+  unsuited fresh s NoMemory w x = w
+  unsuited fresh s ScriptTooLong w x = w
+  unsuited fresh s NotSafe w x = w
+  unsuited fresh s NoImage w x = w
+
+  by_suiting : (v : Opened) (is_not : Bool) (end : End) → open_image (image_for r.new image) ≡ Ok v → IsLate end
+      → MovesBySuiting d old new (mode_of v.kind r.read_only r.safe) (is_some r.new) (start_of r image v) files left asked script text is_not end → IsServedWithHost d old new r image script text files left end
+  by_suiting v true end o w x = absurd (unsuited (is_some r.new) (start_of r image v) end w x.0)
+  by_suiting v false end o w x =
+      record { view = v; opens = o; over = over_told d old new (mode_of v.kind r.read_only r.safe) (is_some r.new) (start_of r image v) files left asked script text end x }
 
   without : (fresh : Bool) (end : End) → IsLate end → EndsWithout d old new fresh text end → ⊥
   without fresh Done w x = x
@@ -63,7 +83,7 @@ module _ {D : Type 0} (d : Ghosts D) (old new : D) (r : Request) (files left : O
   without fresh OutFault w x = w
   without fresh NoMemory w x = w
   without fresh ScriptTooLong w x = w
-  without fresh NotBuilt w x = w
+  without fresh NotSafe w x = w
   without fresh NoImage w x = w
 
   early : (reason end : End) → (IsLate reason → ⊥) → IsLate end → EndsBefore d old new reason text end → ⊥
@@ -75,9 +95,9 @@ module _ {D : Type 0} (d : Ghosts D) (old new : D) (r : Request) (files left : O
       by (inr (inr is)) = subst IsLate is w
 
   by_opening : (opened : Result Opened ImageFault) (end : End) → open_image (image_for r.new image) ≡ opened → IsLate end
-      → MovesByOpening d old new r.read_only (is_some r.new) files left asked (image_for r.new image) script text opened end → IsServedWithHost d old new r image script text files left end
+      → MovesByOpening d old new r.read_only r.safe (is_some r.new) files left asked (image_for r.new image) script text opened end → IsServedWithHost d old new r image script text files left end
   by_opening (Err fault) end o w x = absurd (on_fault fault end w x.0)
-  by_opening (Ok v) end o w x = record { view = v; opens = o; over = over_told d old new v.kind r.read_only (is_some r.new) (start_of r image v) files left asked script text end x }
+  by_opening (Ok v) end o w x = by_suiting v (is_unsuited r.safe v) end o w x
 
   by_giving : (given : Bool) (end : End) → IsLate end → MovesByGiving d old new r files left asked image script text given end → IsServedWithHost d old new r image script text files left end
   by_giving false end w x = absurd (without (is_some r.new) end w x.0)
@@ -89,12 +109,8 @@ module _ {D : Type 0} (d : Ghosts D) (old new : D) (r : Request) (files left : O
     by_length false end w x = by_giving (gives r.image (blank_size r)) end w
         (subst (λ (demo : Option ℕ). MovesByDemo d old new r files left asked image script text (gives r.image (blank_size r)) demo end) plain x)
 
-    by_words : (unbuilt : Bool) (end : End) → IsLate end → MovesByWords d old new gives r files left asked image script text unbuilt end → IsServedWithHost d old new r image script text files left end
-    by_words true end w x = absurd (early NotBuilt end (λ never. never) w x.0)
-    by_words false end w x = by_length (nat_lt script_limit (length script)) end w x
-
     pub served_with_host : (end : End) → IsInLines end → HostPromise d old new gives files left asked image script text (Some r) end → IsServedWithHost d old new r image script text files left end
-    served_with_host end w x = by_words (is_unbuilt r) end (late end w) x
+    served_with_host end w x = by_length (nat_lt script_limit (length script)) end (late end w) x
 
 -- ---- by two maps
 
@@ -108,7 +124,7 @@ steps_weaker read May Might weaker mode s s' files files' (line ∷ lines) (repl
 
 module _ {D : Type 0} (d : Ghosts D) (old new : D) (headline : HostHeadlineLaw) (accepted : AcceptedLaw) (r : Request) (image script text : List ℕ) (files : Files) (left : Option Files) where
   by_maps : (v : Opened) (refused : Bool) → open_image (image_for r.new image) ≡ Ok v
-      → ToldRun d host_line_of old new (plain_mode v.kind r.read_only) (is_some r.new) (start_of r image v) (Some files) left script text refused → IsAnsweredByMaps d new r image script text files left
+      → ToldRun d host_line_of old new (mode_of v.kind r.read_only r.safe) (is_some r.new) (start_of r image v) (Some files) left script text refused → IsAnsweredByMaps d new r image script text files left
   by_maps v refused o x =
       let ran = x files refl in
       let has = ran.2 in
@@ -119,8 +135,8 @@ module _ {D : Type 0} (d : Ghosts D) (old new : D) (headline : HostHeadlineLaw) 
         end = has.end;
         now = ran.0;
         left_is = ran.1;
-        answered = headline host_line_of (plain_mode v.kind r.read_only) (start_of r image v) has.end files ran.0 (commands_in script) has.run.replies refl (accepted (image_for r.new image) v o)
-            (steps_weaker host_line_of (MayHaveLeft d old new) (λ between. Unit {0}) (λ between may. tt) (plain_mode v.kind r.read_only) (start_of r image v) has.end files ran.0 (commands_in script) has.run.replies has.run.steps);
+        answered = headline host_line_of (mode_of v.kind r.read_only r.safe) (start_of r image v) has.end files ran.0 (commands_in script) has.run.replies (accepted (image_for r.new image) v o)
+            (steps_weaker host_line_of (MayHaveLeft d old new) (λ between. Unit {0}) (λ between may. tt) (mode_of v.kind r.read_only r.safe) (start_of r image v) has.end files ran.0 (commands_in script) has.run.replies has.run.steps);
         told = has.run.told;
         holds = has.holds;
       }
@@ -128,8 +144,8 @@ module _ {D : Type 0} (d : Ghosts D) (old new : D) (headline : HostHeadlineLaw) 
   pub answered_by_maps : (end : End) (held : Option Files) → held ≡ Some files → (end ≡ Done) ⊎ (end ≡ Refused) → IsServedWithHost d old new r image script text held left end
       → IsAnsweredByMaps d new r image script text files left
   answered_by_maps end held is (inl done) x =
-      let over = subst (λ (e : End). ToldOver d old new (plain_mode x.view.kind r.read_only) (is_some r.new) (start_of r image x.view) held left script text e) done x.over in
-      by_maps x.view false x.opens (subst (λ (h : Option Files). ToldRun d host_line_of old new (plain_mode x.view.kind r.read_only) (is_some r.new) (start_of r image x.view) h left script text false) is over)
+      let over = subst (λ (e : End). ToldOver d old new (mode_of x.view.kind r.read_only r.safe) (is_some r.new) (start_of r image x.view) held left script text e) done x.over in
+      by_maps x.view false x.opens (subst (λ (h : Option Files). ToldRun d host_line_of old new (mode_of x.view.kind r.read_only r.safe) (is_some r.new) (start_of r image x.view) h left script text false) is over)
   answered_by_maps end held is (inr done) x =
-      let over = subst (λ (e : End). ToldOver d old new (plain_mode x.view.kind r.read_only) (is_some r.new) (start_of r image x.view) held left script text e) done x.over in
-      by_maps x.view true x.opens (subst (λ (h : Option Files). ToldRun d host_line_of old new (plain_mode x.view.kind r.read_only) (is_some r.new) (start_of r image x.view) h left script text true) is over)
+      let over = subst (λ (e : End). ToldOver d old new (mode_of x.view.kind r.read_only r.safe) (is_some r.new) (start_of r image x.view) held left script text e) done x.over in
+      by_maps x.view true x.opens (subst (λ (h : Option Files). ToldRun d host_line_of old new (mode_of x.view.kind r.read_only r.safe) (is_some r.new) (start_of r image x.view) h left script text true) is over)

@@ -10,16 +10,18 @@ use Rattle.fc_host.specs.Files.{Files}
 use Rattle.fc_host.specs.declared.host.Host.{Ghosts as Hosts}
 use Rattle.fc_image.specs.declared.ImageFault.{ImageFault}
 use Rattle.fc_image.specs.Opening.{Opened, open_image}
-use Rattle.fc_runs.specs.Run.{commands_in}
+use Rattle.fc_image.specs.effects.Effect.{State}
+use Rattle.fc_runs.specs.Run.{Mode, commands_in}
+use Rattle.fc_shell.specs.Modes.{is_unsuited, mode_of}
 use Rattle.fc_words.specs.CommandLine.{Request}
 use Rattle.fc_image.specs.Laws.{AcceptedLaw as Accepts}
 use Rattle.fc_shell.specs.declared.ending.End.{End}
 use Rattle.fc_shell.specs.declared.ending.End.TheVariants.{BadImage, OutFault, HostFault, NoImage, NoMemory, ScriptFault, ScriptTooLong}
 use Rattle.fc_shell.specs.Ends.{is_late_alone}
-use Rattle.fc_shell.specs.HostPromise.{HostKeeps, HostPromise, HostRunSpares, MovesByDemo, MovesByGiving, MovesByLength, MovesByOpening, MovesByWords, script_spares}
+use Rattle.fc_shell.specs.HostPromise.{HostKeeps, HostPromise, HostRunSpares, MovesByDemo, MovesByGiving, MovesByLength, MovesByOpening, MovesBySuiting, script_spares}
 use Rattle.fc_shell.specs.Moving.{HostSpares}
 use Rattle.fc_shell.specs.Reads.{Spares, only_reads}
-use Rattle.fc_shell.specs.Replies.{blank_size, image_for, is_unbuilt, script_limit}
+use Rattle.fc_shell.specs.Replies.{blank_size, image_for, script_limit}
 use Rattle.fc_shell.proofs.HostPromiseLemmas.{moves_memory_giving}
 use Rattle.fc_shell.proofs.PromiseLemmas.{memory_giving, no_fresh, none}
 
@@ -92,18 +94,21 @@ module _ {D : Type 0} {d : Ghosts D} (law : Laws d) (accepts : Accepts) (disk : 
   memory_length r true = ((inr (inr refl), none law disk), (refl, refl))
   memory_length r false = memory_demo r (gives r.image (blank_size r)) r.demo
 
-  pub host_memory_words : (r : Request) (unbuilt : Bool) → MovesByWords d disk disk gives r files files [] image script [] unbuilt NoMemory
-  host_memory_words r true = ((inr (inr refl), none law disk), (refl, refl))
-  host_memory_words r false = memory_length r (nat_lt script_limit (length script))
+  pub host_memory_words : (r : Request) → MovesByLength d disk disk gives r files files [] image script [] (nat_lt script_limit (length script)) NoMemory
+  host_memory_words r = memory_length r (nat_lt script_limit (length script))
 
   pub host_memory_promise : (o : Option Request) → HostPromise d disk disk gives files files [] image script [] o NoMemory
   host_memory_promise None = ((inr (inr refl), none law disk), (refl, refl))
-  host_memory_promise (Some r) = host_memory_words r (is_unbuilt r)
+  host_memory_promise (Some r) = host_memory_words r
 
 module _ {D : Type 0} {d : Ghosts D} (law : Laws d) (disk : D) (gives : List ℕ → Option ℕ → Bool) (files : Option Files) (image script : List ℕ) (r : Request) where
-  fault_opening : (opened : Result Opened ImageFault) → MovesByOpening d disk disk r.read_only (is_some r.new) files files [] (image_for r.new image) script [] opened ScriptFault
+  fault_suiting : (mode : Mode) (s : State) (unsuited : Bool) → MovesBySuiting d disk disk mode (is_some r.new) s files files [] script [] unsuited ScriptFault
+  fault_suiting mode s true = (none law disk, (refl, refl))
+  fault_suiting mode s false = (none law disk, (refl, refl))
+
+  fault_opening : (opened : Result Opened ImageFault) → MovesByOpening d disk disk r.read_only r.safe (is_some r.new) files files [] (image_for r.new image) script [] opened ScriptFault
   fault_opening (Err fault) = (none law disk, (refl, refl))
-  fault_opening (Ok v) = (none law disk, (refl, refl))
+  fault_opening (Ok v) = fault_suiting (mode_of v.kind r.read_only r.safe) (record { image = image_for r.new image; view = v }) (is_unsuited r.safe v)
 
   fault_giving : (given : Bool) → MovesByGiving d disk disk r files files [] image script [] given ScriptFault
   fault_giving false = (none law disk, (refl, refl))
@@ -115,21 +120,18 @@ module _ {D : Type 0} {d : Ghosts D} (law : Laws d) (disk : D) (gives : List ℕ
       subst (λ (demo : Option ℕ). MovesByDemo d disk disk r files files [] image script [] (gives r.image (blank_size r)) demo ScriptFault) (sym plain) (fault_giving (gives r.image (blank_size r)))
 
   -- the source failed
-  pub host_source_fault : is_unbuilt r ≡ false → r.demo ≡ None → MovesByWords d disk disk gives r files files [] image script [] (is_unbuilt r) ScriptFault
-  host_source_fault built plain =
-      subst (λ (b : Bool). MovesByWords d disk disk gives r files files [] image script [] b ScriptFault) (sym built) (fault_length plain (nat_lt script_limit (length script)))
+  pub host_source_fault : r.demo ≡ None → MovesByLength d disk disk gives r files files [] image script [] (nat_lt script_limit (length script)) ScriptFault
+  host_source_fault plain = fault_length plain (nat_lt script_limit (length script))
 
-pub host_too_long : {D : Type 0} {d : Ghosts D} (law : Laws d) (disk : D) (gives : List ℕ → Option ℕ → Bool) (files : Option Files) (image script : List ℕ) (r : Request) → is_unbuilt r ≡ false
-    → script_limit < length script → MovesByWords d disk disk gives r files files [] image script [] (is_unbuilt r) ScriptTooLong
-host_too_long {d = d} law disk gives files image script r built long =
+pub host_too_long : {D : Type 0} {d : Ghosts D} (law : Laws d) (disk : D) (gives : List ℕ → Option ℕ → Bool) (files : Option Files) (image script : List ℕ) (r : Request)
+    → script_limit < length script → MovesByLength d disk disk gives r files files [] image script [] (nat_lt script_limit (length script)) ScriptTooLong
+host_too_long {d = d} law disk gives files image script r long =
     let test : nat_lt script_limit (length script) ≡ true = grind (arith, nat_tests, long) in
-    subst (λ (b : Bool). MovesByWords d disk disk gives r files files [] image script [] b ScriptTooLong) (sym built)
-    (subst (λ (b : Bool). MovesByLength d disk disk gives r files files [] image script [] b ScriptTooLong) (sym test) ((inl refl, none law disk), (refl, refl)))
+    subst (λ (b : Bool). MovesByLength d disk disk gives r files files [] image script [] b ScriptTooLong) (sym test) ((inl refl, none law disk), (refl, refl))
 
 pub host_script_ends : {D : Type 0} (d : Ghosts D) (old new : D) (gives : List ℕ → Option ℕ → Bool) (files left : Option Files) (asked : List Asked) (image script text : List ℕ) (r : Request) (end : End)
-    → is_unbuilt r ≡ false → length script ≤ script_limit → MovesByDemo d old new r files left asked image script text (gives r.image (blank_size r)) r.demo end
-    → MovesByWords d old new gives r files left asked image script text (is_unbuilt r) end
-host_script_ends d old new gives files left asked image script text r end built short x =
+    → length script ≤ script_limit → MovesByDemo d old new r files left asked image script text (gives r.image (blank_size r)) r.demo end
+    → MovesByLength d old new gives r files left asked image script text (nat_lt script_limit (length script)) end
+host_script_ends d old new gives files left asked image script text r end short x =
     let test : nat_lt script_limit (length script) ≡ false = grind (arith, nat_tests, short) in
-    subst (λ (b : Bool). MovesByWords d old new gives r files left asked image script text b end) (sym built)
-    (subst (λ (b : Bool). MovesByLength d old new gives r files left asked image script text b end) (sym test) x)
+    subst (λ (b : Bool). MovesByLength d old new gives r files left asked image script text b end) (sym test) x

@@ -8,7 +8,6 @@ use Rattle.fc_host.specs.declared.host.Host.{Ghosts as Hosts}
 use Rattle.fc_host.specs.Answers.{all_asked}
 use Rattle.fc_host.specs.Asked.{Asked}
 use Rattle.fc_host.specs.Files.{Files}
-use Rattle.fc_record.specs.declared.Kind.{Kind}
 use Rattle.fc_image.specs.Stays.{OpensAs}
 use Rattle.fc_image.specs.effects.Effect.{State}
 use Rattle.fc_runs.specs.Early.{host_reply_begun}
@@ -28,7 +27,6 @@ use Rattle.fc_volume.specs.Volume.{Volume, parts_of}
 use Rattle.fc_shell.specs.declared.moving.MoveFault.{MoveFault}
 use Rattle.fc_shell.specs.declared.tally.Tally.{Tally}
 use Rattle.fc_shell.specs.Counted.{AreCounted, has_refused}
-use Rattle.fc_shell.specs.Modes.{plain_mode}
 use Rattle.fc_shell.specs.Moving.{AreCaused, HasMoved, HostSpares, IsServed, LineMoves, LinesMove, move_cause}
 use Rattle.fc_shell.specs.Writing.{Wrote}
 use Rattle.fc_shell.proofs.ServingLemmas.{none_counted, one_counted, refused_counted}
@@ -89,13 +87,10 @@ not_disk fault spares is =
 
 -- ---- lines in turn
 
-module _ {D : Type 0} {d : Ghosts D} (law : Laws d) (kind : Kind) (read_only : Bool) (s : State) (files : Option Files) (script : List ℕ) (old : D) (told : d.bytes old ≡ Some s.image)
-    (quiet : d.pending old ≡ false) (opens : OpensAs s.image kind s.view) where
-  abbrev mode : Mode
-  mode = plain_mode kind read_only
-
+module _ {D : Type 0} {d : Ghosts D} (law : Laws d) (mode : Mode) (s : State) (files : Option Files) (script : List ℕ) (old : D) (told : d.bytes old ≡ Some s.image)
+    (quiet : d.pending old ≡ false) (opens : OpensAs s.image mode.kind s.view) where
   pub host_start : (left : List (List ℕ)) (v : Volume) (tally : Tally) (before : Option (List ℕ)) → left ≡ commands_in script → ArePartsOf (parts_of v) s.view → tally.replies ≡ 0 → tally.refused ≡ 0
-      → HasMoved d old old kind read_only s script left v tally before before [] files files
+      → HasMoved d old old mode s script left v tally before before [] files files
   host_start left v tally before all parts replies refused =
       let first = moved_first law host_line_of mode s files script old told quiet opens left all in
       record {
@@ -106,9 +101,9 @@ module _ {D : Type 0} {d : Ghosts D} (law : Laws d) (kind : Kind) (read_only : B
       }
 
   pub host_more : (line : List ℕ) (left : List (List ℕ)) (v v' : Volume) (refused : Bool) (so_far now : Tally) (before between after : Option (List ℕ)) (mid new : D) (asked more : List Asked) (held later : Option Files)
-      → (has : HasMoved d old mid kind read_only s script (line ∷ left) v so_far before between asked files held) → GoesOn d old mid → GoesOn d mid new
-      → IsServed d mid new kind read_only has.lines.state v' (host_line_of line) between after more held later refused → now.replies ≡ so_far.replies + 1 → now.refused ≡ so_far.refused + cond refused 1 0
-      → HasMoved d old new kind read_only s script left v' now before after (asked ++ more) files later
+      → (has : HasMoved d old mid mode s script (line ∷ left) v so_far before between asked files held) → GoesOn d old mid → GoesOn d mid new
+      → IsServed d mid new mode has.lines.state v' (host_line_of line) between after more held later refused → now.replies ≡ so_far.replies + 1 → now.refused ≡ so_far.refused + cond refused 1 0
+      → HasMoved d old new mode s script left v' now before after (asked ++ more) files later
   host_more line left v v' refused so_far now before between after mid new asked more held later has first second is count errors =
       let next = moved_next law host_line_of mode s files script old told quiet opens line is.reply left mid new is.next held later asked more has.lines first second is.moved in
       record {
@@ -120,8 +115,8 @@ module _ {D : Type 0} {d : Ghosts D} (law : Laws d) (kind : Kind) (read_only : B
       }
 
   pub host_all : (v : Volume) (tally : Tally) (before after : Option (List ℕ)) (new : D) (asked : List Asked) (held : Option Files)
-      → HasMoved d old new kind read_only s script [] v tally before after asked files held → GoesOn d old new → d.pending new ≡ false
-      → LinesMove d old new kind read_only s script before after asked files held (Ok tally)
+      → HasMoved d old new mode s script [] v tally before after asked files held → GoesOn d old new → d.pending new ≡ false
+      → LinesMove d old new mode s script before after asked files held (Ok tally)
   host_all v tally before after new asked held has goes settled = (
     text_of has.lines.replies,
     has.wrote,
@@ -129,10 +124,10 @@ module _ {D : Type 0} {d : Ghosts D} (law : Laws d) (kind : Kind) (read_only : B
   )
 
   pub host_part : (line : List ℕ) (left : List (List ℕ)) (v v' : Volume) (so_far : Tally) (before between after : Option (List ℕ)) (mid new : D) (fault : MoveFault) (asked more : List Asked) (held later : Option Files)
-      → (has : HasMoved d old mid kind read_only s script (line ∷ left) v so_far before between asked files held) → GoesOn d old mid → GoesOn d mid new
+      → (has : HasMoved d old mid mode s script (line ∷ left) v so_far before between asked files held) → GoesOn d old mid → GoesOn d mid new
       → ((fault ≡ MoveFault.Disk → ⊥) → d.pending new ≡ false)
-      → LineMoves d mid new kind read_only has.lines.state v' (host_line_of line) between after more held later (Err fault)
-      → LinesMove d old new kind read_only s script before after (asked ++ more) files later (Err fault)
+      → LineMoves d mid new mode has.lines.state v' (host_line_of line) between after more held later (Err fault)
+      → LinesMove d old new mode s script before after (asked ++ more) files later (Err fault)
   host_part line left v v' so_far before between after mid new fault asked more held later has first second settled (inl x) = (
     text_of has.lines.replies ++ take x.part.0 x.reply,
     wrote_both before between after (text_of has.lines.replies) (take x.part.0 x.reply) has.wrote x.part.1,

@@ -35,3 +35,6 @@ mod HostServingLemmas
 mod HostPromiseLemmas
 mod HostKeptLemmas
 mod HostHeadlineLemmas
+mod SuitsLemmas
+mod SafetyLemmas
+mod WholePutLemmas

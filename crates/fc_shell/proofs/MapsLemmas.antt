@@ -7,6 +7,7 @@ use Rattle.fc_names.specs.declared.refusal.Refusal.{Refusal}
 use Rattle.fc_newmap.specs.Map.{Map}
 use Rattle.fc_image.specs.Layout.{Layout}
 use Rattle.fc_image.specs.Moves.{KeepsObjects}
+use Rattle.fc_image.specs.Stays.{IsNewLayout}
 use Rattle.fc_holdings.specs.declared.error.CommandError.{CommandError}
 use Rattle.fc_volume.specs.Changing.{KeepsVolume}
 use Rattle.fc_volume.specs.Compacting.{HasCompacted}
@@ -20,9 +21,9 @@ pub compacting_new : {D : Type 0} (d : Ghosts D) (was v : Volume) (old new : D) 
     → IfErr answer (λ error. (error ≡ CommandError.Refused Refusal.ReadOnly) ⊎ (error ≡ CommandError.DiskFault))
     → OnOk answer (HasCompacted d (parts_of was) (parts_of v) old new)
     → ((m : Map) → (parts_of was).layout ≡ Layout.New m → StopsAndExitsLeave d old new (KeepsObjects m.geometry))
-    → KeepsVolume d old new was v answer → IsCompacting d was v old new answer
-compacting_new d was v old new answer refused errors compacted objects keeps =
-    record { refused = refused; errors = by_error answer errors; compacted = compacted; keeps = keeps; objects = objects }
+    → KeepsVolume d old new was v answer → v.tree ≡ was.tree → IsCompacting d was v old new answer
+compacting_new d was v old new answer refused errors compacted objects keeps tree =
+    record { refused = refused; errors = by_error answer errors; compacted = compacted; keeps = keeps; tree = λ new_map. tree; objects = objects }
   where
     by_error : (x : Result (Unit {0}) CommandError) → IfErr x (λ error. (error ≡ CommandError.Refused Refusal.ReadOnly) ⊎ (error ≡ CommandError.DiskFault))
         → IfErr x (λ error. (error ≡ CommandError.Refused Refusal.ReadOnly) ⊎ ((error ≡ CommandError.DiskFault) ⊎ ((error ≡ CommandError.NoMemory) × IsOldLayout (parts_of was).layout)))
@@ -41,9 +42,14 @@ compacting_old d was v old new answer map refused errors compacted keeps = recor
   errors = by_error answer errors;
   compacted = compacted;
   keeps = keeps;
+  tree = λ new_map. absurd (both (parts_of was).layout map new_map);
   objects = λ m new_map. absurd (subst IsOldLayout new_map map);
 }
   where
+    both : (l : Layout) → IsOldLayout l → IsNewLayout l → ⊥
+    both (Layout.New m) old new = old
+    both (Layout.Old space) old new = new
+
     by_error : (x : Result (Unit {0}) CommandError) → IfErr x (λ error. (error ≡ CommandError.Refused Refusal.ReadOnly) ⊎ ((error ≡ CommandError.NoMemory) ⊎ (error ≡ CommandError.DiskFault)))
         → IfErr x (λ error. (error ≡ CommandError.Refused Refusal.ReadOnly) ⊎ ((error ≡ CommandError.DiskFault) ⊎ ((error ≡ CommandError.NoMemory) × IsOldLayout (parts_of was).layout)))
     by_error (Ok value) e = tt

@@ -20,11 +20,11 @@ use Rattle.fc_runs.specs.Stops.{MayHaveLeft}
 use Rattle.fc_runs.proofs.ReadLemmas.{read_law}
 use Rattle.fc_words.specs.CommandLine.{Request}
 use Rattle.fc_shell.specs.declared.ending.End.{End}
-use Rattle.fc_shell.specs.declared.ending.End.TheVariants.{Done, Refused, BadWords, BadImage, DiskFault, ScriptFault, OutFault, NoMemory, ScriptTooLong, NotBuilt, HostFault, NoImage}
+use Rattle.fc_shell.specs.declared.ending.End.TheVariants.{Done, Refused, BadWords, BadImage, DiskFault, ScriptFault, OutFault, NoMemory, ScriptTooLong, NotSafe, HostFault, NoImage}
 use Rattle.fc_shell.specs.Reads.{all_read, is_reading_line, only_reads}
-use Rattle.fc_shell.specs.Modes.{plain_mode}
-use Rattle.fc_shell.specs.Promise.{EndsBefore, EndsByGiving, EndsByLength, EndsByOpening, EndsByWords, EndsOnFault, EndsOver, EndsWithout, Promise}
-use Rattle.fc_shell.specs.Replies.{AsksNoDemo, EndsAs, attached_reply, blank_size, command_reply, image_for, is_unbuilt, line_reply, opened_reply, replies_of, request_reply, script_limit, script_reply, served, silent}
+use Rattle.fc_shell.specs.Modes.{is_unsuited, mode_of}
+use Rattle.fc_shell.specs.Promise.{EndsBefore, EndsByGiving, EndsByLength, EndsByOpening, EndsBySuiting, EndsOnFault, EndsOver, EndsUnsuited, EndsWithout, Promise}
+use Rattle.fc_shell.specs.Replies.{AsksNoDemo, EndsAs, attached_reply, blank_size, command_reply, image_for, line_reply, opened_reply, replies_of, request_reply, script_limit, served, silent, suited_reply}
 use Rattle.fc_shell.specs.Writing.{Wrote, WrotePart}
 use Rattle.fc_shell.proofs.ReadsLemmas.{one_row, one_step}
 use Rattle.fc_shell.proofs.TurnLemmas.{steps_weaker}
@@ -107,7 +107,7 @@ module _ {D : Type 0} (d : Ghosts D) (old new : D) (before after : Option (List 
     over_as BadWords x = absurd x
     over_as (BadImage fault) x = absurd x
     over_as ScriptTooLong x = absurd x
-    over_as NotBuilt x = absurd x
+    over_as NotSafe x = absurd x
     over_as HostFault x = absurd x
     over_as NoImage x = absurd x
 
@@ -121,7 +121,7 @@ module _ {D : Type 0} (d : Ghosts D) (old new : D) (before after : Option (List 
   fault_as fault Refused x = absurd x
   fault_as fault BadWords x = absurd x
   fault_as fault ScriptTooLong x = absurd x
-  fault_as fault NotBuilt x = absurd x
+  fault_as fault NotSafe x = absurd x
   fault_as fault HostFault x = absurd x
   fault_as fault NoImage x = absurd x
 
@@ -137,7 +137,7 @@ module _ {D : Type 0} (d : Ghosts D) (old new : D) (before after : Option (List 
   without_as fresh Refused x = absurd x
   without_as fresh BadWords x = absurd x
   without_as fresh ScriptTooLong x = absurd x
-  without_as fresh NotBuilt x = absurd x
+  without_as fresh NotSafe x = absurd x
   without_as fresh HostFault x = absurd x
 
   before_as : (reason end : End) → (Wrote before after [] → EndsAs (silent reason) reason before after) → EndsBefore d old new reason text end → EndsAs (silent reason) end before after
@@ -145,29 +145,46 @@ module _ {D : Type 0} (d : Ghosts D) (old new : D) (before after : Option (List 
   before_as reason end at (inr (inl is), x) = subst (λ (e : End). EndsAs (silent reason) e before after) (sym is) (wrote_none before after text wrote x.told)
   before_as reason end at (inr (inr is), x) = subst (λ (e : End). EndsAs (silent reason) e before after) (sym is) (part_none before after text [] wrote x.told)
 
-  opening_as : (read_only fresh : Bool) (image script : List ℕ) (o : Result Opened ImageFault) (end : End) → only_reads script ≡ true
-      → EndsByOpening d old new read_only fresh None image script text o end → EndsAs (opened_reply read_only script image o) end before after
-  opening_as read_only fresh image script (Err fault) end reads x = fault_as fault end x
-  opening_as read_only fresh image script (Ok v) end reads x = over_as (plain_mode v.kind read_only) fresh (record { image = image; view = v }) script reads end x
+  unsuited_as : (fresh : Bool) (s : State) (end : End) → EndsUnsuited d old new fresh s text end → EndsAs (silent NotSafe) end before after
+  unsuited_as fresh s NotSafe x = (refl, subst (Wrote before after) x.told wrote)
+  unsuited_as fresh s ScriptFault x = wrote_none before after text wrote x.told
+  unsuited_as fresh s NoMemory (inl x) = part_none before after text [] wrote x.told
+  unsuited_as fresh s NoMemory (inr x) = part_none before after text [] wrote x.1
+  unsuited_as fresh s DiskFault (inl x) = part_none before after text [] wrote x.told
+  unsuited_as fresh s DiskFault (inr x) = part_none before after text [] wrote x.1
+  unsuited_as fresh s OutFault x = absurd x
+  unsuited_as fresh s (BadImage fault) x = absurd x
+  unsuited_as fresh s Done x = absurd x
+  unsuited_as fresh s Refused x = absurd x
+  unsuited_as fresh s BadWords x = absurd x
+  unsuited_as fresh s ScriptTooLong x = absurd x
+  unsuited_as fresh s HostFault x = absurd x
+  unsuited_as fresh s NoImage x = absurd x
+
+  suiting_as : (mode : Mode) (fresh : Bool) (s : State) (script : List ℕ) (unsuited : Bool) (end : End) → only_reads script ≡ true → EndsBySuiting d old new mode fresh None s script text unsuited end
+      → EndsAs (suited_reply unsuited mode s script) end before after
+  suiting_as mode fresh s script true end reads x = unsuited_as fresh s end x
+  suiting_as mode fresh s script false end reads x = over_as mode fresh s script reads end x
+
+  opening_as : (read_only safe fresh : Bool) (image script : List ℕ) (o : Result Opened ImageFault) (end : End) → only_reads script ≡ true
+      → EndsByOpening d old new read_only safe fresh None image script text o end → EndsAs (opened_reply read_only safe script image o) end before after
+  opening_as read_only safe fresh image script (Err fault) end reads x = fault_as fault end x
+  opening_as read_only safe fresh image script (Ok v) end reads x =
+      suiting_as (mode_of v.kind read_only safe) fresh (record { image = image; view = v }) script (is_unsuited safe v) end reads x
 
   giving_as : (r : Request) (image script : List ℕ) (given : Bool) (end : End) → r.demo ≡ None → only_reads script ≡ true → EndsByGiving d old new r image script text given end
       → EndsAs (attached_reply given r script image) end before after
   giving_as r image script false end plain reads x = without_as (is_some r.new) end x
   giving_as r image script true end plain reads x =
-      opening_as r.read_only (is_some r.new) (image_for r.new image) script (open_image (image_for r.new image)) end reads
-      (subst (λ (demo : Option ℕ). EndsByOpening d old new r.read_only (is_some r.new) demo (image_for r.new image) script text (open_image (image_for r.new image)) end) plain x)
+      opening_as r.read_only r.safe (is_some r.new) (image_for r.new image) script (open_image (image_for r.new image)) end reads
+      (subst (λ (demo : Option ℕ). EndsByOpening d old new r.read_only r.safe (is_some r.new) demo (image_for r.new image) script text (open_image (image_for r.new image)) end) plain x)
 
   length_as : (gives : List ℕ → Option ℕ → Bool) (r : Request) (image script : List ℕ) (long : Bool) (end : End) → r.demo ≡ None → only_reads script ≡ true → EndsByLength d old new gives r image script text long end
       → EndsAs (if long then silent ScriptTooLong else attached_reply (gives r.image (blank_size r)) r script image) end before after
   length_as gives r image script true end plain reads x = before_as ScriptTooLong end (λ w. (refl, w)) x
   length_as gives r image script false end plain reads x = giving_as r image script (gives r.image (blank_size r)) end plain reads x
 
-  words_as : (gives : List ℕ → Option ℕ → Bool) (r : Request) (image script : List ℕ) (unbuilt : Bool) (end : End) → r.demo ≡ None → only_reads script ≡ true → EndsByWords d old new gives r image script text unbuilt end
-      → EndsAs (if unbuilt then silent NotBuilt else script_reply gives r script image) end before after
-  words_as gives r image script true end plain reads x = before_as NotBuilt end (λ w. (refl, w)) x
-  words_as gives r image script false end plain reads x = length_as gives r image script (nat_lt script_limit (length script)) end plain reads x
-
   pub promise_as : (gives : List ℕ → Option ℕ → Bool) (image script : List ℕ) (o : Option Request) (end : End) → AsksNoDemo o → only_reads script ≡ true → Promise d old new gives image script text o end
       → EndsAs (request_reply gives script image o) end before after
   promise_as gives image script None end plain reads x = before_as BadWords end (λ w. (refl, w)) x
-  promise_as gives image script (Some r) end plain reads x = words_as gives r image script (is_unbuilt r) end plain reads x
+  promise_as gives image script (Some r) end plain reads x = length_as gives r image script (nat_lt script_limit (length script)) end plain reads x

@@ -43,14 +43,16 @@ use Rattle.fc_runs.specs.AskedRun.{AskedTakes, PutsAsked, UnlessRefused}
 use Rattle.fc_runs.specs.HostRun.{answer_in, host_keeps_tree, longest_file}
 use Rattle.fc_runs.specs.HostServing.{IsBrokenOff, IsMoved}
 use Rattle.fc_runs.specs.Meanwhile.{GoesOn}
-use Rattle.fc_runs.specs.HostPromises.{AskedBegun}
+use Rattle.fc_runs.specs.HostPromises.{AskedBegun, AskedLeaves}
 use Rattle.fc_runs.specs.Promises.{StaysBy, spares_disk}
 use Rattle.fc_runs.specs.Run.{Mode, Takes, is_error}
 use Rattle.fc_runs.specs.Spares.{Spares}
-use Rattle.fc_runs.specs.Stops.{HostLeftBy, HostSparesBy, host_leaves_image}
+use Rattle.fc_runs.specs.Stops.{HostLeftBy, HostSparesBy, LeftAs, host_leaves_image}
 use Rattle.fc_runs.proofs.ErrorLemmas.{ok_no_error}
 use Rattle.fc_runs.proofs.HostServingLemmas.{stays_same}
-use Rattle.fc_runs.proofs.LeftLemmas.{host_left_same, left_if_spared}
+use Rattle.fc_runs.proofs.LeftLemmas.{left_if_spared}
+use Rattle.fc_runs.proofs.ModeLemmas.{as_either}
+use Rattle.fc_image.specs.safe.SafeEffect.{HasTreeBeforeOrAfter}
 use Rattle.fc_space.specs.Space.{layout_of}
 use Rattle.fc_space.specs.declared.space.Space.{Space}
 use Rattle.fc_tree.specs.Agree.{Agree}
@@ -73,14 +75,14 @@ use Rattle.fc_shell.specs.declared.moving.MoveFault.{MoveFault}
 use Rattle.fc_shell.specs.declared.moving.MoveFault.TheVariants as moves
 use Rattle.fc_shell.specs.Answered.{Answered, OnlyTells}
 use Rattle.fc_shell.specs.Line.{IsReady}
-use Rattle.fc_shell.specs.Modes.{plain_mode}
+use Rattle.fc_shell.specs.Modes.{mode_of}
 use Rattle.fc_shell.specs.MoveFaults.{move_fault, moved_result}
 use Rattle.fc_shell.specs.Moving.{AreCaused, AsksMore, KeepsServing, LineMoves, move_cause}
 use Rattle.fc_shell.specs.Putting.{IsMeasured, SavesFile, SavesGiven, TellsSaved}
 use Rattle.fc_shell.specs.Writing.{Wrote, WrotePart}
 use Rattle.fc_shell.proofs.ChangeLemmas.{agreed_view, answer_accepted, answer_refused, done_accepted, done_takes, refusal_is, refused_takes}
 use Rattle.fc_shell.proofs.CommandLemmas.{locked}
-use Rattle.fc_shell.proofs.MovingLemmas.{cuts_move, disk_line, no_host, out_line, told_moves}
+use Rattle.fc_shell.proofs.MovingLemmas.{broke_left, cuts_move, disk_line, no_host, out_line, told_moves}
 use Rattle.fc_spares.proofs.SpaceLemmas.{spares_law}
 use Rattle.fc_shell.proofs.SparesLemmas.{spares_of}
 use Rattle.fc_shell.proofs.StepLemmas.{same_image, same_tree}
@@ -269,10 +271,10 @@ writable_by v path load exec agree accepted is =
 
 -- ---- the line
 
-module _ {D : Type 0} {d : Ghosts D} (law : Laws d) (kind : Kind) (was : Volume) (s : State) (name : List ℕ) (path : Path) (load exec : ℕ) (old : D)
+module _ {D : Type 0} {d : Ghosts D} (law : Laws d) (kind : Kind) (safe : Bool) (was : Volume) (s : State) (name : List ℕ) (path : Path) (load exec : ℕ) (old : D)
     (quiet : d.pending old ≡ false) (told : d.bytes old ≡ Some s.image) (opens : OpensAs s.image kind s.view) where
   abbrev mode : Mode
-  mode = plain_mode kind was.read_only
+  mode = mode_of kind was.read_only safe
 
   abbrev save : List ℕ → Command
   save = Command.Save path load exec
@@ -290,21 +292,21 @@ module _ {D : Type 0} {d : Ghosts D} (law : Laws d) (kind : Kind) (was : Volume)
       (sym (answer_refused (tree_in s) (dir_form s.view.layout) was.read_only (save []) r refused)) ((refl, refl), refl)
 
   module _ (accepted : model ≡ None) where
-    answer_is : answer_in mode s (save []) ≡ Ok (changed (tree_in s) (save []))
+    pub answer_is : answer_in mode s (save []) ≡ Ok (changed (tree_in s) (save []))
     answer_is = answer_accepted (tree_in s) (dir_form s.view.layout) was.read_only (save []) accepted
 
     is_ok : IsOk (answer_in mode s (save []))
     is_ok = subst (λ (a : Result Tree Refusal). IsOk a) (sym answer_is) refl
 
-    asked_so : (asked : List Asked) (reply : List ℕ) (next : State) → PutsAsked mode s save name asked reply next → AskedTakes mode s asked line reply next
+    pub asked_so : (asked : List Asked) (reply : List ℕ) (next : State) → PutsAsked mode s save name asked reply next → AskedTakes mode s asked line reply next
     asked_so asked reply next puts =
         subst (λ (a : Result Tree Refusal). UnlessRefused s a asked reply next (PutsAsked mode s save name asked reply next)) (sym answer_is) puts
 
     -- the host is asked how long the file is
-    sized : (size : Option ℕ) (files : Option Files) → ForSome files (λ held. size ≡ size_of held name) → AnswersCalls files ((name, calls.Size size, []) ∷ []) files
+    pub sized : (size : Option ℕ) (files : Option Files) → ForSome files (λ held. size ≡ size_of held name) → AnswersCalls files ((name, calls.Size size, []) ∷ []) files
     sized size files is = (files, (is, refl), refl)
 
-    not_long : (len : ℕ) → len ≤ longest_file → nat_lt longest_file len ≡ false
+    pub not_long : (len : ℕ) → len ≤ longest_file → nat_lt longest_file len ≡ false
     not_long len few = grind (arith, nat_tests, few)
 
     -- It isn't there, or is too long.
@@ -327,12 +329,12 @@ module _ {D : Type 0} {d : Ghosts D} (law : Laws d) (kind : Kind) (was : Volume)
         )
 
     -- what was asked began the line
-    begun : (asked : List Asked) → All (IsLook name) asked → AskedBegun mode s line asked
+    pub begun : (asked : List Asked) → All (IsLook name) asked → AskedBegun mode s line asked
     begun asked looks = inr (is_ok, looks)
 
     -- It breaks off, and the disk is as it was.
     pub broke_same : (new : D) (before after : Option (List ℕ)) (v : Volume) (fault : MoveFault) (asked : List Asked) (files : Option Files) → OnlyReads d old new → after ≡ before → All (IsLook name) asked
-        → LineMoves d old new kind was.read_only s v line before after asked files files (Err fault)
+        → LineMoves d old new mode s v line before after asked files files (Err fault)
     broke_same new before after v fault asked files reads same looks = inr (record {
       part = (0, subst (λ (a : Option (List ℕ)). Wrote before a []) (sym same) (wrote_nothing before));
       broke = record {
@@ -340,16 +342,16 @@ module _ {D : Type 0} {d : Ghosts D} (law : Laws d) (kind : Kind) (was : Volume)
         files_left = λ held known. (held, known, inl refl);
         back = λ first host is. refl;
         holds = λ spares. (s.image, reads.bytes ∙ told, stays_same (move_cause fault) kind s opens);
-        kept = λ keeps. same_tree law kind was s [] old new before after quiet told opens reads.stops;
-        still = λ leaves. same_image law kind was s [] old new before after quiet told opens reads.stops;
-        spared = λ image since. host_left_same kind s opens image (same_image law kind was s [] old new before after quiet told opens reads.stops image since) false line;
-        exit = λ image here. host_left_same kind s opens image (one_told (sym here ∙ (reads.bytes ∙ told))) false line;
+        kept = λ keeps. same_tree law kind safe was s [] old new before after quiet told opens reads.stops;
+        still = λ leaves. same_image law kind safe was s [] old new before after quiet told opens reads.stops;
+        spared = λ image since. broke_left mode s opens line asked files image (same_image law kind safe was s [] old new before after quiet told opens reads.stops image since);
+        exit = λ image here. broke_left mode s opens line asked files image (one_told (sym here ∙ (reads.bytes ∙ told)));
       };
     })
 
-    -- ---- the file was there and is short enough
+    -- ---- the file was there and is short enough, outside the safe mode
 
-    module _ {H K : Type 0} (h : Hosts H) (k : Sinks K) (parts : ArePartsOf (parts_of was) s.view) (agree : (x : Kind) × Agree x (parts_of was)) (is_map : IsMapIn (parts_of was).layout) (len : ℕ) (few : len ≤ longest_file) (host mid end : H)
+    module _ {H K : Type 0} (plain : safe ≡ false) (h : Hosts H) (k : Sinks K) (parts : ArePartsOf (parts_of was) s.view) (agree : (x : Kind) × Agree x (parts_of was)) (is_map : IsMapIn (parts_of was).layout) (len : ℕ) (few : len ≤ longest_file) (host mid end : H)
         (measured : h.asked mid ≡ h.asked host ++ (name, calls.Size (Some len), []) ∷ []) (size : ForSome (h.files host) (λ held. Some len ≡ size_of held name)) (same_files : h.files mid ≡ h.files host)
         (v : Volume) (new : D) (before after : K) where
       abbrev ask : Asked
@@ -366,6 +368,13 @@ module _ {D : Type 0} {d : Ghosts D} (law : Laws d) (kind : Kind) (was : Volume)
             (spares_law s.image image kind agree.0 s.view (parts_of was) (save bytes) opens parts agree.1 is_map leaves),
       )
 
+      -- outside the safe mode
+      plain_takes : (c : Command) (reply : List ℕ) (next : State) → Takes (mode_of kind was.read_only false) s (Ok c) reply next → Takes mode s (Ok c) reply next
+      plain_takes c reply next takes = subst (λ (b : Bool). Takes (mode_of kind was.read_only b) s (Ok c) reply next) (sym plain) takes
+
+      left_plain : (Safe Plain : List ℕ → Type 0) (image : List ℕ) → Plain image → LeftAs safe Safe Plain image
+      left_plain Safe Plain image left = as_either Safe Plain image safe (λ is. absurd (let clash : false ≡ true = sym plain ∙ is in cc)) (λ is. left)
+
       left_so : (refused : Bool) → refused ≡ false → (bytes image : List ℕ) → WritesPlacesOf (save bytes) (parts_of was) s.image image → CommandLeaves (save bytes) (parts_of was) s.image image
           → HostLeftBy kind s refused line image
       left_so refused is bytes image writes leaves =
@@ -379,7 +388,7 @@ module _ {D : Type 0} {d : Ghosts D} (law : Laws d) (kind : Kind) (was : Volume)
 
       -- It was saved.
       pub done_moves : (saves : SavesFile d h name len save was v old new mid end (Ok tt)) → (r : Result Bool LineFault) → (r ≡ Err LineFault.Disk → ⊥) → Answered ok_line (k.taken before) (k.taken after) r
-          → AsksMore h host end (λ asked. LineMoves d old new kind was.read_only s v line (k.taken before) (k.taken after) asked (h.files host) (h.files end) (moved_result r))
+          → AsksMore h host end (λ asked. LineMoves d old new mode s v line (k.taken before) (k.taken after) asked (h.files host) (h.files end) (moved_result r))
       done_moves saves r never answered = (ask ∷ more, asked_is more saves.taken.1, by r never answered)
         where
           more : List Asked
@@ -398,7 +407,7 @@ module _ {D : Type 0} {d : Ghosts D} (law : Laws d) (kind : Kind) (was : Volume)
           next = record { image = changes.0; view = changes.2.0 }
 
           takes : Takes mode s (Ok (save (joined saves.taken.0))) ok_line next
-          takes = subst (λ (bs : List ℕ). Takes mode s (Ok (save bs)) ok_line next) (sym saves.taken.2) (done_takes kind was.read_only s (save bytes) refl next accepted_all changes.2.1)
+          takes = subst (λ (bs : List ℕ). Takes mode s (Ok (save bs)) ok_line next) (sym saves.taken.2) (plain_takes (save bytes) ok_line next (done_takes kind was.read_only s (save bytes) refl next accepted_all changes.2.1))
 
           step : AskedTakes mode s (ask ∷ more) line ok_line next
           step = asked_so (ask ∷ more) ok_line next
@@ -420,18 +429,19 @@ module _ {D : Type 0} {d : Ghosts D} (law : Laws d) (kind : Kind) (was : Volume)
             opens = changes.2.1.opens.opens;
             kept = λ keeps. absurd (clash (is_error ok_line) no_error keeps);
             still = λ leaves. absurd (clash (is_error ok_line) no_error leaves);
-            spared = λ image since. left_so (is_error ok_line) no_error (filled len bytes) image (saves.places.stops.since image since s.image told) (saves.leaves.stops.since image since s.image told);
+            spared = λ image since. left_plain (HasTreeBeforeOrAfter kind s (tree_in next)) (HostLeftBy kind s (is_error ok_line) line) image
+                (left_so (is_error ok_line) no_error (filled len bytes) image (saves.places.stops.since image since s.image told) (saves.leaves.stops.since image since s.image told));
           }
 
           by : (r : Result Bool LineFault) → (r ≡ Err LineFault.Disk → ⊥) → Answered ok_line (k.taken before) (k.taken after) r
-              → LineMoves d old new kind was.read_only s v line (k.taken before) (k.taken after) (ask ∷ more) (h.files host) (h.files end) (moved_result r)
+              → LineMoves d old new mode s v line (k.taken before) (k.taken after) (ask ∷ more) (h.files host) (h.files end) (moved_result r)
           by (Ok refused) never answered = record { reply = ok_line; next = next; moved = moved; parts = changes.2.2; wrote = answered.0; refused_is = answered.1 }
           by (Err fault) never answered = inl (record { reply = ok_line; next = next; moved = moved; part = answered; cuts = cuts_move fault (λ disk. never (ap Err disk)) })
 
       -- It broke off, and the disk has what the line may leave; if the disk didn't fail, an image like the one from before.
       pub broke_moves : (fault : MoveFault) (answer : Result (Unit {0}) GivenError) → SavesFile d h name len save was v old new mid end answer → after ≡ before
           → (spares_disk (move_cause fault) ≡ true → (image : List ℕ) × (d.bytes new ≡ Some image) × StaysBy (move_cause fault) kind s image)
-          → AsksMore h host end (λ asked. LineMoves d old new kind was.read_only s v line (k.taken before) (k.taken after) asked (h.files host) (h.files end) (Err fault))
+          → AsksMore h host end (λ asked. LineMoves d old new mode s v line (k.taken before) (k.taken after) asked (h.files host) (h.files end) (Err fault))
       broke_moves fault answer saves same holds =
           let more = saves.looks.0 in
           let looks = All-cons (IsLook name) ask more (refl, refl) saves.looks.2 in (
@@ -446,8 +456,9 @@ module _ {D : Type 0} {d : Ghosts D} (law : Laws d) (kind : Kind) (was : Volume)
                 holds = holds;
                 kept = λ keeps. absurd (let clash : false ≡ true = keeps in cc);
                 still = λ leaves. absurd (let clash : false ≡ true = leaves in cc);
-                spared = λ image since. left_so false refl (filled len saves.given) image (saves.places.stops.since image since s.image told) (saves.leaves.stops.since image since s.image told);
-                exit = λ image here.
+                spared = λ image since. left_plain (AskedLeaves mode s line (ask ∷ more) (h.files host)) (HostLeftBy kind s false line) image
+                    (left_so false refl (filled len saves.given) image (saves.places.stops.since image since s.image told) (saves.leaves.stops.since image since s.image told));
+                exit = λ image here. left_plain (AskedLeaves mode s line (ask ∷ more) (h.files host)) (HostLeftBy kind s false line) image
                     (let exit = saves.places.exit s.image told in
                     let leaves = saves.leaves.exit s.image told in
                     left_so false refl (filled len saves.given) image (subst (WritesPlacesOf (save (filled len saves.given)) (parts_of was) s.image) (one_told (sym exit.1 ∙ here)) exit.2)
@@ -459,45 +470,45 @@ module _ {D : Type 0} {d : Ghosts D} (law : Laws d) (kind : Kind) (was : Volume)
       -- It was refused for its length, and nothing was taken.
       pub refused_moves : (r : Refusal) (told' : Result Bool LineFault) → SavesFile d h name len save was v old new mid end (Err (GivenError.Command (Refused r)))
           → (told' ≡ Err LineFault.Disk → ⊥) → Answered (refusal_line r) (k.taken before) (k.taken after) told'
-          → AsksMore h host end (λ asked. LineMoves d old new kind was.read_only s v line (k.taken before) (k.taken after) asked (h.files host) (h.files end) (moved_result told'))
+          → AsksMore h host end (λ asked. LineMoves d old new mode s v line (k.taken before) (k.taken after) asked (h.files host) (h.files end) (moved_result told'))
       refused_moves r told' saves never answered =
           let same = saves.unchanged (λ disk. absurd (cc)) (λ supply. absurd (cc)) in
           let asked = ask ∷ [] in
           let refusals : (bytes : List ℕ) → length bytes ≡ len → Takes mode s (Ok (save bytes)) (refusal_line r) s =
           λ bytes long.
-          refused_takes kind was.read_only s (save bytes) refl r
-          (refusal_is (refusal_in s.view s.image was.read_only (save bytes)) r (saves.refused bytes long s.view s.image (sound_law s.image kind s.view opens) parts)) in
+          plain_takes (save bytes) (refusal_line r) s (refused_takes kind was.read_only s (save bytes) refl r
+          (refusal_is (refusal_in s.view s.image was.read_only (save bytes)) r (saves.refused bytes long s.view s.image (sound_law s.image kind s.view opens) parts))) in
           let step : AskedTakes mode s asked line (refusal_line r) s = asked_so asked (refusal_line r) s (inr (len, [], refl, inr (not_long len few, inr (refl, refusals)))) in
           let files_same : h.files end ≡ h.files host = saves.files ∙ same_files in (
             asked,
             ap h.asked same.2 ∙ measured,
-            subst (λ (w : Volume). LineMoves d old new kind was.read_only s w line (k.taken before) (k.taken after) asked (h.files host) (h.files end) (moved_result told')) (sym same.0)
-                (subst (λ (o : Option Files). LineMoves d old new kind was.read_only s was line (k.taken before) (k.taken after) asked (h.files host) o (moved_result told')) (sym files_same)
-                (told_moves law kind was s line old new (k.taken before) (k.taken after) quiet told opens (subst (λ (x : D). OnlyReads d old x) (sym same.1) (reads_start law old))
+            subst (λ (w : Volume). LineMoves d old new mode s w line (k.taken before) (k.taken after) asked (h.files host) (h.files end) (moved_result told')) (sym same.0)
+                (subst (λ (o : Option Files). LineMoves d old new mode s was line (k.taken before) (k.taken after) asked (h.files host) o (moved_result told')) (sym files_same)
+                (told_moves law kind safe was s line old new (k.taken before) (k.taken after) quiet told opens (subst (λ (x : D). OnlyReads d old x) (sym same.1) (reads_start law old))
                 (refusal_line r) asked (h.files host) (h.files host) step (sized (Some len) (h.files host) size) parts told' never answered)),
           )
 
       told_so : {result : Result Bool MoveFault} (r : Result Bool LineFault) → moved_result r ≡ result
-          → AsksMore h host end (λ asked. LineMoves d old new kind was.read_only s v line (k.taken before) (k.taken after) asked (h.files host) (h.files end) (moved_result r))
-          → AsksMore h host end (λ asked. LineMoves d old new kind was.read_only s v line (k.taken before) (k.taken after) asked (h.files host) (h.files end) result)
-      told_so r is moves = subst (λ (x : Result Bool MoveFault). AsksMore h host end (λ asked. LineMoves d old new kind was.read_only s v line (k.taken before) (k.taken after) asked (h.files host) (h.files end) x)) is moves
+          → AsksMore h host end (λ asked. LineMoves d old new mode s v line (k.taken before) (k.taken after) asked (h.files host) (h.files end) (moved_result r))
+          → AsksMore h host end (λ asked. LineMoves d old new mode s v line (k.taken before) (k.taken after) asked (h.files host) (h.files end) result)
+      told_so r is moves = subst (λ (x : Result Bool MoveFault). AsksMore h host end (λ asked. LineMoves d old new mode s v line (k.taken before) (k.taken after) asked (h.files host) (h.files end) x)) is moves
 
       -- what becomes of the line, by what the volume answered
       pub saved_moves : (answer : Result (Unit {0}) GivenError) (result : Result Bool MoveFault) → SavesFile d h name len save was v old new mid end answer → TellsSaved k before after answer result
-          → AsksMore h host end (λ asked. LineMoves d old new kind was.read_only s v line (k.taken before) (k.taken after) asked (h.files host) (h.files end) result)
+          → AsksMore h host end (λ asked. LineMoves d old new mode s v line (k.taken before) (k.taken after) asked (h.files host) (h.files end) result)
       saved_moves (Ok done) result saves tells = told_so tells.0 (sym tells.1) (done_moves saves tells.0 tells.3.no_disk tells.2)
       saved_moves (Err (GivenError.Command (Refused r))) result saves tells = told_so tells.0 (sym tells.1) (refused_moves r tells.0 saves tells.2.1.no_disk tells.2.0)
       saved_moves (Err (GivenError.Command NoMemory)) result saves tells =
-          subst (λ (x : Result Bool MoveFault). AsksMore h host end (λ asked. LineMoves d old new kind was.read_only s v line (k.taken before) (k.taken after) asked (h.files host) (h.files end) x))
+          subst (λ (x : Result Bool MoveFault). AsksMore h host end (λ asked. LineMoves d old new mode s v line (k.taken before) (k.taken after) asked (h.files host) (h.files end) x))
           (sym (tells.1 ∙ ap moved_result tells.2.0))
           (broke_moves MoveFault.NoMemory (Err (GivenError.Command NoMemory)) saves tells.2.1 (λ spares. (s.image, ap d.bytes (saves.unchanged (λ disk. absurd (cc)) (λ supply. absurd (cc))).1 ∙ told, refl)))
       saved_moves (Err (GivenError.Command DiskFault)) result saves tells =
-          subst (λ (x : Result Bool MoveFault). AsksMore h host end (λ asked. LineMoves d old new kind was.read_only s v line (k.taken before) (k.taken after) asked (h.files host) (h.files end) x))
+          subst (λ (x : Result Bool MoveFault). AsksMore h host end (λ asked. LineMoves d old new mode s v line (k.taken before) (k.taken after) asked (h.files host) (h.files end) x))
           (sym (tells.1 ∙ ap moved_result tells.2.0)) (broke_moves MoveFault.Disk (Err (GivenError.Command DiskFault)) saves tells.2.1 (λ spares. absurd (cc)))
       saved_moves (Err GivenError.Supply) result saves tells =
           let exit = (saves.alike refl).exit s.image told in
           let alike = exit.2 kind s.view opens parts in
-          subst (λ (x : Result Bool MoveFault). AsksMore h host end (λ asked. LineMoves d old new kind was.read_only s v line (k.taken before) (k.taken after) asked (h.files host) (h.files end) x))
+          subst (λ (x : Result Bool MoveFault). AsksMore h host end (λ asked. LineMoves d old new mode s v line (k.taken before) (k.taken after) asked (h.files host) (h.files end) x))
           (sym tells.0) (broke_moves MoveFault.Host (Err GivenError.Supply) saves tells.1 (λ spares. (exit.0, exit.1, record { opens = alike.opens; objects = alike.objects })))
 
 -- ---- what it keeps

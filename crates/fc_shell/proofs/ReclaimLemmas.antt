@@ -24,12 +24,12 @@ use Rattle.fc_image.specs.effects.Effect.{State, tree_in}
 use Rattle.fc_image.specs.effects.Sharing.{new_ids}
 use Rattle.fc_image.specs.effects.Short.{needed_bits, needed_ids, short, space_reasons}
 use Rattle.fc_image.specs.safe.Reclaim.{Reclaims, reclaimed_bytes}
-use Rattle.fc_image.specs.safe.SafeEffect.{HasTree}
+use Rattle.fc_image.specs.safe.SafeEffect.{HasTree, HasTreeBeforeOrAfter}
 use Rattle.fc_script.specs.Lines.{command_of}
 use Rattle.fc_script.specs.Texts.{ok_line, reclaimed_line, refusal_line}
 use Rattle.fc_runs.specs.Early.{reply_begun}
-use Rattle.fc_runs.specs.Run.{Answers, Serves, Step, Takes, is_error, keeps_tree_or, layout_reason, shortage}
-use Rattle.fc_runs.specs.Stops.{leaves_image_or}
+use Rattle.fc_runs.specs.Run.{Answers, Mode, Serves, Step, Takes, is_error, keeps_tree_or, layout_reason, shortage, tree_after}
+use Rattle.fc_runs.specs.Stops.{LeftBy, leaves_image_or}
 use Rattle.fc_tree.specs.Parts.{ArePartsOf}
 use Rattle.fc_holdings.specs.declared.error.CommandError.{CommandError}
 use Rattle.fc_volume.specs.Volume.{Volume, parts_of}
@@ -39,7 +39,7 @@ use Rattle.fc_shell.specs.Answered.{Answered}
 use Rattle.fc_shell.specs.Changing.{IsReclaiming, TellsBy, reclaimed_reply}
 use Rattle.fc_runs.specs.Meanwhile.{LeavesTree}
 use Rattle.fc_shell.specs.Line.{IsDone, KeepsGoing, LineEnds}
-use Rattle.fc_shell.specs.Modes.{plain_mode}
+use Rattle.fc_shell.specs.Modes.{SuitsMode, mode_of}
 use Rattle.fc_shell.specs.Reads.{is_reading_line}
 use Rattle.fc_shell.specs.Writing.{Wrote, WrotePart}
 use Rattle.fc_shell.proofs.ChangeLemmas.{going}
@@ -49,6 +49,9 @@ use Rattle.fc_shell.proofs.StepLemmas.{left_ends}
 use Rattle.fc_shell.proofs.WritingLemmas.{part_of_first, part_of_second, wrote_nothing}
 use Rattle.fc_runs.proofs.ErrorLemmas.{ok_no_error}
 use Rattle.fc_runs.proofs.LeftLemmas.{left_if_kept}
+use Rattle.fc_runs.proofs.ModeLemmas.{as_either}
+use Rattle.fc_runs.proofs.SafeShortageLemmas.{keeping_enough}
+use Rattle.fc_shell.proofs.SuitsLemmas.{suits_new}
 use Rattle.fc_lost.proofs.KeepsLemmas.{one_some as some_same}
 
 -- ---- the reply in pieces
@@ -95,13 +98,15 @@ never_short v m is =
     subst (λ (l : Layout). first_of (space_reasons l v Command.Reclaim) ≡ None) (sym is)
     (new_enough (length (new_ids m)) (bits_in (hole_runs m)) (needed_ids m v Command.Reclaim) (needed_bits m v Command.Reclaim) refl refl)
 
-no_shortage : (v : Opened) (m : Map) → v.layout ≡ Layout.New m → shortage false v Command.Reclaim ≡ None
-no_shortage v m is =
+no_shortage : (v : Opened) (m : Map) → v.layout ≡ Layout.New m → (safe : Bool) → shortage safe v Command.Reclaim ≡ None
+no_shortage v m is true = keeping_enough v Command.Reclaim (never_short v m is) refl
+no_shortage v m is false =
     ap₂ (λ (a b : Option Refusal). option_map refusal_line (first_of (a ∷ b ∷ []))) (ap (λ (l : Layout). layout_reason l Command.Reclaim) is) (never_short v m is)
 
 -- and with an old map the layout refuses it.
-old_shortage : (v : Opened) (space : OldMapContent) → v.layout ≡ Layout.Old space → shortage false v Command.Reclaim ≡ Some (refusal_line refusals.NotNewMap)
-old_shortage v space is =
+old_shortage : (v : Opened) (space : OldMapContent) → v.layout ≡ Layout.Old space → (safe : Bool) → (safe ≡ true → IsNewLayout v.layout) → shortage safe v Command.Reclaim ≡ Some (refusal_line refusals.NotNewMap)
+old_shortage v space is true new_map = absurd (subst IsNewLayout is (new_map refl))
+old_shortage v space is false new_map =
     ap (λ (a : Option Refusal). option_map refusal_line (first_of (a ∷ short v Command.Reclaim ∷ []))) (ap (λ (l : Layout). layout_reason l Command.Reclaim) is)
 
 -- A volume that isn't refused may be changed, and has a new map.
@@ -112,44 +117,51 @@ accepted false (Layout.New m) never = (refl, (m, refl))
 
 -- ---- steps
 
-module _ (kind : Kind) (read_only : Bool) (s : State) (line : List ℕ) (is : command_of line ≡ Ok Command.Reclaim) where
+module _ (kind : Kind) (read_only safe : Bool) (s : State) (line : List ℕ) (new_map : safe ≡ true → IsNewLayout s.view.layout) (is : command_of line ≡ Ok Command.Reclaim) where
   by_answer : (a : Result Tree Refusal) (reply : List ℕ) (next : State) → answer (tree_in s) (dir_form s.view.layout) read_only Command.Reclaim ≡ a
-      → Answers (plain_mode kind read_only) s Command.Reclaim a reply next → Step (plain_mode kind read_only) s line reply next
+      → Answers (mode_of kind read_only safe) s Command.Reclaim a reply next → Step (mode_of kind read_only safe) s line reply next
   by_answer a reply next answered takes =
-      subst (λ (r : Result Command Refusal). Takes (plain_mode kind read_only) s r reply next) (sym is)
-      (subst (λ (x : Result Tree Refusal). Answers (plain_mode kind read_only) s Command.Reclaim x reply next) (sym answered) takes)
+      subst (λ (r : Result Command Refusal). Takes (mode_of kind read_only safe) s r reply next) (sym is)
+      (subst (λ (x : Result Tree Refusal). Answers (mode_of kind read_only safe) s Command.Reclaim x reply next) (sym answered) takes)
 
-  by_shortage : (o : Option (List ℕ)) (reply : List ℕ) (next : State) → read_only ≡ false → shortage false s.view Command.Reclaim ≡ o
-      → Serves (plain_mode kind read_only) s Command.Reclaim (tree_in s) o reply next → Step (plain_mode kind read_only) s line reply next
+  by_shortage : (o : Option (List ℕ)) (reply : List ℕ) (next : State) → read_only ≡ false → shortage safe s.view Command.Reclaim ≡ o
+      → Serves (mode_of kind read_only safe) s Command.Reclaim (tree_in s) o reply next → Step (mode_of kind read_only safe) s line reply next
   by_shortage o reply next writable short_is serves =
       by_answer (Ok (tree_in s)) reply next
       (ap (λ (b : Bool). answer (tree_in s) (dir_form s.view.layout) b Command.Reclaim) writable ∙ answer_writable (tree_in s) (dir_form s.view.layout))
-      (subst (λ (x : Option (List ℕ)). Serves (plain_mode kind read_only) s Command.Reclaim (tree_in s) x reply next) (sym short_is) serves)
+      (subst (λ (x : Option (List ℕ)). Serves (mode_of kind read_only safe) s Command.Reclaim (tree_in s) x reply next) (sym short_is) serves)
 
   -- An accepted one is a step,
   done_step : (next : State) (m : Map) → read_only ≡ false → s.view.layout ≡ Layout.New m → Reclaims kind s next
-      → Step (plain_mode kind read_only) s line (reclaimed_reply (reclaimed_bytes s.view next.view)) next
+      → Step (mode_of kind read_only safe) s line (reclaimed_reply (reclaimed_bytes s.view next.view)) next
   done_step next m writable layout reclaims =
-      by_shortage None (reclaimed_reply (reclaimed_bytes s.view next.view)) next writable (no_shortage s.view m layout) (refl, reclaims)
+      by_shortage None (reclaimed_reply (reclaimed_bytes s.view next.view)) next writable (no_shortage s.view m layout safe) (refl, reclaims)
 
   -- and so is one that is refused.
-  refused_step : (r : Refusal) → reclaim_refusal read_only s.view.layout ≡ Some r → Step (plain_mode kind read_only) s line (refusal_line r) s
+  refused_step : (r : Refusal) → reclaim_refusal read_only s.view.layout ≡ Some r → Step (mode_of kind read_only safe) s line (refusal_line r) s
   refused_step r refused = by read_only s.view.layout refl refl refused
     where
-      by : (b : Bool) (l : Layout) → read_only ≡ b → s.view.layout ≡ l → reclaim_refusal b l ≡ Some r → Step (plain_mode kind read_only) s line (refusal_line r) s
+      by : (b : Bool) (l : Layout) → read_only ≡ b → s.view.layout ≡ l → reclaim_refusal b l ≡ Some r → Step (mode_of kind read_only safe) s line (refusal_line r) s
       by true l locked layout e =
-          subst (λ (x : Refusal). Step (plain_mode kind read_only) s line (refusal_line x) s) (some_same refusals.ReadOnly r e)
+          subst (λ (x : Refusal). Step (mode_of kind read_only safe) s line (refusal_line x) s) (some_same refusals.ReadOnly r e)
           (by_answer (Err refusals.ReadOnly) (refusal_line refusals.ReadOnly) s
           (ap (λ (x : Bool). answer (tree_in s) (dir_form s.view.layout) x Command.Reclaim) locked ∙ answer_read_only (tree_in s) (dir_form s.view.layout)) (refl, refl))
       by false (Layout.Old space) writable layout e =
-          subst (λ (x : Refusal). Step (plain_mode kind read_only) s line (refusal_line x) s) (some_same refusals.NotNewMap r e)
-          (by_shortage (Some (refusal_line refusals.NotNewMap)) (refusal_line refusals.NotNewMap) s writable (old_shortage s.view space layout) (refl, refl))
+          subst (λ (x : Refusal). Step (mode_of kind read_only safe) s line (refusal_line x) s) (some_same refusals.NotNewMap r e)
+          (by_shortage (Some (refusal_line refusals.NotNewMap)) (refusal_line refusals.NotNewMap) s writable (old_shortage s.view space layout safe new_map) (refl, refl))
       by false (Layout.New m) writable layout e = absurd (cc)
 
 -- ---- what becomes of the line
 
-module _ {D K : Type 0} {d : Ghosts D} (law : Laws d) (k : Sinks K) (kind : Kind) (s : State) (line : List ℕ) (was v : Volume) (old new : D) (before after : K)
-    (is : command_of line ≡ Ok Command.Reclaim) (quiet : d.pending old ≡ false) (told : d.bytes old ≡ Some s.image) (opens : OpensAs s.image kind s.view) (parts : ArePartsOf (parts_of was) s.view) where
+module _ {D K : Type 0} {d : Ghosts D} (law : Laws d) (k : Sinks K) (kind : Kind) (safe : Bool) (s : State) (line : List ℕ) (was v : Volume) (old new : D) (before after : K)
+    (suits : SuitsMode safe was) (is : command_of line ≡ Ok Command.Reclaim) (quiet : d.pending old ≡ false) (told : d.bytes old ≡ Some s.image) (opens : OpensAs s.image kind s.view) (parts : ArePartsOf (parts_of was) s.view) where
+  abbrev mode : Mode
+  mode = mode_of kind was.read_only safe
+
+  -- The safe mode has a new map.
+  new_map_of : safe ≡ true → IsNewLayout s.view.layout
+  new_map_of e = subst IsNewLayout parts.layout (suits_new (parts_of was).layout (parts_of was).nodes (suits e))
+
   -- A crash meanwhile leaves the tree, on a new map.
   kept : (done : Result ℕ CommandError) → IsReclaiming d was v old new done → LeavesTree d old new kind s
   kept done asked new_map image left =
@@ -165,7 +177,7 @@ module _ {D K : Type 0} {d : Ghosts D} (law : Laws d) (k : Sinks K) (kind : Kind
 
   -- It was done.
   done_ends : (bytes : ℕ) (result : Result Bool LineFault) → IsReclaiming d was v old new (Ok bytes) → TellsBy reclaimed_reply k before after (Ok bytes) result
-      → LineEnds d old new kind was.read_only s v line (k.taken before) (k.taken after) result
+      → LineEnds d old new mode s v line (k.taken before) (k.taken after) result
   done_ends bytes result asked tells = by result tells.0 tells.1.no_disk
     where
       next : State
@@ -192,18 +204,19 @@ module _ {D K : Type 0} {d : Ghosts D} (law : Laws d) (k : Sinks K) (kind : Kind
       tree : keeps_tree_or (is_error (reclaimed_reply bytes)) (command_of line) ≡ true
       tree = ap (keeps_tree_or (is_error (reclaimed_reply bytes))) is ∙ or_true (is_error (reclaimed_reply bytes))
 
-      step : IsDone d old new kind was.read_only s line (reclaimed_reply bytes) next
+      step : IsDone d old new mode s line (reclaimed_reply bytes) next
       step = record {
-        step = subst (λ (n : ℕ). Step (plain_mode kind was.read_only) s line (reclaimed_reply n) next) (sym given) (done_step kind was.read_only s line is next may.1.0 may.0 may.1.1 reclaims);
+        step = subst (λ (n : ℕ). Step mode s line (reclaimed_reply n) next) (sym given) (done_step kind was.read_only safe s line new_map_of is next may.1.0 may.0 may.1.1 reclaims);
         holds = (asked.reclaimed s.image told).1;
         opens = reclaims.opens.opens;
         kept = λ keep. kept (Ok bytes) asked;
         still = λ leaves. absurd (let clash : false ≡ true = sym image ∙ leaves in cc);
-        spared = λ at left. left_if_kept _ _ kind s _ at image tree (λ new_map. kept (Ok bytes) asked new_map at left);
+        spared = λ at left. as_either (HasTreeBeforeOrAfter kind s (tree_in next)) (LeftBy kind s (is_error (reclaimed_reply bytes)) (command_of line)) at safe (λ e. inl (kept (Ok bytes) asked (new_map_of e) at left))
+            (λ e. left_if_kept _ _ kind s _ at image tree (λ new_map. kept (Ok bytes) asked new_map at left));
       }
 
       by : (result : Result Bool LineFault) → Answered (reclaimed_reply bytes) (k.taken before) (k.taken after) result → (result ≡ Err LineFault.Disk → ⊥)
-          → LineEnds d old new kind was.read_only s v line (k.taken before) (k.taken after) result
+          → LineEnds d old new mode s v line (k.taken before) (k.taken after) result
       by (Ok refused) answered no_disk = record {
         reply = reclaimed_reply bytes;
         next = next;
@@ -215,39 +228,41 @@ module _ {D K : Type 0} {d : Ghosts D} (law : Laws d) (k : Sinks K) (kind : Kind
       by (Err fault) answered no_disk = inl (record { reply = reclaimed_reply bytes; next = next; done = step; part = answered; no_disk = λ disk. no_disk (ap Err disk) })
 
   -- The disk failed.
-  fails : IsReclaiming d was v old new (Err CommandError.DiskFault) → k.taken after ≡ k.taken before → LineEnds d old new kind was.read_only s v line (k.taken before) (k.taken after) (Err LineFault.Disk)
+  fails : IsReclaiming d was v old new (Err CommandError.DiskFault) → k.taken after ≡ k.taken before → LineEnds d old new mode s v line (k.taken before) (k.taken after) (Err LineFault.Disk)
   fails asked same =
-      let begun : reply_begun (plain_mode kind was.read_only) s (command_of line) ≡ [] = ap (reply_begun (plain_mode kind was.read_only) s) is in
+      let begun : reply_begun mode s (command_of line) ≡ [] = ap (reply_begun mode s) is in
       inr (record {
         part = subst (WrotePart (k.taken before) (k.taken after)) (sym begun) (0, subst (λ (a : Option (List ℕ)). Wrote (k.taken before) a []) (sym same) (wrote_nothing (k.taken before)));
         holds = λ never. absurd (never refl);
         kept = λ keep. kept (Err CommandError.DiskFault) asked;
         still = λ leaves. absurd (let clash : false ≡ true = sym (ap (leaves_image_or false) is) ∙ leaves in cc);
-        spared = λ at left. left_if_kept _ _ kind s _ at (ap (leaves_image_or false) is) (ap (keeps_tree_or false) is) (λ new_map. kept (Err CommandError.DiskFault) asked new_map at left);
-        exit = λ at here. left_if_kept _ _ kind s _ at (ap (leaves_image_or false) is) (ap (keeps_tree_or false) is) (λ new_map. exits (Err CommandError.DiskFault) asked new_map at here);
+        spared = λ at left. as_either (HasTreeBeforeOrAfter kind s (tree_after mode s (command_of line))) (LeftBy kind s false (command_of line)) at safe (λ e. inl (kept (Err CommandError.DiskFault) asked (new_map_of e) at left))
+            (λ e. left_if_kept _ _ kind s _ at (ap (leaves_image_or false) is) (ap (keeps_tree_or false) is) (λ new_map. kept (Err CommandError.DiskFault) asked new_map at left));
+        exit = λ at here. as_either (HasTreeBeforeOrAfter kind s (tree_after mode s (command_of line))) (LeftBy kind s false (command_of line)) at safe (λ e. inl (exits (Err CommandError.DiskFault) asked (new_map_of e) at here))
+            (λ e. left_if_kept _ _ kind s _ at (ap (leaves_image_or false) is) (ap (keeps_tree_or false) is) (λ new_map. exits (Err CommandError.DiskFault) asked new_map at here));
       })
 
   -- A refusal left everything.
   refused_ends : (r : Refusal) (result : Result Bool LineFault) → IsReclaiming d was v old new (Err (CommandError.Refused r)) → TellsBy reclaimed_reply k before after (Err (CommandError.Refused r)) result
-      → LineEnds d old new kind was.read_only s v line (k.taken before) (k.taken after) result
+      → LineEnds d old new mode s v line (k.taken before) (k.taken after) result
   refused_ends r result asked tells =
       let same = asked.keeps.unchanged (λ fault. absurd (cc)) in
       let reason : reclaim_refusal was.read_only s.view.layout ≡ Some r = sym (ap (reclaim_refusal was.read_only) parts.layout) ∙ (asked.refused r).0 refl in
       let reads : OnlyReads d old new = subst (λ (x : D). OnlyReads d old x) (sym same.1) (reads_start law old) in
-      subst (λ (w : Volume). LineEnds d old new kind was.read_only s w line (k.taken before) (k.taken after) result) (sym same.0)
-      (left_ends law kind was s line old new (k.taken before) (k.taken after) quiet told opens (refusal_line r) result (refused_step kind was.read_only s line is r reason) reads parts tells.1.no_disk tells.0)
+      subst (λ (w : Volume). LineEnds d old new mode s w line (k.taken before) (k.taken after) result) (sym same.0)
+      (left_ends law kind safe was s line old new (k.taken before) (k.taken after) quiet told opens (refusal_line r) result (refused_step kind was.read_only safe s line new_map_of is r reason) reads parts tells.1.no_disk tells.0)
 
   no_memory : ((reason : Refusal) × (CommandError.NoMemory ≡ CommandError.Refused reason)) ⊎ (CommandError.NoMemory ≡ CommandError.DiskFault) → ⊥
   no_memory (inl refused) = let e : CommandError.NoMemory ≡ CommandError.Refused refused.0 = refused.1 in cc
   no_memory (inr fault) = cc
 
   pub reclaim_ends : (done : Result ℕ CommandError) (result : Result Bool LineFault) → IsReclaiming d was v old new done → TellsBy reclaimed_reply k before after done result
-      → LineEnds d old new kind was.read_only s v line (k.taken before) (k.taken after) result
+      → LineEnds d old new mode s v line (k.taken before) (k.taken after) result
   reclaim_ends (Ok bytes) result asked tells = done_ends bytes result asked tells
   reclaim_ends (Err (CommandError.Refused r)) result asked tells = refused_ends r result asked tells
   reclaim_ends (Err CommandError.NoMemory) result asked tells = absurd (no_memory asked.errors)
   reclaim_ends (Err CommandError.DiskFault) result asked tells =
-      subst (λ (x : Result Bool LineFault). LineEnds d old new kind was.read_only s v line (k.taken before) (k.taken after) x) (sym tells.0) (fails asked (ap k.taken tells.1))
+      subst (λ (x : Result Bool LineFault). LineEnds d old new mode s v line (k.taken before) (k.taken after) x) (sym tells.0) (fails asked (ap k.taken tells.1))
 
 -- ---- what it keeps
 

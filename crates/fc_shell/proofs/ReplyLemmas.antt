@@ -21,7 +21,7 @@ use Rattle.fc_volume.specs.declared.lines.Line.{Line}
 use Rattle.fc_volume.specs.Answers.{line_in, lines_in}
 use Rattle.fc_volume.specs.Volume.{Volume}
 use Rattle.fc_shell.specs.Answered.{IsReply, volume_reply}
-use Rattle.fc_shell.specs.Modes.{plain_mode}
+use Rattle.fc_shell.specs.Modes.{mode_of}
 use Rattle.fc_shell.specs.Told.{told_line, told_lines}
 use Rattle.fc_shell.specs.declared.reply.Reply.{Reply}
 use Rattle.fc_shell.proofs.ShortageLemmas.{shortage_none}
@@ -47,13 +47,13 @@ module _ (kind : Kind) (v : Volume) (image : List ℕ) (view : Opened) (c : Comm
   unfolding volume_reply
   accepted t opens reads is =
       let s : State = record { image = image; view = view } in
-      ap (answered_reply (plain_mode kind v.read_only) s c) is ∙ ap (served_reply s c) (shortage_none image kind view c opens reads)
+      ap (answered_reply (mode_of kind v.read_only false) s c) is ∙ ap (served_reply s c) (shortage_none image kind view c opens reads)
 
   -- a refused one's is the refusal's line
   pub refused : (refusal : Refusal) → answer (tree_in (record { image = image; view = view })) (dir_form view.layout) v.read_only c ≡ Err refusal
       → volume_reply kind v (record { image = image; view = view }) c ≡ refusal_line refusal
   unfolding volume_reply
-  refused refusal is = let s : State = record { image = image; view = view } in ap (answered_reply (plain_mode kind v.read_only) s c) is
+  refused refusal is = let s : State = record { image = image; view = view } in ap (answered_reply (mode_of kind v.read_only false) s c) is
 
 -- `digest` is refused where `load` is
 pub same_answer : (t : Tree) (form : NameForm) (read_only : Bool) (path : Path) → answer t form read_only (Command.Digest path) ≡ answer t form read_only (Command.Load path)

@@ -8,17 +8,17 @@ use Rattle.std.proofs.lemmas.List.Sums.{sum_by-cons, sum_by_push}
 use Rattle.std.proofs.Math.Seq.{take-append-add}
 use Rattle.fc_device.specs.declared.disk.Disk.{Ghosts}
 use Rattle.fc_device.proofs.DiskLaws.{Laws}
-use Rattle.fc_record.specs.declared.Kind.{Kind}
 use Rattle.fc_image.specs.Stays.{OpensAs}
 use Rattle.fc_image.specs.effects.Effect.{State, tree_in}
-use Rattle.fc_image.specs.safe.SafeEffect.{HasTree}
+use Rattle.fc_image.specs.safe.SafeEffect.{HasTree, HasTreeBeforeOrAfter}
 use Rattle.fc_script.specs.Lines.{command_of}
 use Rattle.fc_runs.specs.Early.{reply_begun, text_begun}
 use Rattle.fc_runs.specs.Meanwhile.{GoesOn}
 use Rattle.fc_runs.specs.Promises.{spares_disk}
-use Rattle.fc_runs.specs.Run.{Mode, Steps, all_keep_tree, commands_in, is_error, keeps_tree_or, text_of}
+use Rattle.fc_runs.specs.Run.{HasTreeAround, Mode, Steps, all_keep_tree, commands_in, is_error, keeps_tree_or, text_of, tree_after, whole_replies}
 use Rattle.fc_runs.specs.Stops.{MayHaveLeft, all_leave_image, is_kept_by_next, leaves_image_or}
 use Rattle.fc_runs.proofs.MeanwhileLemmas.{goes_then}
+use Rattle.fc_runs.proofs.ModeLemmas.{around_before, as_plain, as_safe, between_last, between_more, left_unbegun, tree_around, tree_between, whole_most}
 use Rattle.fc_runs.proofs.StepLemmas.{has_tree}
 use Rattle.fc_runs.proofs.TextLemmas.{begun_front, front_part, get_next, one_more, whole_all}
 use Rattle.fc_tree.specs.Parts.{ArePartsOf}
@@ -29,15 +29,14 @@ use Rattle.fc_shell.specs.declared.tally.Tally.{Tally}
 use Rattle.fc_shell.specs.Reads.{Spares, all_read, is_reading_line}
 use Rattle.fc_shell.specs.Counted.{AreCounted, has_refused}
 use Rattle.fc_shell.specs.Line.{BreaksOff, IsAnswered, IsCutOff, IsDone, LineEnds}
-use Rattle.fc_shell.specs.Modes.{plain_mode}
 use Rattle.fc_shell.specs.Serving.{AreDone, HasServed, ServesAs, cause_of}
 use Rattle.fc_shell.specs.Writing.{Wrote}
 use Rattle.fc_shell.proofs.TurnLemmas.{each_done, each_front, each_last, each_next, keeps, leaves, steps_keep, steps_leave, steps_long, steps_more, steps_new, steps_weaker}
 use Rattle.fc_shell.proofs.WritingLemmas.{wrote_nothing, wrote_both}
 use Rattle.std.proofs.lemmas.Bool.{and_parts as both_true}
 use Rattle.fc_device.proofs.StopLemmas.{one_told}
-use Rattle.fc_runs.specs.Stops.{IsLeftInLine, LeftByLine, LeftIn, StepsTo}
-use Rattle.fc_runs.proofs.LeftLemmas.{ends_same, left_by_same, left_front, left_last, left_more, left_next, steps_longer, steps_to_all, steps_to_more}
+use Rattle.fc_runs.specs.Stops.{HasTreeBetween, IsLeftInLine, LeftBy, LeftByLine, LeftIn, StepsTo}
+use Rattle.fc_runs.proofs.LeftLemmas.{ends_same, left_by_same, left_front, left_last, left_more, left_next, steps_any, steps_longer, steps_to_all, steps_to_more}
 
 -- ---- tests
 
@@ -92,29 +91,49 @@ is_disk lines.NoMemory h = absurd (cc)
 -- ---- lines that were done
 
 module _ {D : Type 0} {d : Ghosts D} (law : Laws d) where
-  module _ (kind : Kind) (read_only : Bool) (s : State) (script : List ℕ) (old : D) (told : d.bytes old ≡ Some s.image) (quiet : d.pending old ≡ false) (opens : OpensAs s.image kind s.view) where
-    abbrev mode : Mode
-    mode = plain_mode kind read_only
-
+  module _ (mode : Mode) (s : State) (script : List ℕ) (old : D) (told : d.bytes old ≡ Some s.image) (quiet : d.pending old ≡ false) (opens : OpensAs s.image mode.kind s.view) where
     -- what a line may leave
     abbrev by : State → Bool → List ℕ → List ℕ → Type 0
-    by = LeftByLine kind
+    by = LeftByLine mode.kind
 
-    same_by : (x : State) → OpensAs x.image kind x.view → (image : List ℕ) (refused : Bool) (line : List ℕ) → image ≡ x.image → by x refused line image
-    same_by x there image refused line same = left_by_same kind x there image same refused (command_of line)
+    -- and what one may that broke off, in the safe mode and outside of it
+    abbrev Safely : List ℕ → State → List ℕ → Type 0
+    Safely line x = HasTreeBeforeOrAfter mode.kind x (tree_after mode x (command_of line))
+
+    abbrev Plainly : List ℕ → State → List ℕ → Type 0
+    Plainly line x = LeftBy mode.kind x false (command_of line)
+
+    same_by : (x : State) → OpensAs x.image mode.kind x.view → (image : List ℕ) (refused : Bool) (line : List ℕ) → image ≡ x.image → by x refused line image
+    same_by x there image refused line same = left_by_same mode.kind x there image same refused (command_of line)
 
     -- Some lines were done, and `rest` are left.
-    along_done : (new : D) (rest : List (List ℕ)) → (are : AreDone d old new kind read_only s script rest) → (image : List ℕ) → d.left_since new (d.moment old) image
+    along_done : (new : D) (rest : List (List ℕ)) → (are : AreDone d old new mode s script rest) → mode.safe ≡ false → (image : List ℕ) → d.left_since new (d.moment old) image
         → IsLeftInLine (StepsTo mode s (commands_in script) are.replies) by (commands_in script) are.replies image
-    along_done new rest are image left =
+    along_done new rest are plain image left =
         let long = steps_long (MayHaveLeft d old new) mode s are.state are.done are.replies are.steps in
         subst (λ (lines : List (List ℕ)). IsLeftInLine (StepsTo mode s lines are.replies) by lines are.replies image) (sym are.cut)
         (left_front (StepsTo mode s are.done are.replies) (StepsTo mode s (are.done ++ rest) are.replies) by are.state are.done are.replies long
         (steps_to_all (MayHaveLeft d old new) mode s are.state are.done are.replies long are.steps) image (same_by are.state are.opens image)
-        (λ n x low to. steps_longer mode s are.done are.replies long n low x rest to) rest (are.along image left))
+        (λ n x low to. steps_longer mode s are.done are.replies long n low x rest to) rest (are.along plain image left))
+
+    during_done : (new : D) (rest : List (List ℕ)) → (are : AreDone d old new mode s script rest) → mode.safe ≡ true → (image : List ℕ) → d.left_since new (d.moment old) image
+        → HasTreeBetween (StepsTo mode s (commands_in script) are.replies) (length are.replies) mode.kind image
+    during_done new rest are safe image left =
+        let long = steps_long (MayHaveLeft d old new) mode s are.state are.done are.replies are.steps in
+        subst (λ (lines : List (List ℕ)). HasTreeBetween (StepsTo mode s lines are.replies) (length are.replies) mode.kind image) (sym are.cut)
+        (between_more (StepsTo mode s are.done are.replies) (StepsTo mode s (are.done ++ rest) are.replies) (length are.replies) (length are.replies) mode.kind image (omega arith)
+        (λ n x low to. steps_longer mode s are.done are.replies long n low x rest to) (are.during safe image left))
+
+    -- The lines that were done lead to where they do.
+    done_to : (May : List ℕ → Type 0) (done replies : List (List ℕ)) (state : State) (rest : List (List ℕ)) → commands_in script ≡ done ++ rest → Steps May mode s done replies state
+        → StepsTo mode s (commands_in script) replies (length replies) state
+    done_to May done replies state rest cut steps =
+        let long = steps_long May mode s state done replies steps in
+        subst (λ (lines : List (List ℕ)). StepsTo mode s lines replies (length replies) state) (sym cut)
+        (steps_longer mode s done replies long (length replies) (omega arith) state rest (steps_to_all May mode s state done replies long steps))
 
     -- before the first line
-    pub done_start : (left : List (List ℕ)) → left ≡ commands_in script → AreDone d old old kind read_only s script left
+    pub done_start : (left : List (List ℕ)) → left ≡ commands_in script → AreDone d old old mode s script left
     done_start left all = record {
       done = [];
       replies = [];
@@ -123,20 +142,22 @@ module _ {D : Type 0} {d : Ghosts D} (law : Laws d) where
       steps = refl;
       holds = told;
       opens = opens;
-      kept = λ keep new_map image left. has_tree kind s image opens (law.settled old quiet s.image told image left);
+      kept = λ keep new_map image left. has_tree mode.kind s image opens (law.settled old quiet s.image told image left);
       still = λ leave image left. law.settled old quiet s.image told image left;
-      along = λ image left. inl (law.settled old quiet s.image told image left);
+      during = λ safe image left.
+          record { count = 0; within = omega arith; mid = s; steps = refl; tree = has_tree mode.kind s image opens (law.settled old quiet s.image told image left) };
+      along = λ plain image left. inl (law.settled old quiet s.image told image left);
     }
 
     pub served_start : (left : List (List ℕ)) (v : Volume) (tally : Tally) (before : Option (List ℕ)) → left ≡ commands_in script → ArePartsOf (parts_of v) s.view
-        → tally.replies ≡ 0 → tally.refused ≡ 0 → HasServed d old old kind read_only s script left v tally before before
+        → tally.replies ≡ 0 → tally.refused ≡ 0 → HasServed d old old mode s script left v tally before before
     unfolding done_start
     served_start left v tally before all parts replies refused =
         record { lines = done_start left all; counted = none_counted tally replies refused; wrote = wrote_nothing before; parts = parts }
 
     -- one line more
-    pub done_more : (line reply : List ℕ) (left : List (List ℕ)) (mid new : D) (next : State) → (are : AreDone d old mid kind read_only s script (line ∷ left)) → GoesOn d old mid → GoesOn d mid new
-        → IsDone d mid new kind read_only are.state line reply next → AreDone d old new kind read_only s script left
+    pub done_more : (line reply : List ℕ) (left : List (List ℕ)) (mid new : D) (next : State) → (are : AreDone d old mid mode s script (line ∷ left)) → GoesOn d old mid → GoesOn d mid new
+        → IsDone d mid new mode are.state line reply next → AreDone d old new mode s script left
     done_more line reply left mid new next are first second is = record {
       done = are.done ++ line ∷ [];
       replies = are.replies ++ reply ∷ [];
@@ -154,7 +175,7 @@ module _ {D : Type 0} {d : Ghosts D} (law : Laws d) where
           let last = each_last (MayHaveLeft d old mid) mode keeps s are.state are.done are.replies line reply are.steps keep in
           let new_now = steps_new (MayHaveLeft d old mid) mode s are.state are.done are.replies are.steps new_map in
           ⊎_elim (λ was. are.kept front new_map image was)
-          (λ since. subst (λ t. HasTree kind t image) (steps_keep (MayHaveLeft d old mid) mode s are.state are.done are.replies are.steps front) (is.kept last new_now image since))
+          (λ since. subst (λ t. HasTree mode.kind t image) (steps_keep (MayHaveLeft d old mid) mode s are.state are.done are.replies are.steps front) (is.kept last new_now image since))
           (second.stops.before (d.moment old) image first.stops.later left);
       still = λ leave image left.
           let front = each_front (MayHaveLeft d old mid) mode leaves s are.state are.done are.replies line reply are.steps leave in
@@ -162,15 +183,32 @@ module _ {D : Type 0} {d : Ghosts D} (law : Laws d) where
           ⊎_elim (λ was. are.still front image was)
           (λ since. is.still last image since ∙ ap (λ (x : State). x.image) (steps_leave (MayHaveLeft d old mid) mode s are.state are.done are.replies are.steps front))
           (second.stops.before (d.moment old) image first.stops.later left);
-      along = λ image left.
+      during = λ safe image left.
+          let May = MayHaveLeft d old mid in
+          let Might = MayHaveLeft d old new in
+          let long = steps_long May mode s are.state are.done are.replies are.steps in
+          let Before = StepsTo mode s are.done are.replies in
+          let After = StepsTo mode s (are.done ++ line ∷ []) (are.replies ++ reply ∷ []) in
+          let all = steps_to_all May mode s are.state are.done are.replies long are.steps in
+          let steps = steps_more (λ between. Unit {0}) mode s are.state next are.done are.replies line reply (steps_any May mode s are.state are.done are.replies are.steps) tt is.step in
+          let last = steps_to_all (λ between. Unit {0}) mode s next (are.done ++ line ∷ []) (are.replies ++ reply ∷ [])
+          (steps_long (λ between. Unit {0}) mode s next (are.done ++ line ∷ []) (are.replies ++ reply ∷ []) steps) steps in
+          let l = length-append are.replies (reply ∷ []) in
+          between_last Before After (length are.replies) (length (are.replies ++ reply ∷ [])) mode.kind image (omega (arith, l))
+          (λ n x low to. steps_to_more mode s are.done are.replies long n low x (line ∷ []) (reply ∷ []) to) are.state next all last
+          (⊎_elim (λ was. inl (are.during safe image was))
+          (λ since. inr (as_safe (HasTreeBeforeOrAfter mode.kind are.state (tree_in next)) (LeftBy mode.kind are.state (is_error reply) (command_of line)) image mode.safe safe (is.spared image since)))
+          (second.stops.before (d.moment old) image first.stops.later left));
+      along = λ plain image left.
           let long = steps_long (MayHaveLeft d old mid) mode s are.state are.done are.replies are.steps in
           let Before = StepsTo mode s are.done are.replies in
           let After = StepsTo mode s (are.done ++ line ∷ []) (are.replies ++ reply ∷ []) in
           let all = steps_to_all (MayHaveLeft d old mid) mode s are.state are.done are.replies long are.steps in
           ⊎_elim (λ was. left_more Before After by are.state are.done are.replies long all image (same_by are.state are.opens image)
-          (λ n x low to. steps_to_more mode s are.done are.replies long n low x (line ∷ []) (reply ∷ []) to) line reply next (are.along image was))
+          (λ n x low to. steps_to_more mode s are.done are.replies long n low x (line ∷ []) (reply ∷ []) to) line reply next (are.along plain image was))
           (λ since. left_last Before After by are.state are.done are.replies long all image (same_by are.state are.opens image)
-          (λ n x low to. steps_to_more mode s are.done are.replies long n low x (line ∷ []) (reply ∷ []) to) line reply next (is.spared image since))
+          (λ n x low to. steps_to_more mode s are.done are.replies long n low x (line ∷ []) (reply ∷ []) to) line reply next
+          (as_plain (HasTreeBeforeOrAfter mode.kind are.state (tree_in next)) (LeftBy mode.kind are.state (is_error reply) (command_of line)) image mode.safe plain (is.spared image since)))
           (second.stops.before (d.moment old) image first.stops.later left);
     }
 
@@ -179,8 +217,8 @@ module _ {D : Type 0} {d : Ghosts D} (law : Laws d) where
     start_left new goes tells = goes.stops.keeps (d.moment old) s.image (omega arith) (law.leaves_what_is_read old tells s.image told)
 
     -- all lines were done
-    pub served_all : (v : Volume) (tally : Tally) (before after : Option (List ℕ)) (new : D) → HasServed d old new kind read_only s script [] v tally before after → GoesOn d old new
-        → d.pending new ≡ false → ServesAs d old new kind read_only s script before after (Ok tally)
+    pub served_all : (v : Volume) (tally : Tally) (before after : Option (List ℕ)) (new : D) → HasServed d old new mode s script [] v tally before after → GoesOn d old new
+        → d.pending new ≡ false → ServesAs d old new mode s script before after (Ok tally)
     served_all v tally before after new has goes settled =
         let are = has.lines in
         let all : are.done ≡ commands_in script = sym (are.cut ∙ append-nil are.done) in (
@@ -201,14 +239,16 @@ module _ {D : Type 0} {d : Ghosts D} (law : Laws d) where
               idle = λ new_map fresh demo keep image left.
                   let tree = are.kept (subst (λ (lines : List (List ℕ)). all_keep_tree lines are.replies ≡ true) (sym all) keep) new_map image left in
                   record { view = tree.view; opens = tree.opens; tree = tree.tree };
-              last = λ new_map next image left. has_tree kind are.state image are.opens (law.settled new settled are.state.image are.holds image left);
+              last = λ new_map next image left. has_tree mode.kind are.state image are.opens (law.settled new settled are.state.image are.holds image left);
               still = λ fresh demo leave image left.
                   are.still (subst (λ (lines : List (List ℕ)). all_leave_image lines are.replies ≡ true) (sym all) leave) image left;
               rest = λ next image left. law.settled new settled are.state.image are.holds image left;
-              along = λ plain fresh. along_done new [] are;
-              ending = λ plain image left. ends_same kind are.state are.opens (slice_get (commands_in script) (length are.replies)) image (law.settled new settled are.state.image are.holds image left);
-              during = λ safe fresh image left. absurd (cc);
-              exit = λ safe image left. absurd (cc);
+              along = λ plain fresh. along_done new [] are plain;
+              ending = λ plain image left. ends_same mode.kind are.state are.opens (slice_get (commands_in script) (length are.replies)) image (law.settled new settled are.state.image are.holds image left);
+              during = λ safe fresh image left. tree_between mode s (commands_in script) are.replies image (during_done new [] are safe image left);
+              exit = λ safe image left. tree_around mode s (commands_in script) are.replies image are.state (whole_replies (length (text_of are.replies)) are.replies) (whole_most (length (text_of are.replies)) are.replies)
+                  (done_to (MayHaveLeft d old new) are.done are.replies are.state [] are.cut are.steps)
+                  (around_before mode are.state (slice_get (commands_in script) (length are.replies)) image (has_tree mode.kind are.state image are.opens (law.settled new settled are.state.image are.holds image left)));
             };
           },
           has.counted,
@@ -216,9 +256,9 @@ module _ {D : Type 0} {d : Ghosts D} (law : Laws d) where
 
     -- The last line was done, and its reply written in part.
     cut_off : (line : List ℕ) (left : List (List ℕ)) (v : Volume) (so_far : Tally) (before between after : Option (List ℕ)) (mid new : D) (fault : LineFault)
-        → (has : HasServed d old mid kind read_only s script (line ∷ left) v so_far before between) → GoesOn d old mid → GoesOn d mid new
+        → (has : HasServed d old mid mode s script (line ∷ left) v so_far before between) → GoesOn d old mid → GoesOn d mid new
         → ((fault ≡ LineFault.Disk → ⊥) → d.pending new ≡ false)
-        → IsCutOff d mid new kind read_only has.lines.state line between after fault → ServesAs d old new kind read_only s script before after (Err fault)
+        → IsCutOff d mid new mode has.lines.state line between after fault → ServesAs d old new mode s script before after (Err fault)
     unfolding done_more
     cut_off line left v so_far before between after mid new fault has first second settled cut =
         let are = done_more line cut.reply left mid new cut.next has.lines first second cut.done in
@@ -250,31 +290,35 @@ module _ {D : Type 0} {d : Ghosts D} (law : Laws d) where
             whole = λ demo disk. absurd (cut.no_disk (is_disk fault disk));
             holds = λ spares. are.holds;
             settled = λ spares. inl now_quiet;
-            spared = λ plain image here. ends_same kind are.state are.opens next image (one_told (sym here ∙ are.holds));
+            spared = λ plain image here. ends_same mode.kind are.state are.opens next image (one_told (sym here ∙ are.holds));
+            saved = λ safe image here. left_unbegun (λ refused line. Safely line are.state) are.state next image (one_told (sym here ∙ are.holds))
+                (λ line. inl (has_tree mode.kind are.state image are.opens (one_told (sym here ∙ are.holds))));
             stops = λ was_quiet. record {
               idle = λ new_map fresh demo keep image left'.
                   let done = each_done (MayHaveLeft d old new) mode keeps s are.state are.done are.replies left are.steps
                   (subst (λ (lines : List (List ℕ)). all_keep_tree lines are.replies ≡ true) are.cut keep) in
                   let tree = are.kept done new_map image left' in
                   record { view = tree.view; opens = tree.opens; tree = tree.tree };
-              last = λ new_map next image left'. has_tree kind are.state image are.opens (law.settled new now_quiet are.state.image are.holds image left');
+              last = λ new_map next image left'. has_tree mode.kind are.state image are.opens (law.settled new now_quiet are.state.image are.holds image left');
               still = λ fresh demo leave image left'.
                   are.still (each_done (MayHaveLeft d old new) mode leaves s are.state are.done are.replies left are.steps
                   (subst (λ (lines : List (List ℕ)). all_leave_image lines are.replies ≡ true) are.cut leave)) image left';
               rest = λ next image left'. law.settled new now_quiet are.state.image are.holds image left';
-              along = λ plain fresh. along_done new left are;
-              ending = λ plain image left'. ends_same kind are.state are.opens next image (law.settled new now_quiet are.state.image are.holds image left');
-              during = λ safe fresh image left'. absurd (cc);
-              exit = λ safe image left'. absurd (cc);
+              along = λ plain fresh. along_done new left are plain;
+              ending = λ plain image left'. ends_same mode.kind are.state are.opens next image (law.settled new now_quiet are.state.image are.holds image left');
+              during = λ safe fresh image left'. tree_between mode s (commands_in script) are.replies image (during_done new left are safe image left');
+              exit = λ safe image left'. tree_around mode s (commands_in script) are.replies image are.state (whole_replies (length text) are.replies) (whole_most (length text) are.replies)
+                  (done_to (MayHaveLeft d old new) are.done are.replies are.state left are.cut are.steps)
+                  (around_before mode are.state next image (has_tree mode.kind are.state image are.opens (law.settled new now_quiet are.state.image are.holds image left')));
             };
           },
         )
 
     -- A line broke off.
     broke_off : (line : List ℕ) (left : List (List ℕ)) (v : Volume) (so_far : Tally) (before between after : Option (List ℕ)) (mid new : D) (fault : LineFault)
-        → (has : HasServed d old mid kind read_only s script (line ∷ left) v so_far before between) → GoesOn d old mid → GoesOn d mid new
+        → (has : HasServed d old mid mode s script (line ∷ left) v so_far before between) → GoesOn d old mid → GoesOn d mid new
         → ((fault ≡ LineFault.Disk → ⊥) → d.pending new ≡ false)
-        → BreaksOff d mid new kind read_only has.lines.state line between after fault → ServesAs d old new kind read_only s script before after (Err fault)
+        → BreaksOff d mid new mode has.lines.state line between after fault → ServesAs d old new mode s script before after (Err fault)
     broke_off line left v so_far before between after mid new fault has first second settled broke =
         let are = has.lines in
         let May = MayHaveLeft d old mid in
@@ -302,15 +346,16 @@ module _ {D : Type 0} {d : Ghosts D} (law : Laws d) where
             whole = λ demo disk. whole_all are.replies (take broke.part.0 (begun line));
             holds = λ spares. broke.holds (not_disk fault spares);
             settled = λ spares. inl (settled (not_disk fault spares));
-            spared = λ plain image here. subst (λ (o : Option (List ℕ)). LeftIn (by are.state) are.state o None image) (sym next) (broke.exit image here);
+            spared = λ plain image here. subst (λ (o : Option (List ℕ)). LeftIn (by are.state) are.state o None image) (sym next) (as_plain (Safely line are.state) (Plainly line are.state) image mode.safe plain (broke.exit image here));
+            saved = λ safe image here. subst (λ (o : Option (List ℕ)). LeftIn (λ refused l. Safely l are.state) are.state o None image) (sym next) (as_safe (Safely line are.state) (Plainly line are.state) image mode.safe safe (broke.exit image here));
             stops = λ was_quiet. record {
               idle = λ new_map fresh demo keep image left'.
                   let all = subst (λ (lines : List (List ℕ)). all_keep_tree lines are.replies ≡ true) are.cut keep in
                   let done = each_done May mode keeps s are.state are.done are.replies (line ∷ left) are.steps all in
                   let new_now = steps_new May mode s are.state are.done are.replies are.steps new_map in
-                  let tree : HasTree kind (tree_in s) image =
+                  let tree : HasTree mode.kind (tree_in s) image =
                   ⊎_elim (λ was. are.kept done new_map image was)
-                  (λ since. subst (λ t. HasTree kind t image) (steps_keep May mode s are.state are.done are.replies are.steps done)
+                  (λ since. subst (λ t. HasTree mode.kind t image) (steps_keep May mode s are.state are.done are.replies are.steps done)
                   (broke.kept (each_next May mode keeps s are.state are.done are.replies line left are.steps all) new_now image since))
                   (second.stops.before (d.moment old) image first.stops.later left') in
                   record { view = tree.view; opens = tree.opens; tree = tree.tree };
@@ -334,30 +379,39 @@ module _ {D : Type 0} {d : Ghosts D} (law : Laws d) where
                   let all = steps_to_all May mode s are.state are.done are.replies long are.steps in
                   subst (λ (lines : List (List ℕ)). IsLeftInLine (StepsTo mode s lines are.replies) by lines are.replies image) (sym are.cut)
                   (⊎_elim (λ was. left_front Before After by are.state are.done are.replies long all image (same_by are.state are.opens image)
-                  (λ n x low to. steps_longer mode s are.done are.replies long n low x (line ∷ left) to) (line ∷ left) (are.along image was))
+                  (λ n x low to. steps_longer mode s are.done are.replies long n low x (line ∷ left) to) (line ∷ left) (are.along plain image was))
                   (λ since. left_next Before After by are.state are.done are.replies long all image (same_by are.state are.opens image)
-                  (λ n x low to. steps_longer mode s are.done are.replies long n low x (line ∷ left) to) line left (broke.spared image since))
+                  (λ n x low to. steps_longer mode s are.done are.replies long n low x (line ∷ left) to) line left (as_plain (Safely line are.state) (Plainly line are.state) image mode.safe plain (broke.spared image since)))
                   (second.stops.before (d.moment old) image first.stops.later left'));
               ending = λ plain image left'.
-                  subst (λ (o : Option (List ℕ)). LeftIn (by are.state) are.state o None image) (sym next) (broke.spared image (law.earlier new (d.moment mid) (d.moment new) image second.stops.later left'));
-              during = λ safe fresh image left'. absurd (cc);
-              exit = λ safe image left'. absurd (cc);
+                  subst (λ (o : Option (List ℕ)). LeftIn (by are.state) are.state o None image) (sym next)
+                  (as_plain (Safely line are.state) (Plainly line are.state) image mode.safe plain (broke.spared image (law.earlier new (d.moment mid) (d.moment new) image second.stops.later left')));
+              during = λ safe fresh image left'.
+                  ⊎_elim (λ was. tree_between mode s (commands_in script) are.replies image (during_done mid (line ∷ left) are safe image was))
+                  (λ since. tree_around mode s (commands_in script) are.replies image are.state 0 (omega arith) (done_to May are.done are.replies are.state (line ∷ left) are.cut are.steps)
+                  (subst (λ (o : Option (List ℕ)). HasTreeAround mode are.state o image) (sym next) (as_safe (Safely line are.state) (Plainly line are.state) image mode.safe safe (broke.spared image since))))
+                  (second.stops.before (d.moment old) image first.stops.later left');
+              exit = λ safe image left'.
+                  tree_around mode s (commands_in script) are.replies image are.state (whole_replies (length text) are.replies) (whole_most (length text) are.replies)
+                  (done_to May are.done are.replies are.state (line ∷ left) are.cut are.steps)
+                  (subst (λ (o : Option (List ℕ)). HasTreeAround mode are.state o image) (sym next)
+                  (as_safe (Safely line are.state) (Plainly line are.state) image mode.safe safe (broke.spared image (law.earlier new (d.moment mid) (d.moment new) image second.stops.later left'))));
             };
           },
         )
 
     pub served_part : (line : List ℕ) (left : List (List ℕ)) (v v' : Volume) (so_far : Tally) (before between after : Option (List ℕ)) (mid new : D) (fault : LineFault)
-        → (has : HasServed d old mid kind read_only s script (line ∷ left) v so_far before between) → GoesOn d old mid → GoesOn d mid new
+        → (has : HasServed d old mid mode s script (line ∷ left) v so_far before between) → GoesOn d old mid → GoesOn d mid new
         → ((fault ≡ LineFault.Disk → ⊥) → d.pending new ≡ false)
-        → LineEnds d mid new kind read_only has.lines.state v' line between after (Err fault) → ServesAs d old new kind read_only s script before after (Err fault)
+        → LineEnds d mid new mode has.lines.state v' line between after (Err fault) → ServesAs d old new mode s script before after (Err fault)
     served_part line left v v' so_far before between after mid new fault has first second settled ends =
         ⊎_elim (cut_off line left v so_far before between after mid new fault has first second settled)
         (broke_off line left v so_far before between after mid new fault has first second settled) ends
 
     pub served_more : (line : List ℕ) (left : List (List ℕ)) (v v' : Volume) (refused : Bool) (so_far now : Tally) (before between after : Option (List ℕ)) (mid new : D)
-        → (has : HasServed d old mid kind read_only s script (line ∷ left) v so_far before between) → GoesOn d old mid → GoesOn d mid new
-        → IsAnswered d mid new kind read_only has.lines.state v' line between after refused → now.replies ≡ so_far.replies + 1 → now.refused ≡ so_far.refused + cond refused 1 0
-        → HasServed d old new kind read_only s script left v' now before after
+        → (has : HasServed d old mid mode s script (line ∷ left) v so_far before between) → GoesOn d old mid → GoesOn d mid new
+        → IsAnswered d mid new mode has.lines.state v' line between after refused → now.replies ≡ so_far.replies + 1 → now.refused ≡ so_far.refused + cond refused 1 0
+        → HasServed d old new mode s script left v' now before after
     unfolding done_more
     served_more line left v v' refused so_far now before between after mid new has first second is more errors = record {
       lines = done_more line is.reply left mid new is.next has.lines first second is.done;

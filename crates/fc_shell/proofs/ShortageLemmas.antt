@@ -26,11 +26,10 @@ use Rattle.fc_image.specs.effects.Sharing.{new_ids}
 use Rattle.fc_image.specs.effects.Short.{holes_without, needed_bits, needed_ids, old_need, short, space_reasons, with_space_of}
 use Rattle.fc_script.specs.Texts.{refusal_line}
 use Rattle.fc_runs.specs.ReadLaw.{is_reading}
-use Rattle.fc_runs.specs.Run.{layout_reason, shortage}
+use Rattle.fc_runs.specs.Run.{keeps_tree, layout_reason, shortage}
+use Rattle.fc_runs.proofs.SafeShortageLemmas.{keeping_enough}
 use Rattle.fc_image.proofs.OldMapLemmas.{old_same, not_old}
-
-none_below : (n : ℕ) → nat_lt n 0 ≡ false
-none_below n = grind (arith, nat_tests)
+use Rattle.fc_course.proofs.ShortLemmas.{below_zero as none_below}
 
 -- ---- an old map has few holes
 
@@ -161,3 +160,24 @@ pub shortage_none : (image : List ℕ) (kind : Kind) (v : Opened) (c : Command) 
 shortage_none image kind v c opens reads =
     ap₂ (λ (a b : Option Refusal). option_map refusal_line (first_of (a ∷ b ∷ []))) (reason_none v.layout c reads)
     (short_none v (λ space is. few_holes image kind v space opens is) c reads)
+
+keeping : (c : Command) → is_reading c ≡ true → keeps_tree c ≡ true
+keeping (Command.Cat path) reads = refl
+keeping (Command.Load path) reads = refl
+keeping (Command.Digest path) reads = refl
+keeping Command.Free reads = refl
+keeping Command.Check reads = refl
+keeping (Command.Save path load exec bytes) reads = absurd (cc)
+keeping (Command.Create path load exec len) reads = absurd (cc)
+keeping (Command.Cdir path) reads = absurd (cc)
+keeping (Command.Delete path) reads = absurd (cc)
+keeping (Command.Rename from to) reads = absurd (cc)
+keeping (Command.Set path load exec access) reads = absurd (cc)
+keeping (Command.Mark path attrs) reads = absurd (cc)
+keeping Command.Compact reads = absurd (cc)
+keeping Command.Reclaim reads = absurd (cc)
+
+-- nor in the safe mode
+pub never_shortage : (image : List ℕ) (kind : Kind) (v : Opened) (c : Command) → OpensAs image kind v → is_reading c ≡ true → (safe : Bool) → shortage safe v c ≡ None
+never_shortage image kind v c opens reads false = shortage_none image kind v c opens reads
+never_shortage image kind v c opens reads true = keeping_enough v c (short_none v (λ space is. few_holes image kind v space opens is) c reads) (keeping c reads)

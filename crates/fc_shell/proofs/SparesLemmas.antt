@@ -1,14 +1,14 @@
 -- What a command spares, by the sectors that it may write.
-use Rattle.std.proofs.Common.{◌≡◌, ◌<◌, ◌≤◌, ◌||◌, ◌&&◌, not, ℕ, Bool, true, false, List, [], ◌∷◌, ◌++◌, All, Ok, Err, refl, sym, ap, subst, arith, eq-eqb}
+use Rattle.std.proofs.Common.{◌≡◌, ◌<◌, ◌≤◌, ◌||◌, ◌&&◌, not, ℕ, Bool, true, false, List, [], ◌∷◌, ◌++◌, Ok, Err, refl, sym, subst, arith}
 use Rattle.std.specs.Prelude.{◌==◌, Contains, cond, filter}
 use Rattle.std.specs.List.{flat_map, range_with_len}
-use Rattle.std.proofs.lemmas.Bool.{eqb-true, false_from_ne_true as unless}
-use Rattle.std.proofs.lemmas.List.Elements.{All-nil, All-cons}
+use Rattle.std.proofs.lemmas.Bool.{eqb-true, false_from_ne_true as unless, not-true as flip}
+use Rattle.std.proofs.lemmas.List.Elements.{All-nil}
 use Rattle.fc_device.specs.Sectors.{sector_at}
 use Rattle.fc_record.specs.declared.Kind.{Kind}
 use Rattle.fc_record.specs.declared.Kind.TheVariants.{Boot, OneZone, DiscD, DiscL}
 use Rattle.fc_newmap.specs.Map.{Map, all_runs, map_sectors, sectors_of}
-use Rattle.fc_newmap.proofs.PlaceLemmas.{in_back, in_either, in_front}
+use Rattle.fc_newmap.proofs.PlaceLemmas.{in_either, in_front}
 use Rattle.fc_model.specs.Command.{Command}
 use Rattle.fc_image.specs.Layout.{Layout, disc_sectors, hole_sectors, is_among, is_apart, map_place, sector_bytes}
 use Rattle.fc_image.specs.Objects.{objects_of}
@@ -23,20 +23,10 @@ use Rattle.fc_tree.specs.Parts.{ArePartsOf, Parts}
 use Rattle.fc_course.specs.Promises.{MayWrite, WritesPlaces, WritesPlacesOf}
 use Rattle.fc_runs.specs.Space.{SparesSpace}
 use Rattle.fc_runs.specs.Spares.{Spares, idle_in}
+use Rattle.fc_volume.proofs.CompactedLemmas.{all_among}
+use Rattle.fc_tree.proofs.IndexLemmas.{both_ways as clash}
 
 -- ---- lists of sectors
-
-clash : (b : Bool) → b ≡ true → b ≡ false → ⊥
-clash b is not = cc
-
-flip : (b : Bool) → not b ≡ true → b ≡ false
-flip true e = absurd (cc)
-flip false e = refl
-
-all_among : (P : ℕ → Type 0) (xs : List ℕ) → ((s : ℕ) → is_among xs s ≡ true → P s) → All P xs
-all_among P [] each = All-nil P
-all_among P (x ∷ xs) each =
-    All-cons P x xs (each x (ap (λ b. b || is_among xs x) (eq-eqb x x refl))) (all_among P xs (λ s e. each s (in_back (x ∷ []) xs s e)))
 
 neither : (xs ys : List ℕ) (s : ℕ) → is_among xs s ≡ false → is_among ys s ≡ false → is_among (xs ++ ys) s ≡ false
 neither xs ys s p q = unless (is_among (xs ++ ys) s) (λ h. elim (in_either xs ys s h) [

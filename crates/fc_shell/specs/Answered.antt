@@ -1,5 +1,5 @@
 -- How a command is answered.
-use Rattle.std.specs.Prelude.{◌≡◌, ◌≤◌, ℕ, Bool, List, Option, Result, Ok, Err}
+use Rattle.std.specs.Prelude.{◌≡◌, ◌≤◌, ℕ, Bool, false, List, Option, Result, Ok, Err}
 use Rattle.std.specs.Option.{ForSome}
 use Rattle.fc_device.specs.declared.disk.Disk.{Ghosts}
 use Rattle.fc_device.specs.declared.streams.Sink.{Ghosts as Sinks}
@@ -15,7 +15,7 @@ use Rattle.fc_tree.specs.Parts.{ArePartsOf}
 use Rattle.fc_volume.specs.Volume.{Volume, parts_of}
 use Rattle.fc_shell.specs.declared.answer.LineFault.{LineFault}
 use Rattle.fc_shell.specs.declared.reply.Reply.{Reply}
-use Rattle.fc_shell.specs.Modes.{plain_mode}
+use Rattle.fc_shell.specs.Modes.{mode_of}
 use Rattle.fc_shell.specs.Writing.{Wrote, WrotePart}
 
 -- ---- replies
@@ -62,6 +62,6 @@ ForView v P = (image : List ℕ) → ForImage v image P
 abbrev pub ForState : Option (List ℕ) → Volume → (Kind → State → Type 0) → Type 0
 ForState told v P = ForSome told (λ image. ForImage v image P)
 
--- the reply to a command that reads, over a volume whose image opened as this kind
+-- the reply to a command that reads, over a volume whose image opened as this kind; it is the same in the safe mode
 unfoldable pub volume_reply : Kind → Volume → State → Command → List ℕ
-volume_reply kind v s c = reading_reply (plain_mode kind v.read_only) s c
+volume_reply kind v s c = reading_reply (mode_of kind v.read_only false) s c

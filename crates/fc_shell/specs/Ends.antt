@@ -7,7 +7,7 @@ use Rattle.fc_shell.specs.declared.moving.MoveFault.{MoveFault}
 use Rattle.fc_shell.specs.declared.moving.MoveFault.TheVariants as moves
 use Rattle.fc_shell.specs.declared.tally.Tally.{Tally}
 use Rattle.fc_shell.specs.declared.ending.End.{End}
-use Rattle.fc_shell.specs.declared.ending.End.TheVariants.{Done, Refused, BadWords, BadImage, DiskFault, ScriptFault, OutFault, NoMemory, ScriptTooLong, NotBuilt, HostFault, NoImage}
+use Rattle.fc_shell.specs.declared.ending.End.TheVariants.{Done, Refused, BadWords, BadImage, DiskFault, ScriptFault, OutFault, NoMemory, ScriptTooLong, NotSafe, HostFault, NoImage}
 use Rattle.fc_shell.specs.Counted.{has_refused}
 
 -- the exit statuses
@@ -21,7 +21,7 @@ status_of ScriptFault = 5
 status_of OutFault = 6
 status_of NoMemory = 7
 status_of ScriptTooLong = 8
-status_of NotBuilt = 9
+status_of NotSafe = 10
 status_of HostFault = 11
 status_of NoImage = 12
 
@@ -52,7 +52,6 @@ abbrev pub is_late : End → Bool
 is_late BadWords = false
 is_late ScriptFault = false
 is_late ScriptTooLong = false
-is_late NotBuilt = false
 is_late NoImage = false
 is_late end = true
 
@@ -68,6 +67,7 @@ is_over_image Refused = true
 is_over_image (BadImage fault) = true
 is_over_image OutFault = true
 is_over_image HostFault = true
+is_over_image NotSafe = true
 is_over_image end = false
 
 -- If the disk gives the name, the run doesn't end without an image; if it doesn't, the run doesn't end over one.
@@ -79,7 +79,6 @@ abbrev pub AsksFor : Asked → End → List Asked → List Asked → Type 0
 AsksFor image BadWords old new = new ≡ old
 AsksFor image ScriptFault old new = new ≡ old
 AsksFor image ScriptTooLong old new = new ≡ old
-AsksFor image NotBuilt old new = new ≡ old
 AsksFor image NoMemory old new = (new ≡ old) ⊎ (new ≡ old ++ image ∷ [])
 AsksFor image end old new = new ≡ old ++ image ∷ []
 
@@ -89,5 +88,4 @@ is_early BadWords = true
 is_early ScriptFault = true
 is_early NoMemory = true
 is_early ScriptTooLong = true
-is_early NotBuilt = true
 is_early end = false

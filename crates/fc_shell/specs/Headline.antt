@@ -6,7 +6,7 @@ use Rattle.fc_image.specs.Opening.{Opened, open_image}
 use Rattle.fc_runs.specs.Headline.{MapAnswers}
 use Rattle.fc_runs.specs.Run.{commands_in, script_for, text_for}
 use Rattle.fc_words.specs.CommandLine.{Request}
-use Rattle.fc_shell.specs.Modes.{plain_mode}
+use Rattle.fc_shell.specs.Modes.{mode_of}
 use Rattle.fc_shell.specs.Replies.{image_for}
 
 -- the image that the run begins with, the fresh one if one was asked for, and what it opens as
@@ -20,6 +20,6 @@ pub record IsAnsweredByMap {D : Type 0} (d : Ghosts D) (new : D) (r : Request) (
   pub opens : open_image (image_for r.new image) ≡ Ok view
   pub replies : List (List ℕ)
   pub end : State
-  pub answered : MapAnswers (plain_mode view.kind r.read_only) (tree_in (start_of r image view)) (start_of r image view) (commands_in (script_for r.demo script)) replies (tree_in end) end
+  pub answered : MapAnswers (mode_of view.kind r.read_only r.safe) (tree_in (start_of r image view)) (start_of r image view) (commands_in (script_for r.demo script)) replies (tree_in end) end
   pub told : text ≡ text_for r.demo replies
   pub holds : d.bytes new ≡ Some end.image

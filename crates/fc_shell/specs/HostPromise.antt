@@ -17,12 +17,12 @@ use Rattle.fc_runs.specs.Run.{Mode, commands_in}
 use Rattle.fc_runs.specs.Stops.{host_leaves_image}
 use Rattle.fc_words.specs.CommandLine.{Request}
 use Rattle.fc_shell.specs.declared.ending.End.{End}
-use Rattle.fc_shell.specs.declared.ending.End.TheVariants.{Done, Refused, BadWords, DiskFault, ScriptFault, OutFault, HostFault, NoMemory, ScriptTooLong, NotBuilt}
-use Rattle.fc_shell.specs.Modes.{plain_mode}
+use Rattle.fc_shell.specs.declared.ending.End.TheVariants.{Done, Refused, BadWords, DiskFault, ScriptFault, OutFault, HostFault, NoMemory, ScriptTooLong}
+use Rattle.fc_shell.specs.Modes.{is_unsuited, mode_of}
 use Rattle.fc_shell.specs.Moving.{ScriptAsks}
-use Rattle.fc_shell.specs.Promise.{EndsBefore, EndsByGiving, EndsOnFault, EndsWithout}
+use Rattle.fc_shell.specs.Promise.{EndsBefore, EndsByGiving, EndsOnFault, EndsUnsuited, EndsWithout}
 use Rattle.fc_shell.specs.Reads.{only_reads}
-use Rattle.fc_shell.specs.Replies.{blank_size, image_for, is_unbuilt, script_limit}
+use Rattle.fc_shell.specs.Replies.{blank_size, image_for, script_limit}
 
 -- Nothing was asked of the host, and its files are as they were.
 abbrev pub IsIdle : Option Files → Option Files → List Asked → Type 0
@@ -41,17 +41,22 @@ MovesOver d old new mode fresh s files left asked script text NoMemory =
     AskedHasStopped d host_line_of old new mode fresh s files left asked script text Cause.Memory ⊎ (IsUnmade fresh Cause.Memory old new text × IsIdle files left asked)
 MovesOver d old new mode fresh s files left asked script text end = ⊥
 
--- by what the image opens as
-abbrev pub MovesByOpening : {D : Type 0} → Ghosts D → D → D → Bool → Bool → Option Files → Option Files → List Asked → List ℕ → List ℕ → List ℕ → Result Opened ImageFault → End → Type 0
-MovesByOpening d old new read_only fresh files left asked image script text (Err fault) end = EndsOnFault d old new fault text end × IsIdle files left asked
-MovesByOpening d old new read_only fresh files left asked image script text (Ok v) end =
-    MovesOver d old new (plain_mode v.kind read_only) fresh (record { image = image; view = v }) files left asked script text end
+-- by whether the safe mode was asked for and doesn't serve what the image opens as
+abbrev pub MovesBySuiting : {D : Type 0} → Ghosts D → D → D → Mode → Bool → State → Option Files → Option Files → List Asked → List ℕ → List ℕ → Bool → End → Type 0
+MovesBySuiting d old new mode fresh s files left asked script text true end = EndsUnsuited d old new fresh s text end × IsIdle files left asked
+MovesBySuiting d old new mode fresh s files left asked script text false end = MovesOver d old new mode fresh s files left asked script text end
+
+-- by what the image opens as; the run may be read-only, and in the safe mode
+abbrev pub MovesByOpening : {D : Type 0} → Ghosts D → D → D → Bool → Bool → Bool → Option Files → Option Files → List Asked → List ℕ → List ℕ → List ℕ → Result Opened ImageFault → End → Type 0
+MovesByOpening d old new read_only safe fresh files left asked image script text (Err fault) end = EndsOnFault d old new fault text end × IsIdle files left asked
+MovesByOpening d old new read_only safe fresh files left asked image script text (Ok v) end =
+    MovesBySuiting d old new (mode_of v.kind read_only safe) fresh (record { image = image; view = v }) files left asked script text (is_unsuited safe v) end
 
 -- by whether the disk gives the image that the words ask for
 abbrev pub MovesByGiving : {D : Type 0} → Ghosts D → D → D → Request → Option Files → Option Files → List Asked → List ℕ → List ℕ → List ℕ → Bool → End → Type 0
 MovesByGiving d old new r files left asked image script text false end = EndsWithout d old new (is_some r.new) text end × IsIdle files left asked
 MovesByGiving d old new r files left asked image script text true end =
-    MovesByOpening d old new r.read_only (is_some r.new) files left asked (image_for r.new image) script text (open_image (image_for r.new image)) end
+    MovesByOpening d old new r.read_only r.safe (is_some r.new) files left asked (image_for r.new image) script text (open_image (image_for r.new image)) end
 
 -- a demo moves no files
 abbrev pub MovesByDemo : {D : Type 0} → Ghosts D → D → D → Request → Option Files → Option Files → List Asked → List ℕ → List ℕ → List ℕ → Bool → Option ℕ → End → Type 0
@@ -64,16 +69,11 @@ MovesByLength d old new gives r files left asked image script text true end = En
 MovesByLength d old new gives r files left asked image script text false end =
     MovesByDemo d old new r files left asked image script text (gives r.image (blank_size r)) r.demo end
 
--- by whether the words ask for what isn't built
-abbrev pub MovesByWords : {D : Type 0} → Ghosts D → D → D → (List ℕ → Option ℕ → Bool) → Request → Option Files → Option Files → List Asked → List ℕ → List ℕ → List ℕ → Bool → End → Type 0
-MovesByWords d old new gives r files left asked image script text true end = EndsBefore d old new NotBuilt text end × IsIdle files left asked
-MovesByWords d old new gives r files left asked image script text false end =
-    MovesByLength d old new gives r files left asked image script text (nat_lt script_limit (length script)) end
-
 -- What a run promises of the disk, of the host and of the text that it wrote, by the words.
 abbrev pub HostPromise : {D : Type 0} → Ghosts D → D → D → (List ℕ → Option ℕ → Bool) → Option Files → Option Files → List Asked → List ℕ → List ℕ → List ℕ → Option Request → End → Type 0
 HostPromise d old new gives files left asked image script text None end = EndsBefore d old new BadWords text end × IsIdle files left asked
-HostPromise d old new gives files left asked image script text (Some r) end = MovesByWords d old new gives r files left asked image script text (is_unbuilt r) end
+HostPromise d old new gives files left asked image script text (Some r) end =
+    MovesByLength d old new gives r files left asked image script text (nat_lt script_limit (length script)) end
 
 -- ---- a host that tells its files
 

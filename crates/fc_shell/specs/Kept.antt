@@ -1,5 +1,5 @@
 -- What a run keeps and causes, whatever its disk and its sink make known.
-use Rattle.std.specs.Prelude.{◌≡◌, ◌≤◌, ◌⊎◌, ℕ, List, Option, true, false, ◌++◌, ◌∷◌, [], Some, None, option_map}
+use Rattle.std.specs.Prelude.{◌≡◌, ◌≤◌, ◌⊎◌, ℕ, Bool, List, Option, true, false, ◌++◌, ◌∷◌, [], Some, None, option_map}
 use Rattle.std.specs.Option.{ForSome}
 use Rattle.fc_device.specs.declared.disk.Disk.{Ghosts}
 use Rattle.fc_device.specs.declared.streams.Sink.{Ghosts as Sinks}
@@ -8,7 +8,7 @@ use Rattle.fc_device.specs.Faults.{Rose}
 use Rattle.fc_device.specs.Stops.{LeavesOnly}
 use Rattle.fc_words.specs.CommandLine.{Request}
 use Rattle.fc_shell.specs.declared.ending.End.{End}
-use Rattle.fc_shell.specs.declared.ending.End.TheVariants.{DiskFault, OutFault, NoMemory, NoImage}
+use Rattle.fc_shell.specs.declared.ending.End.TheVariants.{DiskFault, OutFault, NoMemory, NoImage, NotSafe}
 use Rattle.fc_shell.specs.Ends.{AsksFor, FitsGiven, is_late, is_over_image}
 use Rattle.fc_shell.specs.Reading.{IsUnwritten}
 use Rattle.fc_shell.specs.Reads.{only_reads}
@@ -32,6 +32,7 @@ pub record RunKeeps {D K : Type 0} (d : Ghosts D) (k : Sinks K) (r : Request) (r
   pub asks : AsksFor (r.image, blank_size r) end (d.asked old) (d.asked new)
   pub given : ForSome (d.gives old) (λ gives. FitsGiven (gives r.image (blank_size r)) end)
   pub no_image : end ≡ NoImage → Untouched d old new × IsUnwritten d old new × (after ≡ before)
+  pub not_safe : end ≡ NotSafe → (r.safe ≡ true) × (after ≡ before)
   pub disk_fault : end ≡ DiskFault → Rose (d.faults old) (d.faults new)
   pub out_fault : end ≡ OutFault → Rose (k.faults before) (k.faults after)
   pub settled : is_over_image end ≡ true → d.pending new ≡ false
@@ -39,11 +40,12 @@ pub record RunKeeps {D K : Type 0} (d : Ghosts D) (k : Sinks K) (r : Request) (r
   pub unwritten : reads → r.new ≡ None → IsUnwritten d old new
   pub made : reads → is_over_image end ≡ true → HasImage d r old new
 
--- What a run keeps from when its image is attached.
-pub record SessionKeeps {D K : Type 0} (d : Ghosts D) (k : Sinks K) (reads : Type 0) (old new : D) (before after : K) (end : End) : Type 0 where
+-- What a run keeps from when its image is attached. It may be in the safe mode.
+pub record SessionKeeps {D K : Type 0} (d : Ghosts D) (k : Sinks K) (safe : Bool) (reads : Type 0) (old new : D) (before after : K) (end : End) : Type 0 where
   pub asked_stays : d.asked new ≡ d.asked old
   pub goes : LeavesOnly d.moment d.left_since old new (λ image. Unit {0})
   pub faults : d.faults old ≤ d.faults new
+  pub not_safe : end ≡ NotSafe → (safe ≡ true) × (after ≡ before)
   pub disk_fault : end ≡ DiskFault → Rose (d.faults old) (d.faults new)
   pub out_fault : end ≡ OutFault → Rose (k.faults before) (k.faults after)
   pub settled : (end ≡ DiskFault → ⊥) → d.pending new ≡ false

@@ -9,7 +9,6 @@ use Rattle.fc_host.specs.declared.host.Host.{Ghosts as Hosts}
 use Rattle.fc_host.specs.Answers.{all_asked}
 use Rattle.fc_host.specs.Asked.{Asked}
 use Rattle.fc_host.specs.Files.{Files}
-use Rattle.fc_record.specs.declared.Kind.{Kind}
 use Rattle.fc_names.specs.declared.refusal.Refusal.{Refusal}
 use Rattle.fc_image.specs.effects.Effect.{State}
 use Rattle.fc_script.specs.HostLines.{HostLine, host_line_of}
@@ -19,7 +18,7 @@ use Rattle.fc_runs.specs.HostPromises.{AskedHasRun, AskedHasStopped}
 use Rattle.fc_runs.specs.HostServing.{AreMoved, IsBrokenOff, IsMoved}
 use Rattle.fc_runs.specs.Meanwhile.{GoesOn}
 use Rattle.fc_runs.specs.Promises.{Cause, cuts_replies}
-use Rattle.fc_runs.specs.Run.{commands_in, is_error, text_of}
+use Rattle.fc_runs.specs.Run.{Mode, commands_in, is_error, text_of}
 use Rattle.fc_runs.specs.Stops.{host_leaves_image}
 use Rattle.fc_tree.specs.Parts.{ArePartsOf}
 use Rattle.fc_volume.specs.Volume.{Volume, parts_of}
@@ -28,7 +27,6 @@ use Rattle.fc_shell.specs.declared.moving.MoveFault.TheVariants as moves
 use Rattle.fc_shell.specs.declared.tally.Tally.{Tally}
 use Rattle.fc_shell.specs.Counted.{AreCounted, has_refused}
 use Rattle.fc_shell.specs.Line.{IsReady}
-use Rattle.fc_shell.specs.Modes.{plain_mode}
 use Rattle.fc_shell.specs.Writing.{Wrote, WrotePart}
 
 -- the cause for which a line isn't answered
@@ -41,32 +39,32 @@ move_cause moves.NoMemory = Cause.Memory
 -- ---- one line
 
 -- The line was done, and its whole reply written; the volume's parts are those of the new state.
-pub record IsServed {D : Type 0} (d : Ghosts D) (old new : D) (kind : Kind) (read_only : Bool) (s : State) (v : Volume) (line : Result HostLine Refusal) (before after : Option (List ℕ)) (asked : List Asked) (files left : Option Files) (refused : Bool) : Type 0 where
+pub record IsServed {D : Type 0} (d : Ghosts D) (old new : D) (mode : Mode) (s : State) (v : Volume) (line : Result HostLine Refusal) (before after : Option (List ℕ)) (asked : List Asked) (files left : Option Files) (refused : Bool) : Type 0 where
   pub reply : List ℕ
   pub next : State
-  pub moved : IsMoved d old new (plain_mode kind read_only) s line reply asked files left next
+  pub moved : IsMoved d old new mode s line reply asked files left next
   pub parts : ArePartsOf (parts_of v) next.view
   pub wrote : Wrote before after reply
   pub refused_is : refused ≡ is_error reply
 
 -- It was done, and a part of its reply was written; no call of the disk or of the host failed.
-pub record IsServedPart {D : Type 0} (d : Ghosts D) (old new : D) (kind : Kind) (read_only : Bool) (s : State) (line : Result HostLine Refusal) (before after : Option (List ℕ)) (asked : List Asked) (files left : Option Files) (fault : MoveFault) : Type 0 where
+pub record IsServedPart {D : Type 0} (d : Ghosts D) (old new : D) (mode : Mode) (s : State) (line : Result HostLine Refusal) (before after : Option (List ℕ)) (asked : List Asked) (files left : Option Files) (fault : MoveFault) : Type 0 where
   pub reply : List ℕ
   pub next : State
-  pub moved : IsMoved d old new (plain_mode kind read_only) s line reply asked files left next
+  pub moved : IsMoved d old new mode s line reply asked files left next
   pub part : WrotePart before after reply
   pub cuts : cuts_replies (move_cause fault) ≡ true
 
 -- It broke off, and may have written a part of a reply if it reads.
-pub record IsStopped {D : Type 0} (d : Ghosts D) (old new : D) (kind : Kind) (read_only : Bool) (s : State) (line : Result HostLine Refusal) (before after : Option (List ℕ)) (asked : List Asked) (files left : Option Files) (fault : MoveFault) : Type 0 where
-  pub part : WrotePart before after (host_reply_begun (plain_mode kind read_only) s line)
-  pub broke : IsBrokenOff d old new (plain_mode kind read_only) s line asked files left (move_cause fault)
+pub record IsStopped {D : Type 0} (d : Ghosts D) (old new : D) (mode : Mode) (s : State) (line : Result HostLine Refusal) (before after : Option (List ℕ)) (asked : List Asked) (files left : Option Files) (fault : MoveFault) : Type 0 where
+  pub part : WrotePart before after (host_reply_begun mode s line)
+  pub broke : IsBrokenOff d old new mode s line asked files left (move_cause fault)
 
 -- what becomes of a line of which this was asked
-abbrev pub LineMoves : {D : Type 0} → Ghosts D → D → D → Kind → Bool → State → Volume → Result HostLine Refusal → Option (List ℕ) → Option (List ℕ) → List Asked → Option Files → Option Files → Result Bool MoveFault → Type 0
-LineMoves d old new kind read_only s v line before after asked files left (Ok refused) = IsServed d old new kind read_only s v line before after asked files left refused
-LineMoves d old new kind read_only s v line before after asked files left (Err fault) =
-    IsServedPart d old new kind read_only s line before after asked files left fault ⊎ IsStopped d old new kind read_only s line before after asked files left fault
+abbrev pub LineMoves : {D : Type 0} → Ghosts D → D → D → Mode → State → Volume → Result HostLine Refusal → Option (List ℕ) → Option (List ℕ) → List Asked → Option Files → Option Files → Result Bool MoveFault → Type 0
+LineMoves d old new mode s v line before after asked files left (Ok refused) = IsServed d old new mode s v line before after asked files left refused
+LineMoves d old new mode s v line before after asked files left (Err fault) =
+    IsServedPart d old new mode s line before after asked files left fault ⊎ IsStopped d old new mode s line before after asked files left fault
 
 -- so much was asked of the host meanwhile
 abbrev pub AsksMore : {H : Type 0} → Hosts H → H → H → (List Asked → Type 0) → Type 0
@@ -92,11 +90,11 @@ pub record KeepsServing {D : Type 0} (d : Ghosts D) (old new : D) (was v : Volum
 -- ---- lines in turn
 
 -- All lines were done; or some were, and then a call failed or memory was short.
-abbrev pub LinesMove : {D : Type 0} → Ghosts D → D → D → Kind → Bool → State → List ℕ → Option (List ℕ) → Option (List ℕ) → List Asked → Option Files → Option Files → Result Tally MoveFault → Type 0
-LinesMove d old new kind read_only s script before after asked files left (Ok tally) =
-    (text : List ℕ) × Wrote before after text × AskedHasRun d host_line_of old new (plain_mode kind read_only) false s files left asked script text (has_refused tally)
-LinesMove d old new kind read_only s script before after asked files left (Err fault) =
-    (text : List ℕ) × Wrote before after text × AskedHasStopped d host_line_of old new (plain_mode kind read_only) false s files left asked script text (move_cause fault)
+abbrev pub LinesMove : {D : Type 0} → Ghosts D → D → D → Mode → State → List ℕ → Option (List ℕ) → Option (List ℕ) → List Asked → Option Files → Option Files → Result Tally MoveFault → Type 0
+LinesMove d old new mode s script before after asked files left (Ok tally) =
+    (text : List ℕ) × Wrote before after text × AskedHasRun d host_line_of old new mode false s files left asked script text (has_refused tally)
+LinesMove d old new mode s script before after asked files left (Err fault) =
+    (text : List ℕ) × Wrote before after text × AskedHasStopped d host_line_of old new mode false s files left asked script text (move_cause fault)
 
 -- Each line in turn asked of the host what it may.
 abbrev pub ScriptAsks : List ℕ → List Asked → Type 0
@@ -107,8 +105,8 @@ abbrev pub HostSpares : Bool → List (List ℕ) → Type 0
 HostSpares read_only lines = (read_only ≡ true) ⊎ (list_all (λ line. host_leaves_image false (host_line_of line)) lines ≡ true)
 
 -- The lines before those that are left were done, and their replies written; the volume's parts are those of the state after them.
-pub record HasMoved {D : Type 0} (d : Ghosts D) (old now : D) (kind : Kind) (read_only : Bool) (s : State) (script : List ℕ) (left : List (List ℕ)) (v : Volume) (tally : Tally) (before after : Option (List ℕ)) (asked : List Asked) (files held : Option Files) : Type 0 where
-  pub lines : AreMoved d host_line_of old now (plain_mode kind read_only) s files held asked (commands_in script) left
+pub record HasMoved {D : Type 0} (d : Ghosts D) (old now : D) (mode : Mode) (s : State) (script : List ℕ) (left : List (List ℕ)) (v : Volume) (tally : Tally) (before after : Option (List ℕ)) (asked : List Asked) (files held : Option Files) : Type 0 where
+  pub lines : AreMoved d host_line_of old now mode s files held asked (commands_in script) left
   pub counted : AreCounted lines.replies tally
   pub wrote : Wrote before after (text_of lines.replies)
   pub parts : ArePartsOf (parts_of v) lines.state.view

@@ -8,13 +8,13 @@ use Rattle.fc_device.specs.Faults.{Rose}
 use Rattle.fc_host.specs.declared.host.Host.{Ghosts as Hosts}
 use Rattle.fc_words.specs.CommandLine.{Request, request_of}
 use Rattle.fc_shell.specs.declared.ending.End.{End}
-use Rattle.fc_shell.specs.declared.ending.End.TheVariants.{BadWords, Done, NoMemory, NotBuilt, Refused, ScriptFault, ScriptTooLong}
+use Rattle.fc_shell.specs.declared.ending.End.TheVariants.{BadWords, Done, Refused, ScriptFault, ScriptTooLong}
 use Rattle.fc_shell.specs.Ends.{is_early}
 use Rattle.fc_shell.specs.HostHeadline.{IsAnsweredByMaps, IsInLines, IsServedWithHost}
 use Rattle.fc_shell.specs.HostPromise.{HostKeeps, HostPromise, HostRunSpares}
 use Rattle.fc_shell.specs.Kept.{RunKeeps}
 use Rattle.fc_shell.specs.Moving.{AsksMore}
-use Rattle.fc_shell.specs.Replies.{AsksNoDemo, asked_script, is_unbuilt, script_limit, told_script}
+use Rattle.fc_shell.specs.Replies.{AsksNoDemo, asked_script, script_limit, told_script}
 use Rattle.fc_shell.specs.Script.{behind_limit}
 use Rattle.fc_shell.specs.Writing.{Wrote}
 
@@ -46,11 +46,9 @@ pub record HasRunFor {D S K H : Type 0} (d : Ghosts D) (s : Sources S) (k : Sink
   pub keeps : (r : Request) → request_of given ≡ Some r → RunKeeps d k r (HostRunSpares r (told_script r.demo (s.left old.source))) old.disk new.disk old.sink new.sink end
   pub bad_words : end ≡ BadWords → request_of given ≡ None
   pub words : request_of given ≡ None → (end ≡ BadWords) × (new.source ≡ old.source) × AreUnasked old new
-  pub unbuilt : (r : Request) → request_of given ≡ Some r → is_unbuilt r ≡ true → ((end ≡ NotBuilt) ⊎ (end ≡ NoMemory)) × (new.source ≡ old.source) × AreUnasked old new
   pub unattached : ForSome (asked_script (request_of given) (s.left old.source)) (λ text. script_limit < length text → (is_early end ≡ true) × AreUnasked old new)
   pub too_long : end ≡ ScriptTooLong → (new.disk ≡ old.disk) × (new.sink ≡ old.sink) × ForSome (s.left old.source) (λ text. script_limit < length text)
       × (s.left new.source ≡ behind_limit (s.left old.source))
-  pub not_built : (r : Request) → request_of given ≡ Some r → end ≡ NotBuilt → (is_unbuilt r ≡ true) × (new.disk ≡ old.disk) × (new.sink ≡ old.sink)
   pub script_fault : end ≡ ScriptFault → Rose (s.faults old.source) (s.faults new.source) × (new.disk ≡ old.disk) × (new.sink ≡ old.sink)
   pub script_end : AsksNoDemo (request_of given) → is_early end ≡ false → ForSome (s.left new.source) (λ rest. rest ≡ [])
   pub unread : (r : Request) → request_of given ≡ Some r → (n : ℕ) → r.demo ≡ Some n → (new.source ≡ old.source) × (end ≢ ScriptFault) × (end ≢ ScriptTooLong) × (new.host ≡ old.host)

@@ -3,7 +3,7 @@ use Rattle.std.specs.Prelude.{◌≡◌, ◌⊎◌, ℕ, Bool, true, List, Some,
 use Rattle.fc_image.specs.effects.Effect.{State}
 use Rattle.fc_runs.specs.Run.{Mode, Run, text_of}
 use Rattle.fc_words.specs.declared.Format.{Format as Word}
-use Rattle.fc_shell.specs.declared.ending.End.TheVariants.{Done, Refused}
+use Rattle.fc_shell.specs.declared.ending.End.TheVariants.{Done, NotSafe, Refused}
 use Rattle.fc_shell.specs.Replies.{image_for, image_reply, replies_of}
 use Rattle.fc_shell.specs.Reads.{only_reads}
 
@@ -15,6 +15,7 @@ pub record ReadsLaw : Type 0 where
   -- No other run has its lines: whatever may stand between, it writes this text and leaves everything.
   pub only : (mode : Mode) (s s' : State) (script text : List ℕ) → only_reads script ≡ true → Run (λ between. Unit {0}) mode None s script text s'
       → (text ≡ text_of (replies_of mode s script)) × (s' ≡ s)
-  -- A fresh image is never a bad one.
-  pub fresh : (read_only : Bool) (script image : List ℕ) (f : Word)
-      → ((image_reply read_only script (image_for (Some f) image)).end ≡ Done) ⊎ ((image_reply read_only script (image_for (Some f) image)).end ≡ Refused)
+  -- A fresh image is never a bad one; but the safe mode may not serve it.
+  pub fresh : (read_only safe : Bool) (script image : List ℕ) (f : Word)
+      → ((image_reply read_only safe script (image_for (Some f) image)).end ≡ Done) ⊎ (((image_reply read_only safe script (image_for (Some f) image)).end ≡ Refused)
+      ⊎ ((safe ≡ true) × ((image_reply read_only safe script (image_for (Some f) image)).end ≡ NotSafe)))

@@ -19,8 +19,8 @@ use Rattle.fc_words.specs.CommandLine.{Request, request_of}
 use Rattle.fc_words.specs.declared.Format.{Format as Word}
 use Rattle.fc_words.specs.declared.Format.TheVariants as words
 use Rattle.fc_shell.specs.declared.ending.End.{End}
-use Rattle.fc_shell.specs.declared.ending.End.TheVariants.{Done, Refused, BadWords, BadImage, DiskFault, ScriptFault, OutFault, NoMemory, ScriptTooLong, NotBuilt, NoImage}
-use Rattle.fc_shell.specs.Modes.{plain_mode}
+use Rattle.fc_shell.specs.declared.ending.End.TheVariants.{Done, Refused, BadWords, BadImage, DiskFault, ScriptFault, OutFault, NoMemory, ScriptTooLong, NotSafe, NoImage}
+use Rattle.fc_shell.specs.Modes.{is_unsuited, mode_of}
 use Rattle.fc_shell.specs.Writing.{Wrote, WrotePart}
 
 -- how a run ends if no call of the outside fails and memory is found, and what it writes
@@ -76,15 +76,20 @@ served replies = record { end = if list_any is_error replies then Refused else D
 
 -- ---- images
 
+-- the replies over what the image opens as, unless the safe mode doesn't serve it
+abbrev pub suited_reply : Bool → Mode → State → List ℕ → Outcome
+suited_reply true mode s script = silent NotSafe
+suited_reply false mode s script = served (replies_of mode s script)
+
 -- the fault, or the replies over what the image opens as
-abbrev pub opened_reply : Bool → List ℕ → List ℕ → Result Opened ImageFault → Outcome
-opened_reply read_only script image (Err fault) = record { end = BadImage fault; text = bad_image_line fault }
-opened_reply read_only script image (Ok v) =
-    served (replies_of (plain_mode v.kind read_only) (record { image = image; view = v }) script)
+abbrev pub opened_reply : Bool → Bool → List ℕ → List ℕ → Result Opened ImageFault → Outcome
+opened_reply read_only safe script image (Err fault) = record { end = BadImage fault; text = bad_image_line fault }
+opened_reply read_only safe script image (Ok v) =
+    suited_reply (is_unsuited safe v) (mode_of v.kind read_only safe) (record { image = image; view = v }) script
 
 -- the replies over an image
-abbrev pub image_reply : Bool → List ℕ → List ℕ → Outcome
-image_reply read_only script image = opened_reply read_only script image (open_image image)
+abbrev pub image_reply : Bool → Bool → List ℕ → List ℕ → Outcome
+image_reply read_only safe script image = opened_reply read_only safe script image (open_image image)
 
 -- the format that a word names
 abbrev pub format_in : Word → Format
@@ -107,13 +112,9 @@ image_for (Some f) image = fresh_image (format_in f) (replicate (format_size (fo
 -- the name is given, or not
 abbrev pub attached_reply : Bool → Request → List ℕ → List ℕ → Outcome
 attached_reply false r script image = silent NoImage
-attached_reply true r script image = image_reply r.read_only script (image_for r.new image)
+attached_reply true r script image = image_reply r.read_only r.safe script (image_for r.new image)
 
 -- ---- words
-
--- what the words ask for isn't built yet
-abbrev pub is_unbuilt : Request → Bool
-is_unbuilt r = r.safe
 
 -- what the words ask for, over a script that was read
 abbrev pub script_reply : (List ℕ → Option ℕ → Bool) → Request → List ℕ → List ℕ → Outcome
@@ -124,7 +125,7 @@ script_reply gives r script image =
 -- a run of what the words ask for
 abbrev pub request_reply : (List ℕ → Option ℕ → Bool) → List ℕ → List ℕ → Option Request → Outcome
 request_reply gives script image None = silent BadWords
-request_reply gives script image (Some r) = if is_unbuilt r then silent NotBuilt else script_reply gives r script image
+request_reply gives script image (Some r) = script_reply gives r script image
 
 -- a whole run without a demo: words, the names that the disk gives, script and image
 abbrev pub run_reply : List (List ℕ) → (List ℕ → Option ℕ → Bool) → List ℕ → List ℕ → Outcome

@@ -1,5 +1,5 @@
 // The answer to a line of the script.
-ghost use Rattle.std.specs.Prelude.{◌≡◌, ◌≤◌, List, ℕ, length, Ok, IsFalse, IsTrue};
+ghost use Rattle.std.specs.Prelude.{◌≡◌, ◌≤◌, List, ℕ, length, Ok, IfOk, IsFalse, IsTrue};
 ghost use Rattle.fc_device.specs.Calls.{OnlyReads};
 ghost use Rattle.fc_runs.specs.ReadLaw.{is_reading};
 ghost use Rattle.fc_script.specs.Lines.{command_of};
@@ -8,6 +8,7 @@ ghost use Rattle.fc_volume.specs.Volume.{StandsFor};
 ghost use Rattle.fc_shell.specs.Answered.{Answered, ForState, IsCaused, volume_reply};
 ghost use Rattle.fc_shell.specs.Replies.{script_limit};
 ghost use Rattle.fc_shell.specs.Line.{KeepsGoing, LineEnds};
+ghost use Rattle.fc_shell.specs.Modes.{SuitsMode, mode_of};
 ghost use Rattle.fc_shell.specs.declared.answer.LineFault.TheVariants as errors;
 
 use crate::cat::cat;
@@ -122,23 +123,26 @@ fn renew_index(alloc: Global, volume: &mut Volume, asked: &Command)
     }
 }
 
-/// Answers a command. `line` of the clauses is each line that spells it.
+/// Answers a command, in the safe mode or not. `line` of the clauses is each line that spells it.
 pub fn answer_command<D: Disk, K: Sink>(
     alloc: Global,
     volume: &mut Volume,
     disk: &mut D,
     out: &mut K,
     asked: &Command,
+    safe: bool,
 ) -> Result<bool, LineFault>
     requires attached { IsTrue (D.attached disk.old) }
     requires fit { IsTrue volume.old.fit }
     requires stands { StandsFor D.Disk volume.old disk.old }
     requires settled { IsFalse (D.pending disk.old) }
+    requires suits { SuitsMode safe volume.old }
     requires spelled { (line : List ℕ) × (command_of line ≡ Ok (command asked.now)) × (length line ≤ script_limit) }
     ensures step { (line : List ℕ) → command_of line ≡ Ok (command asked.now) → ForState (D.bytes disk.old) volume.old (λ kind s.
-        LineEnds D.Disk disk.old disk.new kind volume.old.read_only s volume.new line (K.taken out.old) (K.taken out.new) result) }
+        LineEnds D.Disk disk.old disk.new (mode_of kind volume.old.read_only safe) s volume.new line (K.taken out.old) (K.taken out.new) result) }
     ensures keeps { (line : List ℕ) → command_of line ≡ Ok (command asked.now)
         → KeepsGoing D.Disk K.Sink disk.old disk.new out.old out.new volume.old volume.new line result }
+    ensures suits { IfOk result (λ refused. SuitsMode safe volume.new) }
 {
     if is_reading(asked) {
         renew_index(alloc, volume, asked);
@@ -147,29 +151,32 @@ pub fn answer_command<D: Disk, K: Sink>(
     match asked {
         Command::Compact => compact(alloc, volume, disk, out),
         Command::Reclaim => reclaim(alloc, volume, disk, out),
-        _ => answer_change(alloc, volume, disk, out, asked),
+        _ => answer_change(alloc, volume, disk, out, asked, safe),
     }
 }
 
-/// Answers a command line of the script: does it, and writes its whole reply. Answers whether the reply is an error line.
+/// Answers a command line of the script, in the safe mode or not: does it, and writes its whole reply. Answers whether the reply is an error line.
 pub fn answer_line<D: Disk, K: Sink>(
     alloc: Global,
     volume: &mut Volume,
     disk: &mut D,
     out: &mut K,
     line: &[u8],
+    safe: bool,
 ) -> Result<bool, LineFault>
     requires attached { IsTrue (D.attached disk.old) }
     requires fit { IsTrue volume.old.fit }
     requires stands { StandsFor D.Disk volume.old disk.old }
     requires settled { IsFalse (D.pending disk.old) }
+    requires suits { SuitsMode safe volume.old }
     requires short { length line.now ≤ script_limit }
     ensures step { ForState (D.bytes disk.old) volume.old (λ kind s.
-        LineEnds D.Disk disk.old disk.new kind volume.old.read_only s volume.new line.now (K.taken out.old) (K.taken out.new) result) }
+        LineEnds D.Disk disk.old disk.new (mode_of kind volume.old.read_only safe) s volume.new line.now (K.taken out.old) (K.taken out.new) result) }
     ensures keeps { KeepsGoing D.Disk K.Sink disk.old disk.new out.old out.new volume.old volume.new line.now result }
+    ensures suits { IfOk result (λ refused. SuitsMode safe volume.new) }
 {
     match read_line(alloc, line) {
-        Ok(asked) => answer_command(alloc, volume, disk, out, &asked),
+        Ok(asked) => answer_command(alloc, volume, disk, out, &asked, safe),
         Err(LineError::BadCommand) => tell(out, refusal(alloc, Refusal::BadCommand)),
         Err(LineError::BadName) => tell(out, refusal(alloc, Refusal::BadName)),
         Err(LineError::NoMemory) => Err(LineFault::NoMemory),

@@ -1,5 +1,5 @@
 // Commands that change the disc.
-ghost use Rattle.std.specs.Prelude.{◌≡◌, ◌≤◌, List, ℕ, length, true, false, Ok, Err, IsFalse, IsTrue};
+ghost use Rattle.std.specs.Prelude.{◌≡◌, ◌≤◌, List, ℕ, length, true, false, IfOk, Ok, Err, IsFalse, IsTrue};
 ghost use Rattle.fc_course.specs.Run.{IsMapIn};
 ghost use Rattle.fc_image.specs.Stays.{IsNewLayout};
 ghost use Rattle.fc_oldvolume.specs.Changing.{IsOldLayout};
@@ -13,9 +13,11 @@ ghost use Rattle.fc_shell.specs.Answered.{Answered, ForState, OnlyTells};
 ghost use Rattle.fc_shell.specs.Changing.{Tells, TellsError};
 ghost use Rattle.fc_shell.specs.Replies.{script_limit};
 ghost use Rattle.fc_shell.specs.Line.{KeepsGoing, LineEnds};
+ghost use Rattle.fc_shell.specs.Modes.{SuitsMode, mode_of};
 
 use crate::answer::LineFault;
 use crate::reply::{refusal, tell};
+use crate::safety::answer_safely;
 use crate::sink::write_all;
 use fc_device::{Disk, Sink};
 use fc_script::Command;
@@ -81,15 +83,15 @@ pub fn has_map(volume: &Volume)
     }
 }
 
-// The words of a file.
-fn file_words(load: u32, exec: u32, len: u32) -> FileWords
+/// The words of a file.
+pub fn file_words(load: u32, exec: u32, len: u32) -> FileWords
     ensures { result ≡ record { load = load; exec = exec; len = len } }
 {
     FileWords { load, exec, len }
 }
 
-// The words that an object gets.
-fn object_words(load: u32, exec: u32, access: u32) -> ObjectWords
+/// The words that an object gets.
+pub fn object_words(load: u32, exec: u32, access: u32) -> ObjectWords
     ensures { result ≡ record { load = load; exec = exec; access = access } }
 {
     ObjectWords { load, exec, access }
@@ -140,25 +142,32 @@ fn change<D: Disk>(
     }
 }
 
-/// Answers a command that changes the tree: does it, and then writes the reply. Answers whether the reply is an error line.
+/// Answers a command that changes the tree, in the safe mode or not: does it, and then writes the reply. Answers whether the reply is an
+/// error line.
 pub fn answer_change<D: Disk, K: Sink>(
     alloc: Global,
     volume: &mut Volume,
     disk: &mut D,
     out: &mut K,
     asked: &Command,
+    safe: bool,
 ) -> Result<bool, LineFault>
     requires attached { IsTrue (D.attached disk.old) }
     requires fit { IsTrue volume.old.fit }
     requires stands { StandsFor D.Disk volume.old disk.old }
     requires settled { IsFalse (D.pending disk.old) }
+    requires suits { SuitsMode safe volume.old }
     requires changes { keeps_tree (command asked.now) ≡ false }
     requires spelled { (line : List ℕ) × (command_of line ≡ Ok (command asked.now)) × (length line ≤ script_limit) }
     ensures step { (line : List ℕ) → command_of line ≡ Ok (command asked.now) → ForState (D.bytes disk.old) volume.old (λ kind s.
-        LineEnds D.Disk disk.old disk.new kind volume.old.read_only s volume.new line (K.taken out.old) (K.taken out.new) result) }
+        LineEnds D.Disk disk.old disk.new (mode_of kind volume.old.read_only safe) s volume.new line (K.taken out.old) (K.taken out.new) result) }
     ensures keeps { (line : List ℕ) → command_of line ≡ Ok (command asked.now)
         → KeepsGoing D.Disk K.Sink disk.old disk.new out.old out.new volume.old volume.new line result }
+    ensures suits { IfOk result (λ refused. SuitsMode safe volume.new) }
 {
+    if safe {
+        return answer_safely(alloc, volume, disk, out, asked);
+    }
     has_map(volume);
     let changed = change(alloc, volume, disk, asked);
     tell_change(alloc, out, changed)

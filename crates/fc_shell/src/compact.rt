@@ -1,5 +1,5 @@
 // The reply to `compact`.
-ghost use Rattle.std.specs.Prelude.{◌≡◌, List, ℕ, Ok, IsFalse, IsTrue};
+ghost use Rattle.std.specs.Prelude.{◌≡◌, Bool, List, ℕ, Ok, IfOk, IsFalse, IsTrue};
 ghost use Rattle.fc_image.specs.Stays.{IsNewLayout};
 ghost use Rattle.fc_model.specs.Command.{Command as Model};
 ghost use Rattle.fc_oldvolume.specs.Changing.{IsOldLayout};
@@ -8,6 +8,7 @@ ghost use Rattle.fc_volume.specs.Volume.{StandsFor, parts_of};
 ghost use Rattle.fc_shell.specs.Answered.{ForState};
 ghost use Rattle.fc_shell.specs.Changing.{IsCompacting};
 ghost use Rattle.fc_shell.specs.Line.{KeepsGoing, LineEnds};
+ghost use Rattle.fc_shell.specs.Modes.{SuitsMode, mode_of};
 
 use crate::answer::LineFault;
 use crate::change::{has_old_map, tell_change};
@@ -65,7 +66,8 @@ fn compact_disc<D: Disk>(
     compact_new(alloc, volume, disk)
 }
 
-/// Answers `compact`: compacts the disc, and then writes the reply. Answers whether the reply is an error line.
+/// Answers `compact`: compacts the disc, and then writes the reply. Answers whether the reply is an error line. It is
+/// one call for both modes.
 pub fn compact<D: Disk, K: Sink>(
     alloc: Global,
     volume: &mut Volume,
@@ -76,10 +78,11 @@ pub fn compact<D: Disk, K: Sink>(
     requires fit { IsTrue volume.old.fit }
     requires stands { StandsFor D.Disk volume.old disk.old }
     requires settled { IsFalse (D.pending disk.old) }
-    ensures step { (line : List ℕ) → command_of line ≡ Ok Model.Compact → ForState (D.bytes disk.old) volume.old (λ kind s.
-        LineEnds D.Disk disk.old disk.new kind volume.old.read_only s volume.new line (K.taken out.old) (K.taken out.new) result) }
+    ensures step { (line : List ℕ) → command_of line ≡ Ok Model.Compact → (safe : Bool) → SuitsMode safe volume.old → ForState (D.bytes disk.old) volume.old (λ kind s.
+        LineEnds D.Disk disk.old disk.new (mode_of kind volume.old.read_only safe) s volume.new line (K.taken out.old) (K.taken out.new) result) }
     ensures keeps { (line : List ℕ) → command_of line ≡ Ok Model.Compact
         → KeepsGoing D.Disk K.Sink disk.old disk.new out.old out.new volume.old volume.new line result }
+    ensures suits { (safe : Bool) → SuitsMode safe volume.old → IfOk result (λ refused. SuitsMode safe volume.new) }
 {
     let compacted = compact_disc(alloc, volume, disk);
     tell_change(alloc, out, compacted)

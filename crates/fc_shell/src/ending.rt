@@ -25,8 +25,8 @@ pub enum End {
     NoMemory,
     /// 8: the script is longer than 16,777,216 bytes.
     ScriptTooLong,
-    /// 9: the words ask for what isn't built.
-    NotBuilt,
+    /// 10: the safe mode is asked for, and doesn't serve the volume.
+    NotSafe,
     /// 11: a call of the host failed.
     HostFault,
     /// 12: the disk doesn't give the image.
@@ -48,7 +48,7 @@ impl End {
             End::OutFault => 6,
             End::NoMemory => 7,
             End::ScriptTooLong => 8,
-            End::NotBuilt => 9,
+            End::NotSafe => 10,
             End::HostFault => 11,
             End::NoImage => 12,
         }

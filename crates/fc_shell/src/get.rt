@@ -1,5 +1,5 @@
 // The reply to `get`: a file of the disc becomes one of the host.
-ghost use Rattle.std.specs.Prelude.{◌≡◌, ◌<◌, ◌≤◌, Ok, length, IsFalse, IsTrue};
+ghost use Rattle.std.specs.Prelude.{◌≡◌, ◌<◌, ◌≤◌, Bool, Ok, length, IsFalse, IsTrue};
 ghost use Rattle.std.specs.Option.{ForSome};
 ghost use Rattle.fc_device.specs.Calls.{OnlyReads};
 ghost use Rattle.fc_runs.specs.HostAsks.{GetAsks};
@@ -8,6 +8,7 @@ ghost use Rattle.fc_volume.specs.Answers.{IsRef, ref_bytes};
 ghost use Rattle.fc_volume.specs.Volume.{StandsFor};
 ghost use Rattle.fc_shell.specs.Answered.{ForState};
 ghost use Rattle.fc_shell.specs.Getting.{FileMoves};
+ghost use Rattle.fc_shell.specs.Modes.{mode_of};
 ghost use Rattle.fc_shell.specs.Moving.{AreCaused, AsksMore, LineMoves};
 
 use crate::change::tell_done;
@@ -66,8 +67,8 @@ pub fn get<D: Disk, K: Sink, H: Host>(
     requires settled { IsFalse (D.pending disk.old) }
     requires some { 0 < length name.now }
     requires most { length name.now ≤ 64 }
-    ensures step { ForState (D.bytes disk.old) volume.now (λ kind s. AsksMore H.Host host.old host.new (λ asked.
-        LineMoves D.Disk disk.old disk.new kind volume.now.read_only s volume.now (Ok (HostLine.Get path.now name.now)) (K.taken out.old) (K.taken out.new) asked (H.files host.old) (H.files host.new) result)) }
+    ensures step { (safe : Bool) → ForState (D.bytes disk.old) volume.now (λ kind s. AsksMore H.Host host.old host.new (λ asked.
+        LineMoves D.Disk disk.old disk.new (mode_of kind volume.now.read_only safe) s volume.now (Ok (HostLine.Get path.now name.now)) (K.taken out.old) (K.taken out.new) asked (H.files host.old) (H.files host.new) result)) }
     ensures asks { AsksMore H.Host host.old host.new (GetAsks name.now) }
     ensures reads { OnlyReads D.Disk disk.old disk.new }
     ensures caused { AreCaused D.Disk K.Sink H.Host disk.old disk.new out.old out.new host.old host.new result }

@@ -1,7 +1,7 @@
 //! The top of the filing system: a run of a script over an image.
 //!
-//! Every command is served, over images of every kind and over fresh volumes, and `put` and `get` with a host's files. The option
-//! `--safe` isn't implemented: a run that asks for it ends as `End::NotBuilt`, before the script is read.
+//! Every command is served, over images of every kind and over fresh volumes, and `put` and `get` with a host's files. In the safe mode
+//! (`--safe`), which serves discs with big directories, each command is done whole or not at all.
 #![tactic(auto)]
 
 mod answer;
@@ -26,29 +26,30 @@ mod moving;
 mod put;
 mod reclaim;
 mod reply;
+mod safety;
 mod script;
 mod serving;
 mod session;
 mod sink;
+mod suitability;
 mod tally;
 mod texts;
+mod whole_put;
 
-ghost use Rattle.std.specs.Prelude.{◌≡◌, ◌≢◌, ◌⊎◌, ◌<◌, ◌≤◌, [], List, ℕ, length, map, true, false, None, Some, IsFalse, string_bytes};
+ghost use Rattle.std.specs.Prelude.{◌≡◌, ◌≢◌, ◌⊎◌, ◌<◌, ◌≤◌, [], List, ℕ, length, map, nat_lt, true, false, None, Some, string_bytes};
 ghost use Rattle.std.specs.Option.{ForSome};
-ghost use Rattle.fc_device.specs.Calls.{Untouched};
 ghost use Rattle.fc_device.specs.Faults.{Rose};
 ghost use Rattle.fc_runs.specs.Demo.{demo_script};
 ghost use Rattle.fc_runs.specs.Run.{commands_in, script_for};
 ghost use Rattle.fc_words.specs.CommandLine.{Request, request_of};
 ghost use Rattle.fc_words.specs.Request.{request_in};
 ghost use Rattle.fc_shell.specs.Reads.{Spares, only_reads};
-ghost use Rattle.fc_shell.specs.Ends.{AsksFor, FitsGiven, is_early, is_late_alone, is_over_image};
+ghost use Rattle.fc_shell.specs.Ends.{is_early, is_late_alone};
 ghost use Rattle.fc_shell.specs.Headline.{IsAnsweredByMap};
-ghost use Rattle.fc_shell.specs.Kept.{HasImage, LeavesDisk, RunKeeps, RunSpares};
-ghost use Rattle.fc_shell.specs.Promise.{EndsByGiving, EndsByWords, Promise};
-ghost use Rattle.fc_shell.specs.Reading.{IsUnwritten};
+ghost use Rattle.fc_shell.specs.Kept.{RunKeeps, RunSpares};
+ghost use Rattle.fc_shell.specs.Promise.{EndsByGiving, EndsByLength, Promise};
 ghost use Rattle.fc_shell.specs.ReadsLaw.{ReadsLaw};
-ghost use Rattle.fc_shell.specs.Replies.{AsksNoDemo, EndsAs, asked_script, blank_size, demo_limit, is_unbuilt, run_reply, script_limit, told_script};
+ghost use Rattle.fc_shell.specs.Replies.{AsksNoDemo, EndsAs, asked_script, blank_size, demo_limit, run_reply, script_limit, told_script};
 ghost use Rattle.fc_shell.specs.Script.{behind_limit};
 ghost use Rattle.fc_shell.specs.Writing.{Wrote};
 
@@ -98,14 +99,12 @@ fn run_request<D: Disk, S: Source, K: Sink>(
     requires few { ForSome (request_in asked.now).demo (λ n. n ≤ demo_limit) }
     ensures promise { let r = request_in asked.now in ForSome (D.gives disk.old) (λ gives. ForSome (told_script r.demo (S.left script.old)) (λ lines. ForSome (D.bytes disk.old) (λ image.
         (text : List ℕ) × Wrote (K.taken out.old) (K.taken out.new) text
-        × EndsByWords D.Disk disk.old disk.new gives r image lines text (is_unbuilt r) result))) }
+        × EndsByLength D.Disk disk.old disk.new gives r image lines text (nat_lt script_limit (length lines)) result))) }
     ensures keeps { RunKeeps D.Disk K.Sink (request_in asked.now) (RunSpares (request_in asked.now) (told_script (request_in asked.now).demo (S.left script.old))) disk.old disk.new out.old out.new result }
-    ensures unbuilt { is_unbuilt (request_in asked.now) ≡ true → (result ≡ End.NotBuilt) × (script.new ≡ script.old) × (disk.new ≡ disk.old) × (out.new ≡ out.old) }
     ensures unattached { ForSome (told_script (request_in asked.now).demo (S.left script.old)) (λ text. script_limit < length text
         → (is_early result ≡ true) × (disk.new ≡ disk.old) × (out.new ≡ out.old)) }
     ensures too_long { result ≡ End.ScriptTooLong → (disk.new ≡ disk.old) × (out.new ≡ out.old) × ForSome (S.left script.old) (λ text. script_limit < length text)
         × (S.left script.new ≡ behind_limit (S.left script.old)) }
-    ensures not_built { result ≡ End.NotBuilt → (is_unbuilt (request_in asked.now) ≡ true) × (disk.new ≡ disk.old) × (out.new ≡ out.old) }
     ensures script_fault { result ≡ End.ScriptFault → Rose (S.faults script.old) (S.faults script.new) × (disk.new ≡ disk.old) × (out.new ≡ out.old) }
     ensures script_end { (request_in asked.now).demo ≡ None → is_early result ≡ false → ForSome (S.left script.new) (λ rest. rest ≡ []) }
     ensures unread { (n : ℕ) → (request_in asked.now).demo ≡ Some n → (script.new ≡ script.old) × (result ≢ End.ScriptFault) × (result ≢ End.ScriptTooLong) }
@@ -113,9 +112,6 @@ fn run_request<D: Disk, S: Source, K: Sink>(
 {
     // A law, for the proof alone: an image that is accepted opens as its own kind.
     fc_image::accepted();
-    if asked.safe {
-        return End::NotBuilt;
-    }
     if let Some(n) = asked.demo {
         return run_demo(alloc, asked, n, disk, out);
     }
@@ -135,9 +131,11 @@ fn run_request<D: Disk, S: Source, K: Sink>(
 /// its reply is an error line, and the script goes on. Without `--new`, the image is written only by commands that change the disc,
 /// and never if the words forbid it.
 ///
-/// If the source's content is known, one end doesn't depend on the disk: if the words are right and ask for nothing that isn't
-/// implemented, a script that is too long ends as `ScriptTooLong`, and no other does; an I/O error of the source or out of memory
-/// may come first.
+/// In the safe mode a volume that it doesn't serve ends the run as `NotSafe`, after opening and before the first line: a disc with an old
+/// map or small directories, a fresh D disc among them, or one with a directory in the map's identifier.
+///
+/// If the source's content is known, one end doesn't depend on the disk: if the words are right, a script that is too long ends as
+/// `ScriptTooLong`, and no other does; an I/O error of the source or out of memory may come first.
 pub fn run<D: Disk, S: Source, K: Sink>(
     alloc: Global,
     words: &Vec<String>,
@@ -154,7 +152,8 @@ pub fn run<D: Disk, S: Source, K: Sink>(
     // and Refused the lines are steps from the image as it opened, or from the fresh one, to the one that the disk has, and their
     // replies were written. If all writes were synced before, `Stops` of fc_runs says what a crash leaves. Over a new map, a crash
     // at any moment of a run whose lines are refused, read, compact or reclaim leaves an image that opens as before, with the same
-    // tree.
+    // tree. In the safe mode a crash at any moment leaves the tree after some of the lines, and a crash at the end, an I/O error
+    // included, the tree after all those whose replies were written, or after one line more if it broke off in that.
     ensures promise { ForSome (D.gives disk.old) (λ gives. ForSome (asked_script (request_of (map string_bytes words.now.items)) (S.left script.old)) (λ lines. ForSome (D.bytes disk.old) (λ image.
         (text : List ℕ) × Wrote (K.taken out.old) (K.taken out.new) text
         × Promise D.Disk disk.old disk.new gives image lines text (request_of (map string_bytes words.now.items)) result))) }
@@ -162,9 +161,9 @@ pub fn run<D: Disk, S: Source, K: Sink>(
     // The headline. If all lines were done (`Done`, or `Refused` if some got an error line) and the contents are known: the image
     // opens, and its tree is a map from paths to attributes and bytes. Each line is answered by this map and the form of the disc's
     // names (`answer`): by a refusal, which leaves it, or by the map after the command and its reply. Where things lie on the disc
-    // decides three things alone: which commands that the map accepts lack space or room in a directory (`short`), that `reclaim`
-    // asks for a new map, and what `free`, `check` and `reclaim` reply. The replies were written in order, and the image, opened as
-    // the kind that it was, holds the last map.
+    // decides three things alone: which commands that the map accepts lack space or room in a directory (`short`; in the safe mode
+    // `safe_refusal`), that `reclaim` asks for a new map, and what `free`, `check` and `reclaim` reply. The replies were written in
+    // order, and the image, opened as the kind that it was, holds the last map.
     ensures headline { (r : Request) → request_of (map string_bytes words.now.items) ≡ Some r → (result ≡ End.Done) ⊎ (result ≡ End.Refused)
         → ForSome (D.gives disk.old) (λ gives. ForSome (told_script r.demo (S.left script.old)) (λ lines. ForSome (D.bytes disk.old) (λ image.
         (text : List ℕ) × Wrote (K.taken out.old) (K.taken out.new) text × IsAnsweredByMap D.Disk disk.new r image lines text))) }
@@ -179,46 +178,27 @@ pub fn run<D: Disk, S: Source, K: Sink>(
     ensures words { request_of (map string_bytes words.now.items) ≡ None
         → (result ≡ End.BadWords) × (script.new ≡ script.old) × (disk.new ≡ disk.old) × (out.new ≡ out.old) }
 
-    // Of the disk nothing is asked, or one image, and once: the one that the words name, as it is or as a fresh one of its
-    // format's size. Whether it was asked, the end says (`AsksFor`), unless memory was short.
-    ensures asks { (r : Request) → request_of (map string_bytes words.now.items) ≡ Some r → AsksFor (r.image, blank_size r) result (D.asked disk.old) (D.asked disk.new) }
+    // What a run keeps and causes of disk and sink (`RunKeeps`). Of the disk nothing is asked, or one image, and once: the one that the
+    // words name, as it is or as a fresh one of its format's size; the end says whether it was asked, unless memory was short. An I/O
+    // error is reported only if that object's count of faults rose in this call. `NoImage` comes only if the disk can't open the name,
+    // and an end over an image only if it can, as far as that is known; after `NoImage` the disk is as it was, but that it was asked,
+    // and a crash shows nothing new. `NotSafe` comes only if the safe mode is asked for. If the run may not change the image, or the
+    // script only reads, an image that is there keeps its bytes, and a crash leaves only what a crash before the run could have left;
+    // with `--new` the disk then has the fresh one at each end over an image (`is_over_image`). All that was written is synced at such
+    // an end, and after out of memory.
+    ensures keeps { (r : Request) → request_of (map string_bytes words.now.items) ≡ Some r
+        → RunKeeps D.Disk K.Sink r (RunSpares r (told_script r.demo (S.left script.old))) disk.old disk.new out.old out.new result }
 
-    // If the words ask for what isn't implemented, or the script is too long, the run ends before an image is asked for. `NotBuilt`
-    // and `ScriptTooLong` have no other cause.
-    ensures unbuilt { (r : Request) → request_of (map string_bytes words.now.items) ≡ Some r → is_unbuilt r ≡ true
-        → ((result ≡ End.NotBuilt) ⊎ (result ≡ End.NoMemory)) × (script.new ≡ script.old) × (disk.new ≡ disk.old) × (out.new ≡ out.old) }
+    // If the script is too long, the run ends before an image is asked for. `ScriptTooLong` has no other cause, and `ScriptFault` only
+    // an I/O error of the source.
     ensures unattached { ForSome (asked_script (request_of (map string_bytes words.now.items)) (S.left script.old)) (λ text. script_limit < length text
         → (is_early result ≡ true) × (disk.new ≡ disk.old) × (out.new ≡ out.old)) }
     ensures too_long { result ≡ End.ScriptTooLong → (disk.new ≡ disk.old) × ForSome (S.left script.old) (λ text. script_limit < length text)
         × (S.left script.new ≡ behind_limit (S.left script.old)) }
-    ensures not_built { (r : Request) → request_of (map string_bytes words.now.items) ≡ Some r → result ≡ End.NotBuilt → (is_unbuilt r ≡ true) × (disk.new ≡ disk.old) }
-
-    // An I/O error is reported only if that object's count of faults rose in this call.
     ensures script_fault { result ≡ End.ScriptFault → Rose (S.faults script.old) (S.faults script.new) × (disk.new ≡ disk.old) }
-    ensures disk_fault { result ≡ End.DiskFault → Rose (D.faults disk.old) (D.faults disk.new) }
-    ensures out_fault { result ≡ End.OutFault → Rose (K.faults out.old) (K.faults out.new) }
-
-    // After `NoImage` the disk is as it was, but that it was asked, and a crash shows nothing new. It comes only if the disk
-    // can't open the name, and an end over an image only if it can, as far as that is known.
-    ensures no_image { result ≡ End.NoImage → Untouched D.Disk disk.old disk.new
-        × IsUnwritten D.Disk disk.old disk.new }
-    ensures given { (r : Request) → request_of (map string_bytes words.now.items) ≡ Some r → ForSome (D.gives disk.old) (λ gives. FitsGiven (gives r.image (blank_size r)) result) }
 
     // At these ends nothing was written.
-    ensures silent { (result ≡ End.NotBuilt) ⊎ ((result ≡ End.NoImage) ⊎ ((result ≡ End.ScriptFault) ⊎ (result ≡ End.ScriptTooLong))) → out.new ≡ out.old }
-
-    // If the run may not change the image, or the script only reads, an image that is there keeps its bytes, and a crash leaves
-    // only what a crash before the run could have left. With `--new` the disk then has the fresh one at each end over an image
-    // (`is_over_image`).
-    ensures unwritten { (r : Request) → request_of (map string_bytes words.now.items) ≡ Some r → RunSpares r (told_script r.demo (S.left script.old)) → r.new ≡ None → IsUnwritten D.Disk disk.old disk.new }
-    ensures made { (r : Request) → request_of (map string_bytes words.now.items) ≡ Some r → RunSpares r (told_script r.demo (S.left script.old)) → is_over_image result ≡ true
-        → HasImage D.Disk r disk.old disk.new }
-
-    // If a run ends over an image, all that it wrote is synced. After out of memory the disk is as it was, or it was asked for the
-    // image, and what was written to it is synced.
-    ensures settled { is_over_image result ≡ true → IsFalse (D.pending disk.new) }
-    ensures no_memory { (r : Request) → request_of (map string_bytes words.now.items) ≡ Some r → result ≡ End.NoMemory
-        → LeavesDisk D.Disk r (RunSpares r (told_script r.demo (S.left script.old))) disk.old disk.new }
+    ensures silent { (result ≡ End.NotSafe) ⊎ ((result ≡ End.NoImage) ⊎ ((result ≡ End.ScriptFault) ⊎ (result ≡ End.ScriptTooLong))) → out.new ≡ out.old }
 
     // The source was read to its end, if the run doesn't end before an image is asked for. A demo doesn't read it.
     ensures script_end { AsksNoDemo (request_of (map string_bytes words.now.items)) → is_early result ≡ false → ForSome (S.left script.new) (λ rest. rest ≡ []) }

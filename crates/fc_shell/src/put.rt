@@ -10,6 +10,7 @@ ghost use Rattle.fc_runs.specs.HostAsks.{PutAsks};
 ghost use Rattle.fc_script.specs.HostLines.{HostLine};
 ghost use Rattle.fc_volume.specs.Volume.{StandsFor};
 ghost use Rattle.fc_shell.specs.Answered.{ForState};
+ghost use Rattle.fc_shell.specs.Modes.{mode_of};
 ghost use Rattle.fc_shell.specs.Moving.{AreCaused, AsksMore, KeepsServing, LineMoves};
 ghost use Rattle.fc_shell.specs.Putting.{IsMeasured, SavesFile, SavesGiven, TellsSaved};
 
@@ -31,8 +32,8 @@ pub struct Target<'a> {
     pub exec: u32,
 }
 
-// How many bytes a file of the host has, or why it can't become one of a disc: it isn't there, or has more than an entry can say.
-fn measure<H: Host>(host: &mut H, name: &[u8]) -> Result<Result<u32, Refusal>, Failed>
+/// How many bytes a file of the host has, or why it can't become one of a disc: it isn't there, or has more than an entry can say.
+pub fn measure<H: Host>(host: &mut H, name: &[u8]) -> Result<Result<u32, Refusal>, Failed>
     requires some { 0 < length name.now }
     requires most { length name.now ≤ 64 }
     ensures measured { IfOk result (λ found. IsMeasured name.now (H.asked host.old) (H.asked host.new) (H.files host.old) found) }
@@ -157,7 +158,7 @@ pub fn put<D: Disk, K: Sink, H: Host>(
     requires some { 0 < length name.now }
     requires most { length name.now ≤ 64 }
     ensures step { ForState (D.bytes disk.old) volume.old (λ kind s. AsksMore H.Host host.old host.new (λ asked.
-        LineMoves D.Disk disk.old disk.new kind volume.old.read_only s volume.new (Ok (HostLine.Put name.now target.now.path.now target.now.load target.now.exec)) (K.taken out.old) (K.taken out.new) asked (H.files host.old) (H.files host.new) result)) }
+        LineMoves D.Disk disk.old disk.new (mode_of kind volume.old.read_only false) s volume.new (Ok (HostLine.Put name.now target.now.path.now target.now.load target.now.exec)) (K.taken out.old) (K.taken out.new) asked (H.files host.old) (H.files host.new) result)) }
     ensures asks { AsksMore H.Host host.old host.new (PutAsks name.now) }
     ensures keeps { KeepsServing D.Disk disk.old disk.new volume.old volume.new (Ok (HostLine.Put name.now target.now.path.now target.now.load target.now.exec)) result }
     ensures caused { AreCaused D.Disk K.Sink H.Host disk.old disk.new out.old out.new host.old host.new result }

@@ -1,5 +1,5 @@
 // The reply to `reclaim`.
-ghost use Rattle.std.specs.Prelude.{List, ℕ, ◌≡◌, Ok, IsFalse, IsTrue, OnOk};
+ghost use Rattle.std.specs.Prelude.{List, ℕ, ◌≡◌, Bool, Ok, IfOk, IsFalse, IsTrue, OnOk};
 ghost use Rattle.std.specs.Fmt.{decimal};
 ghost use Rattle.fc_device.specs.Faults.{HasCause};
 ghost use Rattle.fc_model.specs.Command.{Command as Model};
@@ -8,6 +8,7 @@ ghost use Rattle.fc_volume.specs.Volume.{StandsFor};
 ghost use Rattle.fc_shell.specs.Answered.{Answered, ForState, OnlyTells};
 ghost use Rattle.fc_shell.specs.Changing.{IsReclaiming, TellsBy, reclaimed_reply};
 ghost use Rattle.fc_shell.specs.Line.{KeepsGoing, LineEnds};
+ghost use Rattle.fc_shell.specs.Modes.{SuitsMode, mode_of};
 ghost use Rattle.fc_shell.specs.Writing.{Wrote, WrotePart};
 
 use crate::answer::LineFault;
@@ -72,7 +73,8 @@ fn reclaim_disc<D: Disk>(volume: &mut Volume, disk: &mut D) -> Result<u64, Comma
     fc_lost::reclaim(volume, disk)
 }
 
-/// Answers `reclaim`: gives the disc's lost space back, and then writes the reply. Answers whether the reply is an error line.
+/// Answers `reclaim`: gives the disc's lost space back, and then writes the reply. Answers whether the reply is an error line. It is
+/// one call for both modes.
 pub fn reclaim<D: Disk, K: Sink>(
     alloc: Global,
     volume: &mut Volume,
@@ -83,10 +85,11 @@ pub fn reclaim<D: Disk, K: Sink>(
     requires fit { IsTrue volume.old.fit }
     requires stands { StandsFor D.Disk volume.old disk.old }
     requires settled { IsFalse (D.pending disk.old) }
-    ensures step { (line : List ℕ) → command_of line ≡ Ok Model.Reclaim → ForState (D.bytes disk.old) volume.old (λ kind s.
-        LineEnds D.Disk disk.old disk.new kind volume.old.read_only s volume.new line (K.taken out.old) (K.taken out.new) result) }
+    ensures step { (line : List ℕ) → command_of line ≡ Ok Model.Reclaim → (safe : Bool) → SuitsMode safe volume.old → ForState (D.bytes disk.old) volume.old (λ kind s.
+        LineEnds D.Disk disk.old disk.new (mode_of kind volume.old.read_only safe) s volume.new line (K.taken out.old) (K.taken out.new) result) }
     ensures keeps { (line : List ℕ) → command_of line ≡ Ok Model.Reclaim
         → KeepsGoing D.Disk K.Sink disk.old disk.new out.old out.new volume.old volume.new line result }
+    ensures suits { (safe : Bool) → SuitsMode safe volume.old → IfOk result (λ refused. SuitsMode safe volume.new) }
 {
     let reclaimed = reclaim_disc(volume, disk);
     tell_reclaimed(alloc, out, reclaimed)

@@ -5,6 +5,7 @@ ghost use Rattle.fc_runs.specs.Meanwhile.{GoesOn};
 ghost use Rattle.fc_runs.specs.Run.{commands_in};
 ghost use Rattle.fc_volume.specs.Volume.{StandsFor};
 ghost use Rattle.fc_shell.specs.Answered.{ForState};
+ghost use Rattle.fc_shell.specs.Modes.{SuitsMode, mode_of};
 ghost use Rattle.fc_shell.specs.Moving.{AreCaused, AsksMore, HostSpares, LinesMove, ScriptAsks};
 ghost use Rattle.fc_shell.specs.Replies.{script_limit};
 
@@ -26,14 +27,16 @@ pub fn serve_with<D: Disk, K: Sink, H: Host>(
     out: &mut K,
     host: &mut H,
     script: &[u8],
+    safe: bool,
 ) -> Result<Tally, MoveFault>
     requires attached { IsTrue (D.attached disk.old) }
     requires fit { IsTrue volume.old.fit }
     requires stands { StandsFor D.Disk volume.old disk.old }
     requires settled { IsFalse (D.pending disk.old) }
+    requires suits { SuitsMode safe volume.old }
     requires short { length script.now ≤ script_limit }
     ensures served { ForState (D.bytes disk.old) volume.old (λ kind s. AsksMore H.Host host.old host.new (λ asked.
-        LinesMove D.Disk disk.old disk.new kind volume.old.read_only s script.now (K.taken out.old) (K.taken out.new) asked (H.files host.old) (H.files host.new) result)) }
+        LinesMove D.Disk disk.old disk.new (mode_of kind volume.old.read_only safe) s script.now (K.taken out.old) (K.taken out.new) asked (H.files host.old) (H.files host.new) result)) }
     ensures asks { AsksMore H.Host host.old host.new (ScriptAsks script.now) }
     ensures goes { GoesOn D.Disk disk.old disk.new }
     ensures settled { (result ≡ Err MoveFault.Disk → ⊥) → D.pending disk.new ≡ false }
@@ -43,7 +46,7 @@ pub fn serve_with<D: Disk, K: Sink, H: Host>(
     let mut tally = Tally::new();
     let mut lines = CommandLines::new(script);
     while let Some(line) = lines.next() {
-        let refused = answer_host_line(alloc, volume, disk, out, host, line)?;
+        let refused = answer_host_line(alloc, volume, disk, out, host, line, safe)?;
         tally.count(refused);
     }
     Ok(tally)

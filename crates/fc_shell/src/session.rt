@@ -14,8 +14,8 @@ ghost use Rattle.fc_shell.specs.Reads.{Spares};
 ghost use Rattle.fc_shell.specs.Ends.{end_of, is_late_alone};
 ghost use Rattle.fc_shell.specs.Kept.{RunKeeps, SessionKeeps};
 ghost use Rattle.fc_runs.specs.Meanwhile.{GoesOn};
-ghost use Rattle.fc_shell.specs.Modes.{plain_mode};
-ghost use Rattle.fc_shell.specs.Promise.{EndsByGiving, EndsByOpening, EndsOver};
+ghost use Rattle.fc_shell.specs.Modes.{SuitsMode, is_unsuited, mode_of};
+ghost use Rattle.fc_shell.specs.Promise.{EndsByGiving, EndsByOpening, EndsBySuiting, EndsOver};
 ghost use Rattle.fc_shell.specs.Replies.{blank_size, script_limit};
 ghost use Rattle.fc_shell.specs.Serving.{ServesAs};
 ghost use Rattle.fc_shell.specs.Writing.{Wrote, WrotePart};
@@ -26,6 +26,7 @@ use crate::ending::End;
 use crate::image::attach_image;
 use crate::lines::CommandLines;
 use crate::sink::write_all;
+use crate::suitability::is_unsuited;
 use crate::tally::Tally;
 use crate::texts::bad_image_line;
 use fc_device::{Disk, DiskFault, Failed, Sink};
@@ -42,14 +43,16 @@ fn serve<D: Disk, K: Sink>(
     disk: &mut D,
     out: &mut K,
     script: &[u8],
+    safe: bool,
 ) -> Result<Tally, LineFault>
     requires attached { IsTrue (D.attached disk.old) }
     requires fit { IsTrue volume.old.fit }
     requires stands { StandsFor D.Disk volume.old disk.old }
     requires settled { IsFalse (D.pending disk.old) }
+    requires suits { SuitsMode safe volume.old }
     requires short { length script.now ≤ script_limit }
     ensures served { ForState (D.bytes disk.old) volume.old (λ kind s.
-        ServesAs D.Disk disk.old disk.new kind volume.old.read_only s script.now (K.taken out.old) (K.taken out.new) result) }
+        ServesAs D.Disk disk.old disk.new (mode_of kind volume.old.read_only safe) s script.now (K.taken out.old) (K.taken out.new) result) }
     ensures goes { GoesOn D.Disk disk.old disk.new }
     ensures settled { (result ≡ Err LineFault.Disk → ⊥) → D.pending disk.new ≡ false }
     ensures reads { Spares volume.old.read_only (commands_in script.now) → OnlyReads D.Disk disk.old disk.new }
@@ -58,7 +61,7 @@ fn serve<D: Disk, K: Sink>(
     let mut tally = Tally::new();
     let mut lines = CommandLines::new(script);
     while let Some(line) = lines.next() {
-        let refused = answer_line(alloc, volume, disk, out, line)?;
+        let refused = answer_line(alloc, volume, disk, out, line, safe)?;
         tally.count(refused);
     }
     Ok(tally)
@@ -103,20 +106,22 @@ fn answer_demo<D: Disk, K: Sink>(
     out: &mut K,
     script: &[u8],
     n: u32,
+    safe: bool,
 ) -> End
     requires attached { IsTrue (D.attached disk.old) }
     requires fit { IsTrue volume.old.fit }
     requires stands { StandsFor D.Disk volume.old disk.old }
     requires settled { IsFalse (D.pending disk.old) }
+    requires suits { SuitsMode safe volume.old }
     requires short { length script.now ≤ script_limit }
     requires own { script_for (Some n) script.now ≡ script.now }
     ensures promise { ForState (D.bytes disk.old) volume.old (λ kind s. (text : List ℕ) × Wrote (K.taken out.old) (K.taken out.new) text
-        × EndsOver D.Disk disk.old disk.new (plain_mode kind volume.old.read_only) false (Some n) s script.now text result) }
-    ensures keeps { SessionKeeps D.Disk K.Sink (Spares volume.old.read_only (commands_in script.now)) disk.old disk.new out.old out.new result }
+        × EndsOver D.Disk disk.old disk.new (mode_of kind volume.old.read_only safe) false (Some n) s script.now text result) }
+    ensures keeps { SessionKeeps D.Disk K.Sink safe (Spares volume.old.read_only (commands_in script.now)) disk.old disk.new out.old out.new result }
     ensures late { is_late_alone result ≡ true }
 {
     let mut replies = Replies::new(alloc);
-    match serve(alloc, volume, disk, &mut replies, script) {
+    match serve(alloc, volume, disk, &mut replies, script, safe) {
         Ok(tally) => tell_tally(alloc, out, n, tally, replies.text()),
         Err(LineFault::Disk) => End::DiskFault,
         // The sink of the replies fails only if no memory is found.
@@ -125,7 +130,7 @@ fn answer_demo<D: Disk, K: Sink>(
     }
 }
 
-// Serves a script over a volume that was opened. A demo's replies stay in memory.
+// Serves a script over a volume that was opened, unless the safe mode is asked for and doesn't serve it. A demo's replies stay in memory.
 fn answer_lines<D: Disk, K: Sink>(
     alloc: Global,
     volume: &mut Volume,
@@ -133,6 +138,7 @@ fn answer_lines<D: Disk, K: Sink>(
     out: &mut K,
     script: &[u8],
     demo: Option<u32>,
+    safe: bool,
 ) -> End
     requires attached { IsTrue (D.attached disk.old) }
     requires fit { IsTrue volume.old.fit }
@@ -141,13 +147,16 @@ fn answer_lines<D: Disk, K: Sink>(
     requires short { length script.now ≤ script_limit }
     requires own { script_for demo script.now ≡ script.now }
     ensures promise { ForState (D.bytes disk.old) volume.old (λ kind s. (text : List ℕ) × Wrote (K.taken out.old) (K.taken out.new) text
-        × EndsOver D.Disk disk.old disk.new (plain_mode kind volume.old.read_only) false demo s script.now text result) }
-    ensures keeps { SessionKeeps D.Disk K.Sink (Spares volume.old.read_only (commands_in script.now)) disk.old disk.new out.old out.new result }
+        × EndsBySuiting D.Disk disk.old disk.new (mode_of kind volume.old.read_only safe) false demo s script.now text (is_unsuited safe s.view) result) }
+    ensures keeps { SessionKeeps D.Disk K.Sink safe (Spares volume.old.read_only (commands_in script.now)) disk.old disk.new out.old out.new result }
     ensures late { is_late_alone result ≡ true }
 {
+    if is_unsuited(volume, safe) {
+        return End::NotSafe;
+    }
     match demo {
-        None => end_of(serve(alloc, volume, disk, out, script)),
-        Some(n) => answer_demo(alloc, volume, disk, out, script, n),
+        None => end_of(serve(alloc, volume, disk, out, script, safe)),
+        Some(n) => answer_demo(alloc, volume, disk, out, script, n, safe),
     }
 }
 
@@ -159,19 +168,20 @@ fn answer_image<D: Disk, K: Sink>(
     script: &[u8],
     read_only: bool,
     demo: Option<u32>,
+    safe: bool,
 ) -> End
     requires fresh { IsFresh D.attached D.pending D.sector_size disk.old }
     requires short { length script.now ≤ script_limit }
     requires own { script_for demo script.now ≡ script.now }
     ensures promise { ForSome (D.bytes disk.old) (λ image. (text : List ℕ) × Wrote (K.taken out.old) (K.taken out.new) text
-        × EndsByOpening D.Disk disk.old disk.new read_only false demo image script.now text (open_image image) result) }
-    ensures keeps { SessionKeeps D.Disk K.Sink (Spares read_only (commands_in script.now)) disk.old disk.new out.old out.new result }
+        × EndsByOpening D.Disk disk.old disk.new read_only safe false demo image script.now text (open_image image) result) }
+    ensures keeps { SessionKeeps D.Disk K.Sink safe (Spares read_only (commands_in script.now)) disk.old disk.new out.old out.new result }
     ensures late { is_late_alone result ≡ true }
 {
     // A law, for the proof alone: an image that is accepted opens as its own kind.
     fc_image::accepted();
     match Volume::mount(alloc, disk, read_only) {
-        Ok(mut volume) => answer_lines(alloc, &mut volume, disk, out, script, demo),
+        Ok(mut volume) => answer_lines(alloc, &mut volume, disk, out, script, demo, safe),
         Err(MountError::Image(fault)) => tell_fault(alloc, out, fault),
         Err(MountError::DiskFault) => End::DiskFault,
         Err(MountError::NoMemory) => End::NoMemory,
@@ -200,6 +210,14 @@ pub fn answer_script<D: Disk, K: Sink>(
     match attach_image(disk, asked.image.as_str(), asked.new) {
         Err(DiskFault) => End::DiskFault,
         Ok(false) => End::NoImage,
-        Ok(true) => answer_image(alloc, disk, out, script, asked.read_only, asked.demo),
+        Ok(true) => answer_image(
+            alloc,
+            disk,
+            out,
+            script,
+            asked.read_only,
+            asked.demo,
+            asked.safe,
+        ),
     }
 }

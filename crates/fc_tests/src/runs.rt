@@ -225,6 +225,35 @@ fn fresh_volumes(rt: HostRuntime) -> Result<(), Fail> {
     Ok(())
 }
 
+// Words with `--safe` that make a fresh volume, a script, and its status and text. The safe mode serves big directories alone.
+const SAFE_VOLUMES: &[(&[&str], &[u8], u8, &[u8])] = &[
+    (
+        &["--safe", "--new", "E+", "disc"],
+        b"free\ndelete $.None\ncompact\n",
+        1,
+        b"free 815104 815104\nok\nerror 3 NotFound\nok\n",
+    ),
+    (
+        &["--safe", "--read-only", "--new", "F+", "disc"],
+        b"delete $\ncat $",
+        1,
+        b"error 7 RootRefused\nok\n",
+    ),
+    (&["--safe", "--new", "E", "disc"], b"free\n", 10, b""),
+    (&["--safe", "--new", "L", "disc"], b"free\n", 10, b""),
+];
+
+#[test]
+fn safe_volumes(rt: HostRuntime) -> Result<(), Fail> {
+    let alloc = rt.alloc();
+    for (words, script, wanted, text) in SAFE_VOLUMES {
+        let (status, written, _) = outcome(alloc, words, Vec::new(alloc), script)?;
+        assert!(rt; status == *wanted);
+        assert!(rt; written.as_slice() == *text);
+    }
+    Ok(())
+}
+
 // Words, a script, and the status and the text that it has over the image with `Hello`, which stays as it is.
 const ONE_FILE: &[(&[&str], &[u8], u8, &[u8])] = &[
     (&["disc"], b"load $.hello\n", 0, b"48656c6c6f\nok\n"),
@@ -251,11 +280,11 @@ const ONE_FILE: &[(&[&str], &[u8], u8, &[u8])] = &[
     (&["other"], b"load $.hello\n", 12, b""),
     (&[], b"load $.hello\n", 2, b""),
     (&["--help", "disc"], b"load $.hello\n", 2, b""),
-    (&["--safe", "disc"], b"load $.hello\n", 9, b""),
+    (&["--safe", "disc"], b"load $.hello\n", 10, b""),
     (
         &["--demo", "1", "--safe", "disc"],
         b"load $.hello\n",
-        9,
+        10,
         b"",
     ),
     (

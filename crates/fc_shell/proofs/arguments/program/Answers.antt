@@ -13,10 +13,8 @@ returns g c =
         keeps = run.keeps;
         bad_words = run.bad_words;
         words = λ none. let x = run.words none in (x.0, x.1, record { disk = x.2; sink = x.3; host = x.4 });
-        unbuilt = λ r is unbuilt. let x = run.unbuilt r is unbuilt in (x.0, x.1, record { disk = x.2; sink = x.3; host = x.4 });
         unattached = λ text told long. let x = run.unattached text told long in (x.0, record { disk = x.1; sink = x.2; host = x.3 });
         too_long = run.too_long;
-        not_built = run.not_built;
         script_fault = run.script_fault;
         script_end = run.script_end;
         unread = run.unread;

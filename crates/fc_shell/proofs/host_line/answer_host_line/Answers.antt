@@ -1,4 +1,4 @@
-use Rattle.std.proofs.Common.{◌≡◌, ◌<◌, ◌≤◌, ◌∙◌, List, ℕ, [], Bool, true, false, Result, Ok, Err, length, inl, refl, sym, ap, subst, arith}
+use Rattle.std.proofs.Common.{◌≡◌, ◌<◌, ◌≤◌, ◌∙◌, List, ℕ, [], Bool, true, false, Result, Ok, Err, IfOk, length, inl, refl, sym, ap, subst, arith}
 use Rattle.std.proofs.lemmas.List.{append-nil}
 use Rattle.fc_device.proofs.DiskLaws.{laws}
 use Rattle.fc_device.proofs.StopLemmas.{reads_start}
@@ -16,9 +16,11 @@ use Rattle.fc_shell.proofs.HostLineLemmas.{get_name, other_command, put_name}
 use Rattle.fc_tree.specs.Parts.{ArePartsOf}
 use Rattle.fc_volume.specs.Volume.{StandsFor, Volume, parts_of}
 use Rattle.fc_shell.specs.declared.moving.MoveFault.{MoveFault}
+use Rattle.fc_shell.specs.Modes.{SuitsMode, mode_of}
 use Rattle.fc_shell.specs.Moving.{AreCaused, KeepsServing, LineMoves}
 use Rattle.fc_shell.proofs.AnsweredLemmas.{caused_alone}
 use Rattle.fc_shell.proofs.MovingLemmas.{caused_moved, command_moves, command_serves, reading_serves, refused_moves, unbegun_moves}
+use Rattle.fc_shell.proofs.SuitsLemmas.{no_mode, suits_if, suits_moved, suits_same}
 use Rattle.fc_shell.proofs.host_line.answer_host_line.Goals as goal
 
 -- ---- `get`
@@ -49,11 +51,11 @@ returns-in-Ok-Get-clause-step g c image told kind view opens parts =
     let files = g.H.Host.files in
     let same = c.renew_index.ensures in
     let own = get_line c.args.line.now c.in-Ok-Get.path c.in-Ok-Get.name c.bytes.result.now (line_is c.args.line.now c.in-Ok-Get.field-0 (Told.Get c.in-Ok-Get.path c.in-Ok-Get.name) c.in-Ok-Get.ensures c.in-Ok-Get.field-0-is) c.bytes.ensures.same in
-    let m = c.get.ensures.step image told kind view opens (subst (λ (v : Volume). ArePartsOf (parts_of v) view) (sym same) parts) in (
+    let m = c.get.ensures.step c.args.safe image told kind view opens (subst (λ (v : Volume). ArePartsOf (parts_of v) view) (sym same) parts) in (
       m.0,
       m.1,
-      subst (λ (l : Result HostLine Refusal). LineMoves g.D.Disk c.args.disk.now c.get.new.disk kind c.args.volume.now.read_only s c.renew_index.new.self l (taken c.args.out.now) (taken c.get.new.out) m.0 (files c.args.host.now) (files c.get.new.host) c.get.result) own
-          (subst (λ (ro : Bool). LineMoves g.D.Disk c.args.disk.now c.get.new.disk kind ro s c.renew_index.new.self (Ok (HostLine.Get c.in-Ok-Get.path c.bytes.result.now)) (taken c.args.out.now) (taken c.get.new.out) m.0 (files c.args.host.now) (files c.get.new.host) c.get.result)
+      subst (λ (l : Result HostLine Refusal). LineMoves g.D.Disk c.args.disk.now c.get.new.disk (mode_of kind c.args.volume.now.read_only c.args.safe) s c.renew_index.new.self l (taken c.args.out.now) (taken c.get.new.out) m.0 (files c.args.host.now) (files c.get.new.host) c.get.result) own
+          (subst (λ (ro : Bool). LineMoves g.D.Disk c.args.disk.now c.get.new.disk (mode_of kind ro c.args.safe) s c.renew_index.new.self (Ok (HostLine.Get c.in-Ok-Get.path c.bytes.result.now)) (taken c.args.out.now) (taken c.get.new.out) m.0 (files c.args.host.now) (files c.get.new.host) c.get.result)
           (ap (λ (v : Volume). v.read_only) same) m.2),
     )
 
@@ -83,8 +85,37 @@ put-requires-clause-most g c =
     subst (λ (n : List ℕ). length n ≤ 64) (sym c.bytes-in-Ok-Put.ensures.same)
     (put_name c.args.line.now c.in-Ok-Put.name c.in-Ok-Put.path c.in-Ok-Put.load c.in-Ok-Put.exec (line_is c.args.line.now c.in-Ok-Put.field-0 (Told.Put c.in-Ok-Put.name c.in-Ok-Put.path c.in-Ok-Put.load c.in-Ok-Put.exec) c.in-Ok-Put.ensures c.in-Ok-Put.field-0-is)).1
 
-pub returns-in-Ok-Put-clause-step : goal.returns-in-Ok-Put-clause-step
-returns-in-Ok-Put-clause-step g c image told kind view opens parts =
+pub put_safely-requires-clause-some : goal.put_safely-requires-clause-some
+put_safely-requires-clause-some g c =
+    subst (λ (n : List ℕ). 0 < length n) (sym c.bytes-then-safe.ensures.same)
+    (put_name c.args.line.now c.in-Ok-Put.name c.in-Ok-Put.path c.in-Ok-Put.load c.in-Ok-Put.exec (line_is c.args.line.now c.in-Ok-Put.field-0 (Told.Put c.in-Ok-Put.name c.in-Ok-Put.path c.in-Ok-Put.load c.in-Ok-Put.exec) c.in-Ok-Put.ensures c.in-Ok-Put.field-0-is)).0
+
+pub put_safely-requires-clause-most : goal.put_safely-requires-clause-most
+put_safely-requires-clause-most g c =
+    subst (λ (n : List ℕ). length n ≤ 64) (sym c.bytes-then-safe.ensures.same)
+    (put_name c.args.line.now c.in-Ok-Put.name c.in-Ok-Put.path c.in-Ok-Put.load c.in-Ok-Put.exec (line_is c.args.line.now c.in-Ok-Put.field-0 (Told.Put c.in-Ok-Put.name c.in-Ok-Put.path c.in-Ok-Put.load c.in-Ok-Put.exec) c.in-Ok-Put.ensures c.in-Ok-Put.field-0-is)).1
+
+pub put_safely-requires-clause-suits : goal.put_safely-requires-clause-suits
+put_safely-requires-clause-suits g c = c.requires.suits c.if-safe.true
+
+pub returns-then-safe-clause-step : goal.returns-then-safe-clause-step
+returns-then-safe-clause-step g c image told kind view opens parts =
+    let s : State = record { image = image; view = view } in
+    let taken = g.K.Sink.taken in
+    let files = g.H.Host.files in
+    let own =
+    put_line c.args.line.now c.in-Ok-Put.name c.bytes-then-safe.result.now c.in-Ok-Put.path c.in-Ok-Put.load c.in-Ok-Put.exec
+    (line_is c.args.line.now c.in-Ok-Put.field-0 (Told.Put c.in-Ok-Put.name c.in-Ok-Put.path c.in-Ok-Put.load c.in-Ok-Put.exec) c.in-Ok-Put.ensures c.in-Ok-Put.field-0-is) c.bytes-then-safe.ensures.same in
+    let m = c.put_safely.ensures.step image told kind view opens parts in (
+      m.0,
+      m.1,
+      subst (λ (l : Result HostLine Refusal). LineMoves g.D.Disk c.args.disk.now c.put_safely.new.disk (mode_of kind c.args.volume.now.read_only c.args.safe) s c.put_safely.new.volume l (taken c.args.out.now) (taken c.put_safely.new.out) m.0 (files c.args.host.now) (files c.put_safely.new.host) c.put_safely.result) own
+          (subst (λ (b : Bool). LineMoves g.D.Disk c.args.disk.now c.put_safely.new.disk (mode_of kind c.args.volume.now.read_only b) s c.put_safely.new.volume (Ok (HostLine.Put c.bytes-then-safe.result.now c.in-Ok-Put.path c.in-Ok-Put.load c.in-Ok-Put.exec)) (taken c.args.out.now) (taken c.put_safely.new.out) m.0 (files c.args.host.now) (files c.put_safely.new.host) c.put_safely.result)
+          (sym c.if-safe.true) m.2),
+    )
+
+pub returns-else-safe-clause-step : goal.returns-else-safe-clause-step
+returns-else-safe-clause-step g c image told kind view opens parts =
     let s : State = record { image = image; view = view } in
     let taken = g.K.Sink.taken in
     let files = g.H.Host.files in
@@ -94,23 +125,10 @@ returns-in-Ok-Put-clause-step g c image told kind view opens parts =
     let m = c.put.ensures.step image told kind view opens parts in (
       m.0,
       m.1,
-      subst (λ (l : Result HostLine Refusal). LineMoves g.D.Disk c.args.disk.now c.put.new.disk kind c.args.volume.now.read_only s c.put.new.volume l (taken c.args.out.now) (taken c.put.new.out) m.0 (files c.args.host.now) (files c.put.new.host) c.put.result) own m.2,
+      subst (λ (l : Result HostLine Refusal). LineMoves g.D.Disk c.args.disk.now c.put.new.disk (mode_of kind c.args.volume.now.read_only c.args.safe) s c.put.new.volume l (taken c.args.out.now) (taken c.put.new.out) m.0 (files c.args.host.now) (files c.put.new.host) c.put.result) own
+          (subst (λ (b : Bool). LineMoves g.D.Disk c.args.disk.now c.put.new.disk (mode_of kind c.args.volume.now.read_only b) s c.put.new.volume (Ok (HostLine.Put c.bytes-in-Ok-Put.result.now c.in-Ok-Put.path c.in-Ok-Put.load c.in-Ok-Put.exec)) (taken c.args.out.now) (taken c.put.new.out) m.0 (files c.args.host.now) (files c.put.new.host) c.put.result)
+          (sym c.if-safe.false) m.2),
     )
-
-pub returns-in-Ok-Put-clause-asks : goal.returns-in-Ok-Put-clause-asks
-returns-in-Ok-Put-clause-asks g c =
-    let own =
-    put_line c.args.line.now c.in-Ok-Put.name c.bytes-in-Ok-Put.result.now c.in-Ok-Put.path c.in-Ok-Put.load c.in-Ok-Put.exec
-    (line_is c.args.line.now c.in-Ok-Put.field-0 (Told.Put c.in-Ok-Put.name c.in-Ok-Put.path c.in-Ok-Put.load c.in-Ok-Put.exec) c.in-Ok-Put.ensures c.in-Ok-Put.field-0-is) c.bytes-in-Ok-Put.ensures.same in
-    let m = c.put.ensures.asks in
-    (m.0, m.1, subst (λ (l : Result HostLine Refusal). LineAsks l m.0) own m.2)
-
-pub returns-in-Ok-Put-clause-keeps : goal.returns-in-Ok-Put-clause-keeps
-returns-in-Ok-Put-clause-keeps g c =
-    let own =
-    put_line c.args.line.now c.in-Ok-Put.name c.bytes-in-Ok-Put.result.now c.in-Ok-Put.path c.in-Ok-Put.load c.in-Ok-Put.exec
-    (line_is c.args.line.now c.in-Ok-Put.field-0 (Told.Put c.in-Ok-Put.name c.in-Ok-Put.path c.in-Ok-Put.load c.in-Ok-Put.exec) c.in-Ok-Put.ensures c.in-Ok-Put.field-0-is) c.bytes-in-Ok-Put.ensures.same in
-    subst (λ (l : Result HostLine Refusal). KeepsServing g.D.Disk c.args.disk.now c.put.new.disk c.args.volume.now c.put.new.volume l c.put.result) own c.put.ensures.keeps
 
 -- ---- a command
 
@@ -127,13 +145,13 @@ returns-in-Ok-Other-clause-step g c image told kind view opens parts =
     let is = other_command line asked (line_is c.args.line.now c.in-Ok-Other.field-0 (Told.Other c.in-Ok-Other.asked) c.in-Ok-Other.ensures c.in-Ok-Other.field-0-is) in
     let ro : Bool = c.args.volume.now.read_only in
     let now = c.answer_command.new.volume in
-    let moves = command_moves g.D.Disk c.args.disk.now c.answer_command.new.disk kind ro s line asked is (taken c.args.out.now) (taken c.answer_command.new.out) files now c.answer_command.result
+    let moves = command_moves g.D.Disk c.args.disk.now c.answer_command.new.disk (mode_of kind ro c.args.safe) s line asked is (taken c.args.out.now) (taken c.answer_command.new.out) files now c.answer_command.result
     (c.answer_command.ensures.step line is image told kind view opens parts) in (
       [],
       sym (append-nil (g.H.Host.asked c.args.host.now)),
-      subst (λ (l : Result HostLine Refusal). LineMoves g.D.Disk c.args.disk.now c.answer_command.new.disk kind ro s now l (taken c.args.out.now) (taken c.answer_command.new.out) [] files files c.moved.result)
+      subst (λ (l : Result HostLine Refusal). LineMoves g.D.Disk c.args.disk.now c.answer_command.new.disk (mode_of kind ro c.args.safe) s now l (taken c.args.out.now) (taken c.answer_command.new.out) [] files files c.moved.result)
           (sym (line_is c.args.line.now c.in-Ok-Other.field-0 (Told.Other c.in-Ok-Other.asked) c.in-Ok-Other.ensures c.in-Ok-Other.field-0-is))
-          (subst (λ (r : Result Bool MoveFault). LineMoves g.D.Disk c.args.disk.now c.answer_command.new.disk kind ro s now (Ok (HostLine.Other asked)) (taken c.args.out.now) (taken c.answer_command.new.out) [] files files r)
+          (subst (λ (r : Result Bool MoveFault). LineMoves g.D.Disk c.args.disk.now c.answer_command.new.disk (mode_of kind ro c.args.safe) s now (Ok (HostLine.Other asked)) (taken c.args.out.now) (taken c.answer_command.new.out) [] files files r)
           (sym c.moved.ensures) moves),
     )
 
@@ -173,8 +191,8 @@ returns-in-Err-BadCommand-clause-step g c image told kind view opens parts =
     let v = c.args.volume.now in (
       [],
       sym (append-nil (g.H.Host.asked c.args.host.now)),
-      subst (λ (r : Result Bool MoveFault). LineMoves g.D.Disk c.args.disk.now c.args.disk.now kind v.read_only s v line (taken c.args.out.now) (taken c.tell.new.out) [] files files r) (sym c.moved-in-Err-BadCommand.ensures)
-          (refused_moves (laws g.met.D.Disk) kind v s line c.args.disk.now c.args.disk.now (taken c.args.out.now) (taken c.tell.new.out) c.requires.settled told opens (reads_start (laws g.met.D.Disk) c.args.disk.now)
+      subst (λ (r : Result Bool MoveFault). LineMoves g.D.Disk c.args.disk.now c.args.disk.now (mode_of kind v.read_only c.args.safe) s v line (taken c.args.out.now) (taken c.tell.new.out) [] files files r) (sym c.moved-in-Err-BadCommand.ensures)
+          (refused_moves (laws g.met.D.Disk) kind c.args.safe v s line c.args.disk.now c.args.disk.now (taken c.args.out.now) (taken c.tell.new.out) c.requires.settled told opens (reads_start (laws g.met.D.Disk) c.args.disk.now)
           refusals.BadCommand files wrong parts c.tell.result c.tell.ensures.only.no_disk (c.tell.ensures.answered (refusal_line refusals.BadCommand) c.refusal.ensures)),
     )
 
@@ -204,8 +222,8 @@ returns-in-Err-BadName-clause-step g c image told kind view opens parts =
     let v = c.args.volume.now in (
       [],
       sym (append-nil (g.H.Host.asked c.args.host.now)),
-      subst (λ (r : Result Bool MoveFault). LineMoves g.D.Disk c.args.disk.now c.args.disk.now kind v.read_only s v line (taken c.args.out.now) (taken c.tell-in-Err-BadName.new.out) [] files files r) (sym c.moved-in-Err-BadName.ensures)
-          (refused_moves (laws g.met.D.Disk) kind v s line c.args.disk.now c.args.disk.now (taken c.args.out.now) (taken c.tell-in-Err-BadName.new.out) c.requires.settled told opens (reads_start (laws g.met.D.Disk) c.args.disk.now)
+      subst (λ (r : Result Bool MoveFault). LineMoves g.D.Disk c.args.disk.now c.args.disk.now (mode_of kind v.read_only c.args.safe) s v line (taken c.args.out.now) (taken c.tell-in-Err-BadName.new.out) [] files files r) (sym c.moved-in-Err-BadName.ensures)
+          (refused_moves (laws g.met.D.Disk) kind c.args.safe v s line c.args.disk.now c.args.disk.now (taken c.args.out.now) (taken c.tell-in-Err-BadName.new.out) c.requires.settled told opens (reads_start (laws g.met.D.Disk) c.args.disk.now)
           refusals.BadName files wrong parts c.tell-in-Err-BadName.result c.tell-in-Err-BadName.ensures.only.no_disk (c.tell-in-Err-BadName.ensures.answered (refusal_line refusals.BadName) c.refusal-in-Err-BadName.ensures)),
     )
 
@@ -231,7 +249,7 @@ returns-in-Err-NoMemory-clause-step g c image told kind view opens parts =
     let taken = g.K.Sink.taken c.args.out.now in (
       [],
       sym (append-nil (g.H.Host.asked c.args.host.now)),
-      unbegun_moves (laws g.met.D.Disk) kind c.args.volume.now s (host_line_of c.args.line.now) c.args.disk.now c.args.disk.now taken taken c.requires.settled told opens
+      unbegun_moves (laws g.met.D.Disk) kind c.args.safe c.args.volume.now s (host_line_of c.args.line.now) c.args.disk.now c.args.disk.now taken taken c.requires.settled told opens
           (reads_start (laws g.met.D.Disk) c.args.disk.now) MoveFault.NoMemory (g.H.Host.files c.args.host.now) refl,
     )
 
@@ -248,3 +266,20 @@ pub returns-in-Err-NoMemory-clause-keeps : goal.returns-in-Err-NoMemory-clause-k
 returns-in-Err-NoMemory-clause-keeps g c =
     reading_serves (laws g.met.D.Disk) c.args.volume.now (host_line_of c.args.line.now) c.args.disk.now c.args.disk.now (Err MoveFault.NoMemory) c.requires.settled c.requires.fit c.requires.stands
     (reads_start (laws g.met.D.Disk) c.args.disk.now)
+
+-- ---- what suits the safe mode
+
+pub returns-in-Ok-Get-clause-suits : goal.returns-in-Ok-Get-clause-suits
+returns-in-Ok-Get-clause-suits g c =
+    subst (λ (v : Volume). IfOk c.get.result (λ refused. SuitsMode c.args.safe v)) (sym c.renew_index.ensures) (suits_same c.get.result c.args.safe c.args.volume.now c.requires.suits)
+
+pub returns-in-Ok-Other-clause-suits : goal.returns-in-Ok-Other-clause-suits
+returns-in-Ok-Other-clause-suits g c =
+    subst (λ (r : Result Bool MoveFault). IfOk r (λ refused. SuitsMode c.args.safe c.answer_command.new.volume)) (sym c.moved.ensures)
+    (suits_moved c.answer_command.result (SuitsMode c.args.safe c.answer_command.new.volume) c.answer_command.ensures.suits)
+
+pub returns-in-Err-BadCommand-clause-suits : goal.returns-in-Err-BadCommand-clause-suits
+returns-in-Err-BadCommand-clause-suits g c = suits_same c.moved-in-Err-BadCommand.result c.args.safe c.args.volume.now c.requires.suits
+
+pub returns-in-Err-BadName-clause-suits : goal.returns-in-Err-BadName-clause-suits
+returns-in-Err-BadName-clause-suits g c = suits_same c.moved-in-Err-BadName.result c.args.safe c.args.volume.now c.requires.suits

@@ -69,7 +69,7 @@ returns-in-Ok-true-clause-promise g c gives given image told =
         text,
         promise.2.1,
         subst (λ (b : Bool). MovesByGiving g.D.Disk old new r files left promise.0 image c.args.script.now text b c.answer_image_with.result) yes
-            (moves_from (laws g.met.D.Disk) old mid new attach.goes keeps.goes (attach.tells here) (attach.fresh here).nothing_pending files left promise.0 c.accepted.ensures r.read_only (is_some r.new) (image_for r.new image) c.args.script.now text
+            (moves_from (laws g.met.D.Disk) old mid new attach.goes keeps.goes (attach.tells here) (attach.fresh here).nothing_pending files left promise.0 c.accepted.ensures r.read_only r.safe (is_some r.new) (image_for r.new image) c.args.script.now text
             c.answer_image_with.result bytes (λ there. attach.unwritten (not_made r.new there)) (λ there. fresh_opens c.opens.ensures r.new image there) keeps.late promise.2.2),
       ),
     )

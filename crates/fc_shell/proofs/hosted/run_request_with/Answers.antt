@@ -9,7 +9,7 @@ use Rattle.fc_shell.specs.HostPromise.{HostRunSpares, MovesByDemo}
 use Rattle.fc_shell.specs.Moving.{HostSpares}
 use Rattle.fc_shell.specs.Promise.{EndsByGiving}
 use Rattle.fc_shell.specs.Reads.{Spares}
-use Rattle.fc_shell.specs.Replies.{blank_size, is_unbuilt, script_limit, told_script}
+use Rattle.fc_shell.specs.Replies.{blank_size, script_limit, told_script}
 use Rattle.fc_shell.proofs.AskedLemmas.{never_long, told_demo_script, told_plain}
 use Rattle.fc_shell.proofs.DemoLemmas.{demo_short}
 use Rattle.fc_shell.proofs.HostKeptLemmas.{alone_no_host, host_idle_told, host_memory_words, host_read, host_script_ends, host_source_fault, host_too_long, told_demo_spares, told_host_spares}
@@ -17,18 +17,11 @@ use Rattle.fc_shell.proofs.KeptLemmas.{keeps_by}
 use Rattle.fc_shell.proofs.WritingLemmas.{wrote_nothing}
 use Rattle.fc_shell.proofs.hosted.run_request_with.Goals as goal
 
--- ---- what isn't built
-
-pub returns-then-asked-clause-host : goal.returns-then-asked-clause-host
-returns-then-asked-clause-host g c =
-    host_idle_told g.H.Host (told_script (request_in c.args.asked.now).demo (g.S.Source.left c.args.script.now)) c.args.host.now End.NotBuilt (λ e. cc)
-
 -- ---- a demo
 
 pub returns-in-Some-clause-promise : goal.returns-in-Some-clause-promise
 returns-in-Some-clause-promise g c gives given text left image told =
     let r = request_in c.args.asked.now in
-    let built : is_unbuilt r ≡ false = search rules in
     let files = g.H.Host.files c.args.host.now in
     let same : demo_script c.in-Some.n ≡ text = told_demo_script r.demo c.in-Some.n (g.S.Source.left c.args.script.now) c.in-Some.is text left in
     let short : length text ≤ script_limit = subst (λ (t : List ℕ). length t ≤ script_limit) same (demo_short c.in-Some.n (c.requires.few c.in-Some.n c.in-Some.is)) in
@@ -39,7 +32,7 @@ returns-in-Some-clause-promise g c gives given text left image told =
       (
         promise.0,
         promise.1,
-        host_script_ends g.D.Disk c.args.disk.now c.run_demo.new.disk gives files files [] image text promise.0 r c.run_demo.result built short
+        host_script_ends g.D.Disk c.args.disk.now c.run_demo.new.disk gives files files [] image text promise.0 r c.run_demo.result short
             (subst (λ (demo : Option ℕ). MovesByDemo g.D.Disk c.args.disk.now c.run_demo.new.disk r files files [] image text promise.0 (gives r.image (blank_size r)) demo c.run_demo.result) (sym c.in-Some.is) (ends, (refl, refl))),
       ),
     )
@@ -66,11 +59,10 @@ returns-in-Some-clause-host g c =
 pub returns-in-Err-Source-clause-promise : goal.returns-in-Err-Source-clause-promise
 returns-in-Err-Source-clause-promise g c gives given text left image told =
     let r = request_in c.args.asked.now in
-    let plain : r.demo ≡ None = search rules in
-    let built : is_unbuilt r ≡ false = search rules in (
+    let plain : r.demo ≡ None = search rules in (
       [],
       sym (append-nil (g.H.Host.asked c.args.host.now)),
-      ([], wrote_nothing (g.K.Sink.taken c.args.out.now), host_source_fault (laws g.met.D.Disk) c.args.disk.now gives (g.H.Host.files c.args.host.now) image text r built plain),
+      ([], wrote_nothing (g.K.Sink.taken c.args.out.now), host_source_fault (laws g.met.D.Disk) c.args.disk.now gives (g.H.Host.files c.args.host.now) image text r plain),
     )
 
 pub returns-in-Err-Source-clause-host : goal.returns-in-Err-Source-clause-host
@@ -90,7 +82,7 @@ returns-in-Err-NoMemory-clause-promise g c gives given text left image told =
     let r = request_in c.args.asked.now in (
       [],
       sym (append-nil (g.H.Host.asked c.args.host.now)),
-      ([], wrote_nothing (g.K.Sink.taken c.args.out.now), host_memory_words (laws g.met.D.Disk) c.accepted.ensures c.args.disk.now gives (g.H.Host.files c.args.host.now) image text told r (is_unbuilt r)),
+      ([], wrote_nothing (g.K.Sink.taken c.args.out.now), host_memory_words (laws g.met.D.Disk) c.accepted.ensures c.args.disk.now gives (g.H.Host.files c.args.host.now) image text told r),
     )
 
 pub returns-in-Ok-None-clause-promise : goal.returns-in-Ok-None-clause-promise
@@ -98,11 +90,10 @@ returns-in-Ok-None-clause-promise g c gives given text left image told =
     let r = request_in c.args.asked.now in
     let plain : r.demo ≡ None = search rules in
     let here = sym (told_plain r.demo (g.S.Source.left c.args.script.now) plain) ∙ left in
-    let is = rw c.in-Ok-None.field-0-is at c.in-Ok-None.ensures.script in
-    let built : is_unbuilt r ≡ false = search rules in (
+    let is = rw c.in-Ok-None.field-0-is at c.in-Ok-None.ensures.script in (
       [],
       sym (append-nil (g.H.Host.asked c.args.host.now)),
-      ([], wrote_nothing (g.K.Sink.taken c.args.out.now), host_too_long (laws g.met.D.Disk) c.args.disk.now gives (g.H.Host.files c.args.host.now) image text r built (is.0 text here)),
+      ([], wrote_nothing (g.K.Sink.taken c.args.out.now), host_too_long (laws g.met.D.Disk) c.args.disk.now gives (g.H.Host.files c.args.host.now) image text r (is.0 text here)),
     )
 
 pub returns-in-Ok-Some-clause-promise : goal.returns-in-Ok-Some-clause-promise
@@ -111,7 +102,6 @@ returns-in-Ok-Some-clause-promise g c gives given text left image told =
     let plain : r.demo ≡ None = search rules in
     let here = sym (told_plain r.demo (g.S.Source.left c.args.script.now) plain) ∙ left in
     let is = rw c.in-Ok-Some.field-0-is at c.in-Ok-Some.ensures.script in
-    let built : is_unbuilt r ≡ false = search rules in
     let same : c.deref.result.now ≡ text = c.deref.ensures.value ∙ is.0 text here in
     let short : length text ≤ script_limit = subst (λ (t : List ℕ). length t ≤ script_limit) (is.0 text here) is.2 in
     let files = g.H.Host.files c.args.host.now in
@@ -126,7 +116,7 @@ returns-in-Ok-Some-clause-promise g c gives given text left image told =
       (
         wrote,
         promise.2.1,
-        host_script_ends g.D.Disk old new gives files now promise.0 image text wrote r c.answer_script_with.result built short
+        host_script_ends g.D.Disk old new gives files now promise.0 image text wrote r c.answer_script_with.result short
             (subst (λ (t : List ℕ). MovesByDemo g.D.Disk old new r files now promise.0 image t wrote (gives r.image (blank_size r)) r.demo c.answer_script_with.result) same moves),
       ),
     )

@@ -13,6 +13,7 @@ use Rattle.fc_shell.specs.declared.moving.MoveFault.{MoveFault}
 use Rattle.fc_shell.specs.declared.tally.Tally.{Tally}
 use Rattle.fc_shell.specs.Left.{commands_left}
 use Rattle.fc_shell.specs.Line.{IsReady}
+use Rattle.fc_shell.specs.Modes.{SuitsMode, mode_of}
 use Rattle.fc_shell.specs.Moving.{HasMoved, HostSpares, LineMoves, LinesMove}
 use Rattle.fc_shell.specs.Replies.{script_limit}
 use Rattle.fc_shell.proofs.HostServingLemmas.{all_ask_lines, all_ask_more, all_asked_more, asked_then, caused_all, caused_on, host_all, host_more, host_part, host_spares_first, host_spares_rest, host_start, one_move}
@@ -41,6 +42,7 @@ pub loop-line-init : goal.loop-line-init
 loop-line-init g c = record {
   short = subst (AreUpTo script_limit) (sym c.new-lines.ensures) (commands_up_to script_limit c.args.script.now c.requires.short);
   goes = goes_same (laws g.met.D.Disk) c.args.disk.now;
+  suits = c.requires.suits;
   ready = record { fit = c.requires.fit; stands = c.requires.stands; settled = c.requires.settled; read_only = refl };
   reads = λ reads. (subst (λ (lines : List (List ℕ)). HostSpares c.args.volume.now.read_only lines) (sym c.new-lines.ensures) reads, reads_start (laws g.met.D.Disk) c.args.disk.now);
   out_faults = omega arith;
@@ -51,7 +53,7 @@ loop-line-init g c = record {
   served = λ image told kind view opens parts. (
     [],
     sym (append-nil (g.H.Host.asked c.args.host.now)),
-    host_start (laws g.met.D.Disk) kind c.args.volume.now.read_only (record { image = image; view = view }) (g.H.Host.files c.args.host.now) c.args.script.now c.args.disk.now told c.requires.settled opens
+    host_start (laws g.met.D.Disk) (mode_of kind c.args.volume.now.read_only c.args.safe) (record { image = image; view = view }) (g.H.Host.files c.args.host.now) c.args.script.now c.args.disk.now told c.requires.settled opens
         (commands_left c.new-lines.result) c.args.volume.now c.new-tally.result (g.K.Sink.taken c.args.out.now) c.new-lines.ensures parts c.new-tally.ensures.replies c.new-tally.ensures.refused,
   );
 }
@@ -67,6 +69,9 @@ answer_host_line-requires-clause-stands g c = c.loop-line.invariant.ready.stands
 
 pub answer_host_line-requires-clause-settled : goal.answer_host_line-requires-clause-settled
 answer_host_line-requires-clause-settled g c = c.loop-line.invariant.ready.settled
+
+pub answer_host_line-requires-clause-suits : goal.answer_host_line-requires-clause-suits
+answer_host_line-requires-clause-suits g c = c.loop-line.invariant.suits
 
 pub answer_host_line-requires-clause-short : goal.answer_host_line-requires-clause-short
 answer_host_line-requires-clause-short g c = (subst (AreUpTo script_limit) c.in-Some.ensures c.loop-line.invariant.short).0
@@ -89,6 +94,7 @@ loop-line-preserved g c =
     record {
       short = (subst (AreUpTo script_limit) cut so_far.short).1;
       goes = goes_then (laws g.met.D.Disk) so_far.goes keeps.goes;
+      suits = subst (λ r. IfOk r (λ refused. SuitsMode c.args.safe c.answer_host_line.new.volume)) is c.answer_host_line.ensures.suits;
       ready = record { fit = ready.fit; stands = ready.stands; settled = ready.settled; read_only = ready.read_only ∙ so_far.ready.read_only };
       reads = λ reads.
           let was = so_far.reads reads in
@@ -111,18 +117,18 @@ loop-line-preserved g c =
           let s : State = record { image = image; view = view } in
           let v = c.args.volume.now in
           let was = so_far.served image told kind view opens parts in
-          let has : HasMoved g.D.Disk c.args.disk.now c.loop-line.disk kind v.read_only s c.args.script.now (line ∷ left) c.loop-line.volume c.loop-line.tally (taken c.args.out.now) (taken c.loop-line.out) was.0 (files c.args.host.now) (files c.loop-line.host) =
-          subst (λ (lines : List (List ℕ)). HasMoved g.D.Disk c.args.disk.now c.loop-line.disk kind v.read_only s c.args.script.now lines c.loop-line.volume c.loop-line.tally (taken c.args.out.now) (taken c.loop-line.out) was.0 (files c.args.host.now) (files c.loop-line.host)) cut was.2 in
+          let has : HasMoved g.D.Disk c.args.disk.now c.loop-line.disk (mode_of kind v.read_only c.args.safe) s c.args.script.now (line ∷ left) c.loop-line.volume c.loop-line.tally (taken c.args.out.now) (taken c.loop-line.out) was.0 (files c.args.host.now) (files c.loop-line.host) =
+          subst (λ (lines : List (List ℕ)). HasMoved g.D.Disk c.args.disk.now c.loop-line.disk (mode_of kind v.read_only c.args.safe) s c.args.script.now lines c.loop-line.volume c.loop-line.tally (taken c.args.out.now) (taken c.loop-line.out) was.0 (files c.args.host.now) (files c.loop-line.host)) cut was.2 in
           let at = has.lines.state in
           let step = c.answer_host_line.ensures.step at.image has.lines.holds kind at.view has.lines.opens has.parts in
-          let ends = subst (λ (ro : Bool). LineMoves g.D.Disk c.loop-line.disk c.answer_host_line.new.disk kind ro at c.answer_host_line.new.volume (host_line_of line) (taken c.loop-line.out) (taken c.answer_host_line.new.out) step.0 (files c.loop-line.host) (files c.answer_host_line.new.host) c.answer_host_line.result)
+          let ends = subst (λ (ro : Bool). LineMoves g.D.Disk c.loop-line.disk c.answer_host_line.new.disk (mode_of kind ro c.args.safe) at c.answer_host_line.new.volume (host_line_of line) (taken c.loop-line.out) (taken c.answer_host_line.new.out) step.0 (files c.loop-line.host) (files c.answer_host_line.new.host) c.answer_host_line.result)
           so_far.ready.read_only step.2 in (
             was.0 ++ step.0,
             asked_then (asked c.args.host.now) (asked c.loop-line.host) (asked c.answer_host_line.new.host) was.0 step.0 was.1 step.1,
-            host_more (laws g.met.D.Disk) kind v.read_only s (files c.args.host.now) c.args.script.now c.args.disk.now told c.requires.settled opens line left c.loop-line.volume c.answer_host_line.new.volume
+            host_more (laws g.met.D.Disk) (mode_of kind v.read_only c.args.safe) s (files c.args.host.now) c.args.script.now c.args.disk.now told c.requires.settled opens line left c.loop-line.volume c.answer_host_line.new.volume
                 c.in_ok-refused.refused c.loop-line.tally c.count.new.self (taken c.args.out.now) (taken c.loop-line.out) (taken c.answer_host_line.new.out) c.loop-line.disk c.answer_host_line.new.disk
                 was.0 step.0 (files c.loop-line.host) (files c.answer_host_line.new.host) has so_far.goes keeps.goes
-                (subst (λ (r : Result Bool MoveFault). LineMoves g.D.Disk c.loop-line.disk c.answer_host_line.new.disk kind v.read_only at c.answer_host_line.new.volume (host_line_of line) (taken c.loop-line.out) (taken c.answer_host_line.new.out) step.0 (files c.loop-line.host) (files c.answer_host_line.new.host) r) is ends)
+                (subst (λ (r : Result Bool MoveFault). LineMoves g.D.Disk c.loop-line.disk c.answer_host_line.new.disk (mode_of kind v.read_only c.args.safe) at c.answer_host_line.new.volume (host_line_of line) (taken c.loop-line.out) (taken c.answer_host_line.new.out) step.0 (files c.loop-line.host) (files c.answer_host_line.new.host) r) is ends)
                 c.count.ensures.replies c.count.ensures.refused,
           );
     }
@@ -141,21 +147,21 @@ returns-in_err-refused-clause-served g c image told kind view opens parts =
     let fault : MoveFault = c.in_err-refused.field-0.0 in
     let was : c.answer_host_line.result ≡ Err fault = c.in_err-refused.was in
     let before = so_far.served image told kind view opens parts in
-    let has : HasMoved g.D.Disk c.args.disk.now c.loop-line.disk kind v.read_only s c.args.script.now (line ∷ left) c.loop-line.volume c.loop-line.tally (taken c.args.out.now) (taken c.loop-line.out) before.0 (files c.args.host.now) (files c.loop-line.host) =
-    subst (λ (lines : List (List ℕ)). HasMoved g.D.Disk c.args.disk.now c.loop-line.disk kind v.read_only s c.args.script.now lines c.loop-line.volume c.loop-line.tally (taken c.args.out.now) (taken c.loop-line.out) before.0 (files c.args.host.now) (files c.loop-line.host)) c.in-Some.ensures before.2 in
+    let has : HasMoved g.D.Disk c.args.disk.now c.loop-line.disk (mode_of kind v.read_only c.args.safe) s c.args.script.now (line ∷ left) c.loop-line.volume c.loop-line.tally (taken c.args.out.now) (taken c.loop-line.out) before.0 (files c.args.host.now) (files c.loop-line.host) =
+    subst (λ (lines : List (List ℕ)). HasMoved g.D.Disk c.args.disk.now c.loop-line.disk (mode_of kind v.read_only c.args.safe) s c.args.script.now lines c.loop-line.volume c.loop-line.tally (taken c.args.out.now) (taken c.loop-line.out) before.0 (files c.args.host.now) (files c.loop-line.host)) c.in-Some.ensures before.2 in
     let at = has.lines.state in
     let step = c.answer_host_line.ensures.step at.image has.lines.holds kind at.view has.lines.opens has.parts in
-    let ends = subst (λ (ro : Bool). LineMoves g.D.Disk c.loop-line.disk c.answer_host_line.new.disk kind ro at c.answer_host_line.new.volume (host_line_of line) (taken c.loop-line.out) (taken c.answer_host_line.new.out) step.0 (files c.loop-line.host) (files c.answer_host_line.new.host) c.answer_host_line.result)
+    let ends = subst (λ (ro : Bool). LineMoves g.D.Disk c.loop-line.disk c.answer_host_line.new.disk (mode_of kind ro c.args.safe) at c.answer_host_line.new.volume (host_line_of line) (taken c.loop-line.out) (taken c.answer_host_line.new.out) step.0 (files c.loop-line.host) (files c.answer_host_line.new.host) c.answer_host_line.result)
     so_far.ready.read_only step.2 in (
       before.0 ++ step.0,
       asked_then (asked c.args.host.now) (asked c.loop-line.host) (asked c.answer_host_line.new.host) before.0 step.0 before.1 step.1,
-      subst (λ (r : Result Tally MoveFault). LinesMove g.D.Disk c.args.disk.now c.answer_host_line.new.disk kind v.read_only s c.args.script.now (taken c.args.out.now) (taken c.answer_host_line.new.out) (before.0 ++ step.0) (files c.args.host.now) (files c.answer_host_line.new.host) r)
+      subst (λ (r : Result Tally MoveFault). LinesMove g.D.Disk c.args.disk.now c.answer_host_line.new.disk (mode_of kind v.read_only c.args.safe) s c.args.script.now (taken c.args.out.now) (taken c.answer_host_line.new.out) (before.0 ++ step.0) (files c.args.host.now) (files c.answer_host_line.new.host) r)
           (sym (same_result c.from_residual.result fault (err_from_is_err_and c.from_residual.result c.from_residual.ensures.1)))
-          (host_part (laws g.met.D.Disk) kind v.read_only s (files c.args.host.now) c.args.script.now c.args.disk.now told c.requires.settled opens line left c.loop-line.volume c.answer_host_line.new.volume
+          (host_part (laws g.met.D.Disk) (mode_of kind v.read_only c.args.safe) s (files c.args.host.now) c.args.script.now c.args.disk.now told c.requires.settled opens line left c.loop-line.volume c.answer_host_line.new.volume
           c.loop-line.tally (taken c.args.out.now) (taken c.loop-line.out) (taken c.answer_host_line.new.out) c.loop-line.disk c.answer_host_line.new.disk fault
           before.0 step.0 (files c.loop-line.host) (files c.answer_host_line.new.host) has so_far.goes keeps.goes
           (λ never. keeps.settled (λ is. never (one_move c.answer_host_line.result fault MoveFault.Disk was is)))
-          (subst (λ (r : Result Bool MoveFault). LineMoves g.D.Disk c.loop-line.disk c.answer_host_line.new.disk kind v.read_only at c.answer_host_line.new.volume (host_line_of line) (taken c.loop-line.out) (taken c.answer_host_line.new.out) step.0 (files c.loop-line.host) (files c.answer_host_line.new.host) r) was ends)),
+          (subst (λ (r : Result Bool MoveFault). LineMoves g.D.Disk c.loop-line.disk c.answer_host_line.new.disk (mode_of kind v.read_only c.args.safe) at c.answer_host_line.new.volume (host_line_of line) (taken c.loop-line.out) (taken c.answer_host_line.new.out) step.0 (files c.loop-line.host) (files c.answer_host_line.new.host) r) was ends)),
     )
 
 pub returns-in_err-refused-clause-asks : goal.returns-in_err-refused-clause-asks
@@ -213,8 +219,8 @@ returns-clause-served g c image told kind view opens parts =
     let was = c.loop-line.invariant.served image told kind view opens parts in (
       was.0,
       was.1,
-      host_all (laws g.met.D.Disk) kind v.read_only s (files c.args.host.now) c.args.script.now c.args.disk.now told c.requires.settled opens c.loop-line.volume c.loop-line.tally (taken c.args.out.now) (taken c.loop-line.out) c.loop-line.disk was.0 (files c.loop-line.host)
-          (subst (λ (lines : List (List ℕ)). HasMoved g.D.Disk c.args.disk.now c.loop-line.disk kind v.read_only s c.args.script.now lines c.loop-line.volume c.loop-line.tally (taken c.args.out.now) (taken c.loop-line.out) was.0 (files c.args.host.now) (files c.loop-line.host)) c.in_default.ensures was.2)
+      host_all (laws g.met.D.Disk) (mode_of kind v.read_only c.args.safe) s (files c.args.host.now) c.args.script.now c.args.disk.now told c.requires.settled opens c.loop-line.volume c.loop-line.tally (taken c.args.out.now) (taken c.loop-line.out) c.loop-line.disk was.0 (files c.loop-line.host)
+          (subst (λ (lines : List (List ℕ)). HasMoved g.D.Disk c.args.disk.now c.loop-line.disk (mode_of kind v.read_only c.args.safe) s c.args.script.now lines c.loop-line.volume c.loop-line.tally (taken c.args.out.now) (taken c.loop-line.out) was.0 (files c.args.host.now) (files c.loop-line.host)) c.in_default.ensures was.2)
           c.loop-line.invariant.goes c.loop-line.invariant.ready.settled,
     )
 

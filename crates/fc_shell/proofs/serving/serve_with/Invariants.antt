@@ -8,6 +8,7 @@ use Rattle.fc_runs.specs.Run.{commands_in}
 use Rattle.fc_shell.specs.Answered.{ForState}
 use Rattle.fc_shell.specs.Left.{commands_left}
 use Rattle.fc_shell.specs.Line.{IsReady}
+use Rattle.fc_shell.specs.Modes.{SuitsMode, mode_of}
 use Rattle.fc_shell.specs.Moving.{AsksMore, HasMoved, HostSpares}
 use Rattle.fc_shell.specs.Replies.{script_limit}
 use Rattle.fc_shell.proofs.HostServingLemmas.{AllAsk}
@@ -18,6 +19,7 @@ abbrev pub invariant-loop-line : goal.invariant-loop-line
 invariant-loop-line g l = record {
   short : AreUpTo script_limit (commands_left l.lines);
   goes : GoesOn g.D.Disk l.fn.disk l.disk;
+  suits : SuitsMode l.safe l.volume;
   ready : IsReady g.D.Disk l.disk l.fn.volume l.volume;
   reads : HostSpares l.fn.volume.read_only (commands_in l.script) → HostSpares l.fn.volume.read_only (commands_left l.lines) × OnlyReads g.D.Disk l.fn.disk l.disk;
   out_faults : g.K.Sink.faults l.fn.out ≤ g.K.Sink.faults l.out;
@@ -27,7 +29,7 @@ invariant-loop-line g l = record {
   asks : (done : List (List ℕ)) × (asks : List (List Asked)) × (commands_in l.script ≡ done ++ commands_left l.lines)
       × (g.H.Host.asked l.host ≡ g.H.Host.asked l.fn.host ++ all_asked asks) × AllAsk host_line_of done asks;
   served : ForState (g.D.Disk.bytes l.fn.disk) l.fn.volume (λ kind s. AsksMore g.H.Host l.fn.host l.host (λ asked.
-      HasMoved g.D.Disk l.fn.disk l.disk kind l.fn.volume.read_only s l.script (commands_left l.lines) l.volume l.tally (g.K.Sink.taken l.fn.out) (g.K.Sink.taken l.out) asked (g.H.Host.files l.fn.host) (g.H.Host.files l.host)));
+      HasMoved g.D.Disk l.fn.disk l.disk (mode_of kind l.fn.volume.read_only l.safe) s l.script (commands_left l.lines) l.volume l.tally (g.K.Sink.taken l.fn.out) (g.K.Sink.taken l.out) asked (g.H.Host.files l.fn.host) (g.H.Host.files l.host)));
 }
 
 abbrev pub decreases-loop-line : goal.decreases-loop-line

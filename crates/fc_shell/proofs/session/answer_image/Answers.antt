@@ -6,10 +6,10 @@ use Rattle.fc_image.specs.Opening.{open_image}
 use Rattle.fc_volume.specs.Answers.{IsFaultOf}
 use Rattle.fc_shell.specs.declared.ending.End.{End}
 use Rattle.fc_shell.specs.Reads.{Spares}
-use Rattle.fc_shell.specs.Modes.{plain_mode}
+use Rattle.fc_shell.specs.Modes.{is_unsuited, mode_of}
 use Rattle.fc_runs.specs.Run.{commands_in}
-use Rattle.fc_shell.specs.Promise.{EndsByOpening, EndsOver}
-use Rattle.fc_shell.proofs.PromiseLemmas.{begun_fault, begun_memory, ends_from, no_fresh, rose_earlier, session_shapes, shapes_unwritten, tell_ends, told_alone, told_late, told_no_disk, unwritten_after}
+use Rattle.fc_shell.specs.Promise.{EndsByOpening, EndsBySuiting}
+use Rattle.fc_shell.proofs.PromiseLemmas.{begun_fault, begun_memory, ends_from, no_fresh, rose_earlier, session_shapes, shapes_unwritten, tell_ends, told_alone, told_late, told_no_disk, told_no_unsafe, unwritten_after}
 use Rattle.fc_shell.proofs.WritingLemmas.{wrote_nothing}
 use Rattle.fc_shell.proofs.session.answer_image.Goals as goal
 
@@ -27,12 +27,12 @@ returns-in-Ok-clause-promise g c image told =
     let view = there.0 in
     let s : State = record { image = image; view = view } in
     let ends = c.answer_lines.ensures.promise image (shapes.bytes_stay ∙ told) view.kind view (c.accepted.ensures image view there.1) there.2 in
-    let over = subst (λ (b : Bool). EndsOver g.D.Disk mid new (plain_mode view.kind b) false c.args.demo s script ends.0 c.answer_lines.result) c.in-Ok.ensures.ready.1 ends.2 in (
+    let over = subst (λ (b : Bool). EndsBySuiting g.D.Disk mid new (mode_of view.kind b c.args.safe) false c.args.demo s script ends.0 (is_unsuited c.args.safe view) c.answer_lines.result) c.in-Ok.ensures.ready.1 ends.2 in (
       ends.0,
       ends.1,
       ends_from law old mid new (weaker law (λ image. Unit {0}) shapes.stops (λ image left. tt)) keeps.goes shapes.tells_stays (shapes.pending_stays ∙ c.requires.fresh.nothing_pending)
-          c.accepted.ensures ro false c.args.demo image script ends.0 c.answer_lines.result (shapes.bytes_stay ∙ told) (λ there. shapes_unwritten g.D.Disk old mid shapes) (λ fresh. absurd (no_fresh fresh)) keeps.late
-          (subst (λ o. EndsByOpening g.D.Disk mid new ro false c.args.demo image script ends.0 o c.answer_lines.result) (sym there.1) over),
+          c.accepted.ensures ro c.args.safe false c.args.demo image script ends.0 c.answer_lines.result (shapes.bytes_stay ∙ told) (λ there. shapes_unwritten g.D.Disk old mid shapes) (λ fresh. absurd (no_fresh fresh)) keeps.late
+          (subst (λ o. EndsByOpening g.D.Disk mid new ro c.args.safe false c.args.demo image script ends.0 o c.answer_lines.result) (sym there.1) over),
     )
 
 pub returns-in-Ok-clause-keeps : goal.returns-in-Ok-clause-keeps
@@ -47,6 +47,7 @@ returns-in-Ok-clause-keeps g c =
       asked_stays = keeps.asked_stays ∙ shapes.asked_stays;
       goes = goes_on law (weaker law (λ image. Unit {0}) shapes.stops (λ image left. tt)) keeps.goes (λ image left. tt);
       faults = omega (arith, shapes.faults, keeps.faults);
+      not_safe = keeps.not_safe;
       disk_fault = λ e. rose_earlier (g.D.Disk.faults old) (g.D.Disk.faults c.mount.new.disk) (g.D.Disk.faults c.answer_lines.new.disk) shapes.faults (keeps.disk_fault e);
       out_fault = keeps.out_fault;
       settled = keeps.settled;
@@ -64,13 +65,13 @@ returns-in-Err-Image-clause-promise g c image told =
     let part = rw c.in-Err-Image.field-0-is at c.tell_fault.ensures.part in
     let ends = tell_ends g.D.Disk old mid c.in-Err-Image.fault c.tell_fault.result (g.K.Sink.taken c.args.out.now) (g.K.Sink.taken c.tell_fault.new.out)
     (shapes_unwritten g.D.Disk old mid c.mount.ensures.shapes) ended bad part (λ is. ap g.K.Sink.taken (c.tell_fault.ensures.no_memory is)) in
-    (ends.0, ends.1, subst (λ o. EndsByOpening g.D.Disk old mid c.args.read_only false c.args.demo image c.args.script.now ends.0 o c.tell_fault.result) (sym wrong) ends.2)
+    (ends.0, ends.1, subst (λ o. EndsByOpening g.D.Disk old mid c.args.read_only c.args.safe false c.args.demo image c.args.script.now ends.0 o c.tell_fault.result) (sym wrong) ends.2)
 
 pub returns-in-Err-Image-clause-keeps : goal.returns-in-Err-Image-clause-keeps
 returns-in-Err-Image-clause-keeps g c =
     let ended = rw c.in-Err-Image.field-0-is at c.tell_fault.ensures.ended in
-    session_shapes (laws g.met.D.Disk) g.K.Sink _ c.args.disk.now c.mount.new.disk c.args.out.now c.tell_fault.new.out c.tell_fault.result c.mount.ensures.shapes c.requires.fresh.nothing_pending
-    (told_late c.in-Err-Image.fault c.tell_fault.result ended) (λ is. absurd (told_no_disk c.in-Err-Image.fault c.tell_fault.result ended is)) c.tell_fault.ensures.out_fault
+    session_shapes (laws g.met.D.Disk) g.K.Sink c.args.safe _ c.args.disk.now c.mount.new.disk c.args.out.now c.tell_fault.new.out c.tell_fault.result c.mount.ensures.shapes c.requires.fresh.nothing_pending
+    (told_late c.in-Err-Image.fault c.tell_fault.result ended) (λ is. absurd (told_no_unsafe c.in-Err-Image.fault c.tell_fault.result ended is)) (λ is. absurd (told_no_disk c.in-Err-Image.fault c.tell_fault.result ended is)) c.tell_fault.ensures.out_fault
 
 pub returns-in-Err-Image-clause-late : goal.returns-in-Err-Image-clause-late
 returns-in-Err-Image-clause-late g c = told_alone c.in-Err-Image.fault c.tell_fault.result (rw c.in-Err-Image.field-0-is at c.tell_fault.ensures.ended)
@@ -79,24 +80,24 @@ pub returns-in-Err-DiskFault-clause-promise : goal.returns-in-Err-DiskFault-clau
 returns-in-Err-DiskFault-clause-promise g c image told = (
   [],
   wrote_nothing (g.K.Sink.taken c.args.out.now),
-  begun_fault (laws g.met.D.Disk) c.args.disk.now c.mount.new.disk c.accepted.ensures c.args.read_only c.args.demo image c.args.script.now told
+  begun_fault (laws g.met.D.Disk) c.args.disk.now c.mount.new.disk c.accepted.ensures c.args.read_only c.args.safe c.args.demo image c.args.script.now told
       (shapes_unwritten g.D.Disk c.args.disk.now c.mount.new.disk c.mount.ensures.shapes),
 )
 
 pub returns-in-Err-DiskFault-clause-keeps : goal.returns-in-Err-DiskFault-clause-keeps
 returns-in-Err-DiskFault-clause-keeps g c =
-    session_shapes (laws g.met.D.Disk) g.K.Sink _ c.args.disk.now c.mount.new.disk c.args.out.now c.args.out.now End.DiskFault c.mount.ensures.shapes c.requires.fresh.nothing_pending
-    refl (λ is. c.in-Err-DiskFault.ensures.cause (ap Err c.in-Err-DiskFault.field-0-is)) (λ is. absurd (cc))
+    session_shapes (laws g.met.D.Disk) g.K.Sink c.args.safe _ c.args.disk.now c.mount.new.disk c.args.out.now c.args.out.now End.DiskFault c.mount.ensures.shapes c.requires.fresh.nothing_pending
+    refl (λ is. absurd (cc)) (λ is. c.in-Err-DiskFault.ensures.cause (ap Err c.in-Err-DiskFault.field-0-is)) (λ is. absurd (cc))
 
 pub returns-in-Err-NoMemory-clause-promise : goal.returns-in-Err-NoMemory-clause-promise
 returns-in-Err-NoMemory-clause-promise g c image told = (
   [],
   wrote_nothing (g.K.Sink.taken c.args.out.now),
-  begun_memory (laws g.met.D.Disk) c.args.disk.now c.mount.new.disk c.accepted.ensures c.args.read_only c.args.demo image c.args.script.now told
+  begun_memory (laws g.met.D.Disk) c.args.disk.now c.mount.new.disk c.accepted.ensures c.args.read_only c.args.safe c.args.demo image c.args.script.now told
       (shapes_unwritten g.D.Disk c.args.disk.now c.mount.new.disk c.mount.ensures.shapes) (inl (c.mount.ensures.shapes.pending_stays ∙ c.requires.fresh.nothing_pending)),
 )
 
 pub returns-in-Err-NoMemory-clause-keeps : goal.returns-in-Err-NoMemory-clause-keeps
 returns-in-Err-NoMemory-clause-keeps g c =
-    session_shapes (laws g.met.D.Disk) g.K.Sink _ c.args.disk.now c.mount.new.disk c.args.out.now c.args.out.now End.NoMemory c.mount.ensures.shapes c.requires.fresh.nothing_pending
-    refl (λ is. absurd (cc)) (λ is. absurd (cc))
+    session_shapes (laws g.met.D.Disk) g.K.Sink c.args.safe _ c.args.disk.now c.mount.new.disk c.args.out.now c.args.out.now End.NoMemory c.mount.ensures.shapes c.requires.fresh.nothing_pending
+    refl (λ is. absurd (cc)) (λ is. absurd (cc)) (λ is. absurd (cc))

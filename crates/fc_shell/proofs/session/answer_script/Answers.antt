@@ -36,7 +36,7 @@ returns-in-Ok-true-clause-promise g c gives given image told =
       promise.0,
       promise.1,
       subst (λ (b : Bool). EndsByGiving g.D.Disk old new r image c.args.script.now promise.0 b c.answer_image.result) yes
-          (ends_from (laws g.met.D.Disk) old mid new attach.goes keeps.goes (attach.tells here) (attach.fresh here).nothing_pending c.accepted.ensures r.read_only (is_some r.new) r.demo (image_for r.new image) c.args.script.now promise.0
+          (ends_from (laws g.met.D.Disk) old mid new attach.goes keeps.goes (attach.tells here) (attach.fresh here).nothing_pending c.accepted.ensures r.read_only r.safe (is_some r.new) r.demo (image_for r.new image) c.args.script.now promise.0
           c.answer_image.result bytes (λ there. attach.unwritten (not_made r.new there)) (λ there. fresh_opens c.opens.ensures r.new image there) keeps.late promise.2),
     )
 

@@ -8,6 +8,7 @@ use Rattle.fc_shell.specs.declared.tally.Tally.{Tally}
 use Rattle.fc_shell.specs.Reads.{Spares}
 use Rattle.fc_shell.specs.Left.{commands_left}
 use Rattle.fc_shell.specs.Line.{IsReady, LineEnds}
+use Rattle.fc_shell.specs.Modes.{SuitsMode, mode_of}
 use Rattle.fc_shell.specs.Serving.{HasServed, ServesAs}
 use Rattle.fc_shell.specs.Replies.{script_limit}
 use Rattle.fc_shell.proofs.LengthLemmas.{AreUpTo, commands_few, commands_up_to}
@@ -38,13 +39,14 @@ pub loop-line-init : goal.loop-line-init
 loop-line-init g c = record {
   short = subst (AreUpTo script_limit) (sym c.new-lines.ensures) (commands_up_to script_limit c.args.script.now c.requires.short);
   goes = goes_same (laws g.met.D.Disk) c.args.disk.now;
+  suits = c.requires.suits;
   ready = record { fit = c.requires.fit; stands = c.requires.stands; settled = c.requires.settled; read_only = refl };
   reads = λ reads. (subst (λ (lines : List (List ℕ)). Spares c.args.volume.now.read_only lines) (sym c.new-lines.ensures) reads, reads_start (laws g.met.D.Disk) c.args.disk.now);
   out_faults = omega arith;
   counted = let none = c.new-tally.ensures.replies in let same = ap length c.new-lines.ensures in omega (arith, none, same);
   within = let none = c.new-tally.ensures.refused in omega (arith, none);
   served = λ image told kind view opens parts.
-      served_start (laws g.met.D.Disk) kind c.args.volume.now.read_only (record { image = image; view = view }) c.args.script.now c.args.disk.now told c.requires.settled opens
+      served_start (laws g.met.D.Disk) (mode_of kind c.args.volume.now.read_only c.args.safe) (record { image = image; view = view }) c.args.script.now c.args.disk.now told c.requires.settled opens
       (commands_left c.new-lines.result) c.args.volume.now c.new-tally.result (g.K.Sink.taken c.args.out.now) c.new-lines.ensures parts c.new-tally.ensures.replies c.new-tally.ensures.refused;
 }
 
@@ -59,6 +61,9 @@ answer_line-requires-clause-stands g c = c.loop-line.invariant.ready.stands
 
 pub answer_line-requires-clause-settled : goal.answer_line-requires-clause-settled
 answer_line-requires-clause-settled g c = c.loop-line.invariant.ready.settled
+
+pub answer_line-requires-clause-suits : goal.answer_line-requires-clause-suits
+answer_line-requires-clause-suits g c = c.loop-line.invariant.suits
 
 pub answer_line-requires-clause-short : goal.answer_line-requires-clause-short
 answer_line-requires-clause-short g c = (subst (AreUpTo script_limit) c.in-Some.ensures c.loop-line.invariant.short).0
@@ -76,6 +81,7 @@ loop-line-preserved g c =
     record {
       short = (subst (AreUpTo script_limit) cut so_far.short).1;
       goes = goes_then (laws g.met.D.Disk) so_far.goes keeps.goes;
+      suits = subst (λ r. IfOk r (λ refused. SuitsMode c.args.safe c.answer_line.new.volume)) is c.answer_line.ensures.suits;
       ready = record { fit = ready.fit; stands = ready.stands; settled = ready.settled; read_only = ready.read_only ∙ so_far.ready.read_only };
       reads = λ reads.
           let was = so_far.reads reads in
@@ -89,15 +95,15 @@ loop-line-preserved g c =
       served = λ image told kind view opens parts.
           let s : State = record { image = image; view = view } in
           let v = c.args.volume.now in
-          let has : HasServed g.D.Disk c.args.disk.now c.loop-line.disk kind v.read_only s c.args.script.now (line ∷ left) c.loop-line.volume c.loop-line.tally (taken c.args.out.now) (taken c.loop-line.out) =
-          subst (λ (lines : List (List ℕ)). HasServed g.D.Disk c.args.disk.now c.loop-line.disk kind v.read_only s c.args.script.now lines c.loop-line.volume c.loop-line.tally (taken c.args.out.now) (taken c.loop-line.out)) cut
+          let has : HasServed g.D.Disk c.args.disk.now c.loop-line.disk (mode_of kind v.read_only c.args.safe) s c.args.script.now (line ∷ left) c.loop-line.volume c.loop-line.tally (taken c.args.out.now) (taken c.loop-line.out) =
+          subst (λ (lines : List (List ℕ)). HasServed g.D.Disk c.args.disk.now c.loop-line.disk (mode_of kind v.read_only c.args.safe) s c.args.script.now lines c.loop-line.volume c.loop-line.tally (taken c.args.out.now) (taken c.loop-line.out)) cut
           (so_far.served image told kind view opens parts) in
           let at = has.lines.state in
-          let ends = subst (λ (ro : Bool). LineEnds g.D.Disk c.loop-line.disk c.answer_line.new.disk kind ro at c.answer_line.new.volume line (taken c.loop-line.out) (taken c.answer_line.new.out) c.answer_line.result)
+          let ends = subst (λ (ro : Bool). LineEnds g.D.Disk c.loop-line.disk c.answer_line.new.disk (mode_of kind ro c.args.safe) at c.answer_line.new.volume line (taken c.loop-line.out) (taken c.answer_line.new.out) c.answer_line.result)
           so_far.ready.read_only (c.answer_line.ensures.step at.image has.lines.holds kind at.view has.lines.opens has.parts) in
-          served_more (laws g.met.D.Disk) kind v.read_only s c.args.script.now c.args.disk.now told c.requires.settled opens line left c.loop-line.volume c.answer_line.new.volume
+          served_more (laws g.met.D.Disk) (mode_of kind v.read_only c.args.safe) s c.args.script.now c.args.disk.now told c.requires.settled opens line left c.loop-line.volume c.answer_line.new.volume
           c.in_ok-refused.refused c.loop-line.tally c.count.new.self (taken c.args.out.now) (taken c.loop-line.out) (taken c.answer_line.new.out) c.loop-line.disk c.answer_line.new.disk has so_far.goes keeps.goes
-          (subst (λ (r : Result Bool LineFault). LineEnds g.D.Disk c.loop-line.disk c.answer_line.new.disk kind v.read_only at c.answer_line.new.volume line (taken c.loop-line.out) (taken c.answer_line.new.out) r) is ends)
+          (subst (λ (r : Result Bool LineFault). LineEnds g.D.Disk c.loop-line.disk c.answer_line.new.disk (mode_of kind v.read_only c.args.safe) at c.answer_line.new.volume line (taken c.loop-line.out) (taken c.answer_line.new.out) r) is ends)
           c.count.ensures.replies c.count.ensures.refused;
     }
 
@@ -112,18 +118,18 @@ returns-in_err-refused-clause-served g c image told kind view opens parts =
     let v = c.args.volume.now in
     let fault : LineFault = c.in_err-refused.field-0.0 in
     let was : c.answer_line.result ≡ Err fault = c.in_err-refused.was in
-    let has : HasServed g.D.Disk c.args.disk.now c.loop-line.disk kind v.read_only s c.args.script.now (line ∷ left) c.loop-line.volume c.loop-line.tally (taken c.args.out.now) (taken c.loop-line.out) =
-    subst (λ (lines : List (List ℕ)). HasServed g.D.Disk c.args.disk.now c.loop-line.disk kind v.read_only s c.args.script.now lines c.loop-line.volume c.loop-line.tally (taken c.args.out.now) (taken c.loop-line.out)) c.in-Some.ensures
+    let has : HasServed g.D.Disk c.args.disk.now c.loop-line.disk (mode_of kind v.read_only c.args.safe) s c.args.script.now (line ∷ left) c.loop-line.volume c.loop-line.tally (taken c.args.out.now) (taken c.loop-line.out) =
+    subst (λ (lines : List (List ℕ)). HasServed g.D.Disk c.args.disk.now c.loop-line.disk (mode_of kind v.read_only c.args.safe) s c.args.script.now lines c.loop-line.volume c.loop-line.tally (taken c.args.out.now) (taken c.loop-line.out)) c.in-Some.ensures
     (so_far.served image told kind view opens parts) in
     let at = has.lines.state in
-    let ends = subst (λ (ro : Bool). LineEnds g.D.Disk c.loop-line.disk c.answer_line.new.disk kind ro at c.answer_line.new.volume line (taken c.loop-line.out) (taken c.answer_line.new.out) c.answer_line.result)
+    let ends = subst (λ (ro : Bool). LineEnds g.D.Disk c.loop-line.disk c.answer_line.new.disk (mode_of kind ro c.args.safe) at c.answer_line.new.volume line (taken c.loop-line.out) (taken c.answer_line.new.out) c.answer_line.result)
     so_far.ready.read_only (c.answer_line.ensures.step at.image has.lines.holds kind at.view has.lines.opens has.parts) in
-    subst (λ (r : Result Tally LineFault). ServesAs g.D.Disk c.args.disk.now c.answer_line.new.disk kind v.read_only s c.args.script.now (taken c.args.out.now) (taken c.answer_line.new.out) r)
+    subst (λ (r : Result Tally LineFault). ServesAs g.D.Disk c.args.disk.now c.answer_line.new.disk (mode_of kind v.read_only c.args.safe) s c.args.script.now (taken c.args.out.now) (taken c.answer_line.new.out) r)
     (sym (same_result c.from_residual.result fault (err_from_is_err_and c.from_residual.result c.from_residual.ensures.1)))
-    (served_part (laws g.met.D.Disk) kind v.read_only s c.args.script.now c.args.disk.now told c.requires.settled opens line left c.loop-line.volume c.answer_line.new.volume
+    (served_part (laws g.met.D.Disk) (mode_of kind v.read_only c.args.safe) s c.args.script.now c.args.disk.now told c.requires.settled opens line left c.loop-line.volume c.answer_line.new.volume
     c.loop-line.tally (taken c.args.out.now) (taken c.loop-line.out) (taken c.answer_line.new.out) c.loop-line.disk c.answer_line.new.disk fault has so_far.goes keeps.goes
     (λ never. keeps.settled (λ is. never (one_fault c.answer_line.result fault LineFault.Disk was is)))
-    (subst (λ (r : Result Bool LineFault). LineEnds g.D.Disk c.loop-line.disk c.answer_line.new.disk kind v.read_only at c.answer_line.new.volume line (taken c.loop-line.out) (taken c.answer_line.new.out) r) was ends))
+    (subst (λ (r : Result Bool LineFault). LineEnds g.D.Disk c.loop-line.disk c.answer_line.new.disk (mode_of kind v.read_only c.args.safe) at c.answer_line.new.volume line (taken c.loop-line.out) (taken c.answer_line.new.out) r) was ends))
 
 pub returns-in_err-refused-clause-goes : goal.returns-in_err-refused-clause-goes
 returns-in_err-refused-clause-goes g c = goes_then (laws g.met.D.Disk) c.loop-line.invariant.goes c.answer_line.ensures.keeps.goes
@@ -157,8 +163,8 @@ returns-clause-served g c image told kind view opens parts =
     let taken = g.K.Sink.taken in
     let s : State = record { image = image; view = view } in
     let v = c.args.volume.now in
-    served_all (laws g.met.D.Disk) kind v.read_only s c.args.script.now c.args.disk.now told c.requires.settled opens c.loop-line.volume c.loop-line.tally (taken c.args.out.now) (taken c.loop-line.out) c.loop-line.disk
-    (subst (λ (lines : List (List ℕ)). HasServed g.D.Disk c.args.disk.now c.loop-line.disk kind v.read_only s c.args.script.now lines c.loop-line.volume c.loop-line.tally (taken c.args.out.now) (taken c.loop-line.out)) c.in_default.ensures
+    served_all (laws g.met.D.Disk) (mode_of kind v.read_only c.args.safe) s c.args.script.now c.args.disk.now told c.requires.settled opens c.loop-line.volume c.loop-line.tally (taken c.args.out.now) (taken c.loop-line.out) c.loop-line.disk
+    (subst (λ (lines : List (List ℕ)). HasServed g.D.Disk c.args.disk.now c.loop-line.disk (mode_of kind v.read_only c.args.safe) s c.args.script.now lines c.loop-line.volume c.loop-line.tally (taken c.args.out.now) (taken c.loop-line.out)) c.in_default.ensures
     (c.loop-line.invariant.served image told kind view opens parts)) c.loop-line.invariant.goes c.loop-line.invariant.ready.settled
 
 pub returns-clause-goes : goal.returns-clause-goes
