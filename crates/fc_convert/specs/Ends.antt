@@ -5,6 +5,14 @@ use Rattle.fc_runs.specs.Replies.{bad_image_line}
 use Rattle.fc_convert.specs.declared.ending.ConvertEnd.{ConvertEnd}
 use Rattle.fc_convert.specs.declared.ending.ConvertEnd.TheVariants.{Done, Unfit, BadWords, BadImage, FromFault, ToFault, OutFault, NoMemory, NoRoom, NoSource, NoTarget, BadTarget}
 use Rattle.fc_names.specs.Names.{Path}
+use Rattle.fc_holdings.specs.declared.error.CommandError.{CommandError}
+use Rattle.fc_holdings.specs.declared.error.CommandError.TheVariants as commands
+use Rattle.fc_volume.specs.declared.lines.MountError.{MountError}
+use Rattle.fc_volume.specs.declared.lines.MountError.TheVariants as mounts
+use Rattle.fc_convert.specs.declared.blocks.ReadError.{ReadError}
+use Rattle.fc_convert.specs.declared.blocks.ReadError.TheVariants as reads
+use Rattle.fc_convert.specs.declared.copying.CopyError.{CopyError}
+use Rattle.fc_convert.specs.declared.copying.CopyError.TheVariants as copies
 use Rattle.fc_convert.specs.Convert.{counts_line, no_room_line, unfit_line}
 
 -- the exit statuses
@@ -57,3 +65,35 @@ abbrev pub TellsEnd : Option (List ℕ) → Option (List ℕ) → ConvertEnd →
 TellsEnd before after Done = (files dirs : ℕ) × Wrote before after (counts_line files dirs)
 TellsEnd before after OutFault = (line : List ℕ) × IsLine line × WrotePart before after line
 TellsEnd before after end = Wrote before after (end_line end)
+
+-- ---- errors as ends
+
+-- how a conversion ends whose source isn't mounted
+abbrev pub source_end : MountError → ConvertEnd
+source_end (mounts.Image fault) = BadImage fault
+source_end mounts.DiskFault = FromFault
+source_end mounts.NoMemory = NoMemory
+
+-- how it ends whose target isn't
+abbrev pub target_end : MountError → ConvertEnd
+target_end (mounts.Image fault) = BadTarget fault
+target_end mounts.DiskFault = ToFault
+target_end mounts.NoMemory = NoMemory
+
+-- why an object isn't copied whose file isn't read
+abbrev pub read_error : ReadError → CopyError
+read_error reads.DiskFault = copies.From
+read_error reads.NoMemory = copies.NoMemory
+
+-- or of which a command isn't done
+abbrev pub command_error : CommandError → CopyError
+command_error (commands.Refused refusal) = copies.Refused refusal
+command_error commands.NoMemory = copies.NoMemory
+command_error commands.DiskFault = copies.To
+
+-- how a conversion ends that stops at an object
+abbrev pub copy_end : CopyError → Path → ConvertEnd
+copy_end (copies.Refused refusal) path = NoRoom path refusal
+copy_end copies.From path = FromFault
+copy_end copies.To path = ToFault
+copy_end copies.NoMemory path = NoMemory

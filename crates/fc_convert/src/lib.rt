@@ -1,16 +1,21 @@
-//! Conversion, as far as it stands: its words, how it ends, the line that is written, and definitions of what it is to promise.
+//! Conversion: a fresh volume of another format with the same tree. Which trees fit, the commands that make a tree on a fresh volume,
+//! and the line that is written.
 #![tactic(auto)]
 
+mod blocks;
+mod converting;
+mod copying;
 mod ending;
+mod source;
+mod target;
 mod texts;
 mod words;
 
 ghost use Rattle.fc_convert.specs.Rows.{ConvertRows};
 
+pub use converting::convert;
 pub use ending::ConvertEnd;
 pub use fc_fit::What;
-pub use texts::{converted_line, end_line};
-pub use words::{Asked, read_words};
 
 /// Words and lines of conversion, worked out.
 pub fn rows()

@@ -1,6 +1,6 @@
 -- The commands that make one object are accepted where its directories are there and itself isn't.
-use Rattle.std.proofs.Common.{◌≡◌, ◌<◌, ℕ, zero, suc, ◌+◌, ◌-◌, ◌*◌, ◌/◌, ◌%◌, Bool, true, false, cond, List, [], ◌∷◌, ◌++◌, length, map, take, refl, sym, ap, ap₂, subst, ◌∙◌, Option, Some, None, arith, append_assoc}
-use Rattle.std.specs.Prelude.{Result, Ok, Err, is_some, not, ◌||◌, ◌==◌, if◌then◌else◌}
+use Rattle.std.proofs.Common.{◌≡◌, ◌<◌, ℕ, zero, suc, ◌+◌, ◌-◌, ◌*◌, ◌/◌, ◌%◌, Bool, true, false, cond, List, [], ◌∷◌, ◌++◌, length, take, refl, sym, ap, subst, ◌∙◌, Option, Some, None, arith, append_assoc}
+use Rattle.std.specs.Prelude.{Ok, Err, is_some, not, ◌||◌, ◌==◌, if◌then◌else◌}
 use Rattle.std.specs.Option.{option_map_or}
 use Rattle.std.specs.declared.cmp.Ordering.{Ordering}
 use Rattle.std.specs.declared.cmp.Ordering.TheVariants.{Less, Equal, Greater}
@@ -10,7 +10,6 @@ use Rattle.std.specs.FinMap.{get, get-insert, insert, same_map}
 use Rattle.std.proofs.lemmas.Bool.{ne_eqb}
 use Rattle.std.proofs.lemmas.List.{append-nil, length-map, length-take, take-take}
 use Rattle.fc_names.specs.declared.name.NameForm.{NameForm}
-use Rattle.fc_names.specs.declared.refusal.Refusal.{Refusal}
 use Rattle.fc_names.specs.declared.refusal.Refusal.TheVariants as refusals
 use Rattle.fc_names.specs.Names.{Path, folded_path, folded, is_directory, is_locked, is_writable, key_cmp}
 use Rattle.fc_model.specs.Answer.{answer, answer_or, changed, first_of, found, found_below, holder_refusal, is_name_bad, node_or_absent, path_refusal, reasons, refusal_of, refusal_of_holder, when, with_attrs, with_words}
@@ -96,7 +95,7 @@ holder_there t (name ∷ names) some above =
 
 -- ---- commands
 
-accepted : (t : Tree) (form : NameForm) (c : Command) → first_of (reasons t form false c) ≡ None → answer t form false c ≡ Ok (changed t c)
+pub accepted : (t : Tree) (form : NameForm) (c : Command) → first_of (reasons t form false c) ≡ None → answer t form false c ≡ Ok (changed t c)
 unfolding answer
 accepted t form c none = ap (answer_or (changed t c)) none
 

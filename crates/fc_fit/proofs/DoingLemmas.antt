@@ -1,15 +1,14 @@
 -- On a fresh volume the commands for a tree that fits leave the tree, and only want of space stops them.
-use Rattle.std.proofs.Common.{◌≡◌, ℕ, Bool, true, false, List, [], ◌∷◌, ◌++◌, length, map, refl, sym, ap, subst, ◌∙◌, Option, Some, None, arith, length-append}
-use Rattle.std.specs.Prelude.{Contains, Err, Ok, Result}
+use Rattle.std.proofs.Common.{◌≡◌, ℕ, false, List, [], ◌∷◌, ◌++◌, length, map, refl, sym, ap, subst, ◌∙◌, Option, Some, None, arith, length-append}
+use Rattle.std.specs.Prelude.{Contains, Ok, Result}
 use Rattle.std.specs.FinMap.{from_entries}
 use Rattle.fc_names.specs.declared.name.NameForm.{NameForm}
 use Rattle.fc_names.specs.declared.refusal.Refusal.{Refusal}
 use Rattle.fc_names.specs.Names.{Path, folded_path}
 use Rattle.fc_record.specs.declared.Kind.{Kind}
-use Rattle.fc_dirs.specs.Directory.{entries_of}
 use Rattle.fc_model.specs.Answer.{answer, answer_or, changed, first_of, reasons}
 use Rattle.fc_model.specs.Command.{Command}
-use Rattle.fc_model.specs.Tree.{IsTree, Node, Tree, root_node}
+use Rattle.fc_model.specs.Tree.{Node, Tree, root_node}
 use Rattle.fc_image.specs.Layout.{Layout}
 use Rattle.fc_image.specs.Sound.{AreSound}
 use Rattle.fc_image.specs.Walk.{Listing, Object}
@@ -17,17 +16,17 @@ use Rattle.fc_image.specs.Objects.{node_of, objects_of, tree_entry, tree_of}
 use Rattle.fc_image.specs.Opening.{Opened, open_image}
 use Rattle.fc_image.specs.declared.ImageFault.{ImageFault}
 use Rattle.fc_image.specs.Stays.{OpensAs}
-use Rattle.fc_image.specs.effects.Effect.{Changes, State, tree_in}
+use Rattle.fc_image.specs.effects.Effect.{State, tree_in}
 use Rattle.fc_image.specs.effects.Short.{short}
 use Rattle.fc_format.specs.declared.Format.{Format}
-use Rattle.fc_format.specs.Fresh.{format_size, fresh_image, zeros}
+use Rattle.fc_format.specs.Fresh.{format_size, zeros}
 use Rattle.fc_format.specs.Opens.{FreshLaw, IsRootAlone}
 use Rattle.fc_tree.proofs.MemberLemmas.{contains_here}
 use Rattle.fc_tree.proofs.WalkedLemmas.{same_some, sound_law}
 use Rattle.fc_fit.specs.Commands.{commands_for, making_command, object_commands, objects_in}
-use Rattle.fc_fit.specs.Doing.{ConvertsLaw, ConvertsTree, DoAll, Does, HasNoRoom, IsConverted, IsFreshState, IsShort, StopIn, refusal_by}
-use Rattle.fc_fit.specs.Fit.{form_of, spelled_key, unfit}
-use Rattle.fc_fit.specs.Makes.{Accepts, AreMarked, MakesTree, tree_with}
+use Rattle.fc_fit.specs.Doing.{ConvertsLaw, DoAll, Does, HasNoRoom, IsFreshState, IsShort, StopIn, refusal_by}
+use Rattle.fc_fit.specs.Fit.{form_of, spelled_key}
+use Rattle.fc_fit.specs.Makes.{Accepts, MakesTree, tree_with}
 use Rattle.fc_fit.proofs.RisingLemmas.{node_there, tree_is}
 use Rattle.fc_fit.proofs.ShortLemmas.{mark_fits, set_fits}
 use Rattle.fc_fit.proofs.TreeLemmas.{makes_law}
@@ -123,7 +122,7 @@ making_stops form kind s state t t' path n refusal is opens accepted stop = by s
 
 -- ---- the fresh volume
 
-same_opened : (a b : Opened) → (let r : Result Opened ImageFault = Ok a in r) ≡ Ok b → a ≡ b
+pub same_opened : (a b : Opened) → (let r : Result Opened ImageFault = Ok a in r) ≡ Ok b → a ≡ b
 same_opened a b e = cc
 
 alone_tree : (image : List ℕ) (layout : Layout) (listings : List Listing) → AreSound layout listings → IsRootAlone listings → tree_of image layout listings ≡ tree_with []

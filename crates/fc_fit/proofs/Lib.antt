@@ -1,6 +1,6 @@
 pub mod FoundLemmas
 pub mod WalkLemmas
-mod AcceptLemmas
+pub mod AcceptLemmas
 mod MakeLemmas
 pub mod TreeLemmas
 pub mod RisingLemmas

@@ -1,0 +1,13 @@
+mod BlockLemmas
+mod MakingLemmas
+mod SourceLemmas
+mod ObjectLemmas
+mod LengthLemmas
+mod CopyLemmas
+mod OpeningLemmas
+mod FittingLemmas
+mod ConvertLemmas
+mod EndLemmas
+mod ToldLemmas
+mod LineLemmas
+mod PromiseLemmas
