@@ -2,7 +2,7 @@
 # SPDX-License-Identifier: MIT
 """Packs what was built: an archive that runs where there is Python and nothing else, and the sums of what is in it.
 
-usage: tools/run dist PROGRAM [FOLDER]    into out/, if no folder is named
+usage: tools/run dist FCORE FCONVERT [FOLDER]    into out/, if no folder is named
 fcdisc becomes one file, a zip archive that Python runs. The same sources give the same bytes: times are those of the last commit.
 """
 import gzip
@@ -50,9 +50,9 @@ def one_file() -> bytes:
     return packed.getvalue()
 
 
-def contents(program: str) -> Dict[str, Tuple[int, bytes]]:
+def contents(program: str, converter: str) -> Dict[str, Tuple[int, bytes]]:
     """Each file of the archive, with its mode."""
-    found = {"bin/fcore": (0o755, read(program)), "bin/fcdisc": (0o755, one_file())}
+    found = {"bin/fcore": (0o755, read(program)), "bin/fconvert": (0o755, read(converter)), "bin/fcdisc": (0o755, one_file())}
     for name in PLAIN:
         found[name] = (0o644, read(os.path.join(TOP, name)))
     for name in sorted(os.listdir(os.path.join(TOP, "man"))):
@@ -66,10 +66,10 @@ def contents(program: str) -> Dict[str, Tuple[int, bytes]]:
 
 
 def completion_place(name: str) -> str:
-    """Where shells look for a completion; the file is named after its shell, as fcdisc.bash."""
-    shell = os.path.splitext(name)[1].lstrip(".") or name
-    others = {"zsh": "zsh/site-functions/_fcdisc", "fish": "fish/vendor_completions.d/fcdisc.fish"}
-    return others.get(shell, "bash-completion/completions/fcdisc")
+    """Where shells look for a completion; the file is named after the program and its shell, as fcdisc.bash."""
+    program, _, shell = name.partition(".")
+    others = {"zsh": "zsh/site-functions/_" + program, "fish": "fish/vendor_completions.d/%s.fish" % program}
+    return others.get(shell, "bash-completion/completions/" + program)
 
 
 def time_of_sources() -> int:
@@ -92,11 +92,12 @@ def archive(files: Dict[str, Tuple[int, bytes]], folder: str, moment: int) -> by
     return gzip.compress(plain.getvalue(), mtime=0)
 
 
-def main(program: str, folder: str = os.path.join(TOP, "out")) -> None:
-    if not os.access(program, os.X_OK):
-        sys.exit("%s isn't there: run make first" % program)
+def main(program: str, converter: str, folder: str = os.path.join(TOP, "out")) -> None:
+    for one in (program, converter):
+        if not os.access(one, os.X_OK):
+            sys.exit("%s isn't there: run make first" % one)
     name = "fcore-%s" % version()
-    packed = archive(contents(program), name, time_of_sources())
+    packed = archive(contents(program, converter), name, time_of_sources())
     os.makedirs(folder, exist_ok=True)
     path = os.path.join(folder, name + "-linux-x86_64.tar.gz")
     with open(path, "wb") as file:
@@ -107,6 +108,6 @@ def main(program: str, folder: str = os.path.join(TOP, "out")) -> None:
 
 
 if __name__ == "__main__":
-    if len(sys.argv) not in (2, 3):
+    if len(sys.argv) not in (3, 4):
         sys.exit(__doc__)
     main(*sys.argv[1:])

@@ -10,6 +10,9 @@ from typing import List, Union
 TOOLS = os.path.dirname(os.path.realpath(__file__))
 TOP = os.path.dirname(TOOLS)
 PROGRAM = os.path.join(TOP, "crates", "fcore", "out", "fcore")
+CONVERTER = os.path.join(TOP, "crates", "fconvert", "out", "fconvert")
+# A folder in memory, where there is one: a disc that is changed is synced again and again
+MEMORY = "/dev/shm" if os.access("/dev/shm", os.W_OK) else os.environ.get("TMPDIR", "/tmp")
 
 
 def read(path: Union[bytes, str]) -> bytes:

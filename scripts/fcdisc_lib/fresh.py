@@ -1,12 +1,12 @@
 # SPDX-License-Identifier: MIT
-"""A fresh disc in memory, before it gets a name on the host."""
+"""A disc that a program makes as a file, before it gets its name on the host."""
 from __future__ import annotations
 
 import fcntl
 import os
 import stat
 from contextlib import contextmanager, suppress
-from typing import BinaryIO, Iterator, Tuple
+from typing import BinaryIO, Callable, Iterator, Tuple
 
 from .images import copy, nameless_file, size_of
 from .leftovers import is_locked_here
@@ -16,27 +16,42 @@ from .output import Folder
 from .program import Run
 
 BEGINNING, NEW = "fcdisc-", "new"
+IN_MEMORY = "/dev/shm"
 
 
 @contextmanager
 def fresh_disc(program: str, name: str, form: str) -> Iterator[BinaryIO]:
-    """The image of an empty disc, as an open file without a name. `name` is the image's name for people.
+    """The image of an empty disc, as an open file without a name. `name` is the image's name for people."""
+    def make(place: str) -> None:
+        with Run(program, name, ["--new", form, "--", place], b"", []):
+            pass
 
-    fcore makes it as a file, since it makes no image that is there already.
-    """
-    import tempfile  # here, since it takes long to load, and other jobs are beside those that need it
+    with made_disc(name, make) as file:
+        yield file
+
+
+@contextmanager
+def made_disc(name: str, make: Callable[[str], None]) -> Iterator[BinaryIO]:
+    """What a program makes under a name that it is given: the programs make no image that is there already."""
+    place = folder_for_discs()
     try:
-        with own_folder(tempfile.gettempdir()) as folder:
-            place = os.path.join(folder, NEW)
-            with Run(program, name, ["--new", form, "--", place], b"", []):
-                pass
-            with open(place, "rb") as made:
+        with own_folder(place) as folder:
+            path = os.path.join(folder, NEW)
+            make(path)
+            with open(path, "rb") as made:
                 file = nameless_file(size_of(made))
                 copy(made, 0, file)
     except OSError as error:
-        raise Trouble("%s: it can't be made in %s: %s" % (shown(name), shown(tempfile.gettempdir()), reason(error))) from None
+        raise Trouble("%s: it can't be made in %s: %s" % (shown(name), shown(place), reason(error))) from None
     with file:
         yield file
+
+
+def folder_for_discs() -> str:
+    """A folder in memory, if there is one and no other is named: fconvert syncs what it makes after each step."""
+    from tempfile import gettempdir  # here, since it takes long to load, and other jobs are beside those that need it
+    is_told = any(os.environ.get(name) for name in ("TMPDIR", "TEMP", "TMP"))
+    return gettempdir() if is_told or not os.access(IN_MEMORY, os.W_OK | os.X_OK) else IN_MEMORY
 
 
 @contextmanager

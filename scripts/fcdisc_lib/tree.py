@@ -33,10 +33,10 @@ class Tree:
         return [entry for entry in self.walk() if not entry.is_directory]
 
 
-def read_tree(program: str, path: str, order: str, start: Path) -> Tree:
+def read_tree(program: str, path: str, order: str, start: Path, deeper: str = "left out") -> Tree:
     """The tree from the directory `start`. fcore runs once to open the image, and once for each level of directories.
 
-    Raises Refused where `start` is no directory of the disc.
+    `deeper` says what comes of too deep ones. Raises Refused where `start` is no directory of the disc.
     """
     def read(run: Run) -> Tuple[Dict[str, int], List[Entry]]:
         return run.check(), run.cat(start)
@@ -47,7 +47,7 @@ def read_tree(program: str, path: str, order: str, start: Path) -> Tree:
     tree.entries[start] = entries
     read_below(program, tree, Progress("directories read", counts["dirs"]))
     if tree.too_deep:
-        tell("%s: directories more than %d deep are left out" % (shown(path), MAX_DEPTH))
+        tell("%s: directories more than %d deep are %s" % (shown(path), MAX_DEPTH, deeper))
     return tree
 
 

@@ -16,7 +16,7 @@ tar -xzf "$archive" -C "$work"
 cat > "$work/jobs" <<'JOBS'
 set -eu
 cd "$1"
-unset FCORE
+unset FCORE FCONVERT
 cd fcore-*; sha256sum --quiet -c SHA256SUMS; cd ..
 PATH=$(echo "$PWD"/fcore-*/bin):$PATH
 passed=0
@@ -71,6 +71,7 @@ mkdir discs; cp f-user.adf hello.adf discs
 is find '1 object in 1 image' "$(fcdisc find discs '!Run' | tail -n 1)"
 is catalogue 0 "$(status fcdisc catalogue discs)"
 is 'extract --each' '42 files of 2 discs written to all' "$(fcdisc extract --each discs all | tail -n 1)"
+is 'fconvert itself' 'converted files 41 dirs 3' "$(fconvert L f-user.adf l.adf)"
 is 'fcore itself' 'free 1525760 421888' "$(printf 'free\n' | fcore f-user.adf | head -n 1)"
 echo "bare: $passed jobs done in $(. /etc/os-release; echo "$PRETTY_NAME"), $(python3 --version)"
 JOBS

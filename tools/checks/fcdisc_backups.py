@@ -155,21 +155,20 @@ def read_only_folder(c: Changes) -> None:
     for words, error in ((["mkdir", "a.adf", "F"], "a.adf: it is write-protected on this host"), (["cp", "a.adf", "Ab", "N"], "a.adf: it is write-"
                          "protected on this host"), (["undo", "a.adf"], "a.adf: Read-only file system: nothing was changed"), *(
                              (words, words[-1] + ": Read-only file system") for words in (["new", "E", "n.adf"], ["extract", "a.adf", "o"],
-                             ["extract", "--inf", "a.adf", "o"], ["extract", "a.adf", "o.zip"], ["convert", "F", "a.adf", "n.adf"],
-                             ["get", "a.adf", "Ab", "n"]))):
+                             ["extract", "--inf", "a.adf", "o"], ["extract", "a.adf", "o.zip"], ["get", "a.adf", "Ab", "n"]))):
         c.refused("%s on a host that is only read" % " ".join(words), words, error, within=within)
     c.checks.expect("extract --each on a host that is only read", result=(
         ("0 files of 0 discs written to o\n", "fcdisc: o/a.adf: Read-only file system\n", 1), c.run("extract", "--each", "a.adf", "o", within=within)))
 
 
 def fresh_names(c: Changes) -> None:
-    """`new` and `convert` leave nothing where fcore makes the disc."""
+    """`new` leaves nothing where fcore makes the disc."""
     c.start()
     place = os.fsdecode(c.checks.fresh(b"tmp"))
     before = dict(os.environ)
     os.environ["TMPDIR"] = place
     try:
-        for words in (["new", "E", "n.adf"], ["convert", "F", "a.adf", "m.adf"], ["new", "E", "n.adf"]):
+        for words in (["new", "E", "n.adf"], ["new", "E", "n.adf"]):
             c.run(*words)
             c.checks.expect("%s leaves nothing" % words[0], left=([], os.listdir(place)))
     finally:

@@ -458,7 +458,7 @@ def other_programs() -> Iterator[Case]:
         yield Case("fcore-" + name, ["extract", hello, "o"], err=told("hello.adf", error), status=1, left=left,
                    fcore=START + answer + LISTED % length)
     names = image("named.adf")
-    for words in (["list", names], ["extract", names, "o"], ["convert", "E", names, "x.adf"]):
+    for words in (["list", names], ["extract", names, "o"]):
         yield Case("fcore-lists-less-for-" + words[0], words, err=told("named.adf", CHANGED), status=1, fcore=GONE)
     yield Case("fcore-refuses-what-vanishes", ["list", "x.adf"], err="fcdisc: x.adf: not accepted: %s%s\n" % (NO_KIND, NO_KIND_ADVICE),
                status=1, before={b"x.adf": b"text"}, left={}, fcore="#!/bin/sh\nrm x.adf; echo bad-image NoKind; exit 3\n")

@@ -501,7 +501,7 @@ def own_format(data: bytes, volume: Optional[Volume]) -> str:
 
 
 def round_trip(c: Changes, name: str, data: bytes, forms: Iterable[str]) -> None:
-    """`extract`, and `add` to fresh discs; and `convert`."""
+    """`extract`, and `add` to fresh discs."""
     tree, checks = tree_of(data), c.checks
     loses = any(node[0] & ~SETTABLE for node in tree.values())
     for form in dict.fromkeys(forms):
@@ -511,18 +511,11 @@ def round_trip(c: Changes, name: str, data: bytes, forms: Iterable[str]) -> None
         c.run("extract", "a.adf", "o")
         c.run("new", form, "b.adf")
         got = c.run("add", "b.adf", "o")
-        files = sum(node[3] is not None for node in tree.values())
         found = tree_of(read(c.at("b.adf")))
         if long_names:  # the host cut these
             found, wanted = ({path: node for path, node in one.items() if max(map(len, path)) < 230} for one in (found, wanted))
         checks.expect("extract %s, add to %s" % (name, form), same=([], differing(wanted, found)),
                       status=(wanted_tree(tree, form) != tree, bool(got[2])), told=(loses, LOST in got[1]))
-        got = c.run("convert", form, "a.adf", "c.adf")
-        wanted = wanted_tree(tree, form)
-        checks.expect("convert %s to %s" % (name, form), same=([], differing(wanted, tree_of(read(c.at("c.adf"))))),
-                      status=(wanted != tree, bool(got[2])), told=(loses, LOST in got[1]),
-                      out=("%d of %d file%s copied to c.adf\n" % (
-                          sum(node[3] is not None for node in wanted.values()), files, "s" * (files != 1)), got[0]))
 
 
 def kept_words(c: Changes) -> None:
@@ -545,17 +538,8 @@ def differing(wanted: Dict[Tuple[bytes, ...], Node], found: Dict[Tuple[bytes, ..
     return [(path, wanted.get(path, ())[:3], found.get(path, ())[:3]) for path in paths[:5]]
 
 
-def converting(c: Changes) -> None:
-    c.start(files={"there": b"mine"})
-    c.refused("convert over a file", ["convert", "E", "a.adf", "there"], "there: there is something of this name already")
-    c.refused("convert nothing", ["convert", "E", "none", "b.adf"], "none: No such file or directory")
-    c.start("sides.adl", "a.adl")
-    got = c.run("convert", "F+", "a.adl", "b.adf")
-    c.checks.expect("convert an .adl", status=(1, got[2]), told=(True, got[1].startswith("fcdisc: a.adl: " + fcdisc_cases.SIDES)))
-
-
 PARTS = (putting, moving, removing, over_big_directories, over_old_maps, squashing, forms, adding, adding_somewhere, adding_much, long_files,
-         troubles, other_programs, programs_that_go, removing_levels, other_hosts, signals, converting)
+         troubles, other_programs, programs_that_go, removing_levels, other_hosts, signals)
 
 
 def run_parts(checks: Checks, mounts: bool) -> None:

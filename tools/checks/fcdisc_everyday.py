@@ -169,9 +169,13 @@ def completion(c: Changes) -> None:
     script = os.path.join(TOP, "scripts", "completion", "fcdisc.bash")
     c.start()
     for typed, offered in (("fcdisc ex", ["extract"]), ("fcdisc c", ["catalogue", "check", "compact", "convert", "cp"]), ("fcdisc new E", ["E", "E+"]),
-                           ("fcdisc add --f", ["--fit"]), ("fcdisc list --order a", ["adl", "auto"]), ("fcdisc list a", ["a.adf"]), ("fcdisc undo --b", ["--back"])):
-        line = 'source "$1"; COMP_WORDS=(%s); COMP_CWORD=$((${#COMP_WORDS[@]} - 1)); _fcdisc; printf "%%s\\n" "${COMPREPLY[@]}" | sort' % typed
-        run = subprocess.run(["bash", "-c", line, "bash", script], cwd=c.work, capture_output=True, text=True, check=False)
+                           ("fcdisc add --f", ["--fit"]), ("fcdisc list --order a", ["adl", "auto"]), ("fcdisc list a", ["a.adf"]), ("fcdisc undo --b", ["--back"]),
+                           ("fconvert E", ["E", "E+"]), ("fconvert F a", ["a.adf"]), ("fconvert F a.adf b.adf a", [])):
+        program = typed.split()[0]
+        line = ('source "$1"; COMP_WORDS=(%s); COMP_CWORD=$((${#COMP_WORDS[@]} - 1)); COMPREPLY=(); _%s; printf "%%s\\n" "${COMPREPLY[@]}" | sort'
+                % (typed, program))
+        words = ["bash", "-c", line, "bash", script.replace("fcdisc.bash", program + ".bash")]
+        run = subprocess.run(words, cwd=c.work, capture_output=True, text=True, check=False)
         c.checks.expect("completion of " + typed, offered=(offered, run.stdout.split()), errors=("", run.stderr))
     out, _, _ = c.run("--help")
     jobs = set(re.findall(r"^    ([a-z]+)", out, re.MULTILINE)) - {"on"}

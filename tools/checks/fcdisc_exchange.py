@@ -211,21 +211,6 @@ def fitting(c: Changes) -> None:
                                                                     "$.A%A0folder~1.A%A0long%A0n~2": (3, b"2")}, short_tree(read(c.at("a.adf")))))
 
 
-def converting_to_fit(c: Changes) -> None:
-    """A disc with long names onto one with short ones: all files, and a list of names."""
-    c.start("hostile.adf")
-    before = tree_of(read(c.at("a.adf")))
-    out, err, status = c.run("convert", "--fit", "F", "a.adf", "b.adf")
-    files = [node for node in before.values() if node[3] is not None]
-    after = tree_of(read(c.at("b.adf")))
-    c.checks.expect("convert --fit", last=("%d of %d files copied to b.adf" % (len(files), len(files)), out.splitlines()[-1]), status=(0, status),
-                    contents=(sorted(node[3] for node in files), sorted(node[3] for node in after.values() if node[3] is not None)),
-                    arrows=(True, all(" -> " in line for line in out.splitlines()[:-1])), words=(
-                        sorted(node[1:3] for node in files), sorted(node[1:3] for node in after.values() if node[3] is not None)))
-    out, err, status = c.run("convert", "F", "a.adf", "c.adf")
-    c.checks.expect("convert names the option", told=(True, "(--fit gives it another name)" in err), status=(1, status))
-
-
 # ---- many refusals
 
 
@@ -255,8 +240,7 @@ def full_hosts(c: Changes) -> None:
             (["extract", "--inf", "../images/large.adf", "o"], 48, "fcdisc: ../images/large.adf: $.Large: not written: No space left on device\n"
              "fcdisc: ../images/large.adf: 0 of 2 files written\n", ". ./o ./pad"),
             (["extract", "--each", "../images/large.adf", "o"], 48, "fcdisc: ../images/large.adf: $.Large: not written: No space left on device\n"
-             "fcdisc: ../images/large.adf: 0 of 2 files written\n", ". ./o ./o/large.adf ./pad"),
-            (["convert", "F", "../images/large.adf", "n.adf"], 48, "fcdisc: n.adf: No space left on device\n", ". ./pad")):
+             "fcdisc: ../images/large.adf: 0 of 2 files written\n", ". ./o ./o/large.adf ./pad")):
         c.start()
         out, err, status = c.run(*words, within=FULL_DISK % (size, "echo > pad"))
         c.checks.expect("a full host: " + " ".join(words), told=(told, err), status=(1, status), left=(left, out.splitlines()[-1]))
@@ -276,5 +260,5 @@ def unwritable_hosts(c: Changes) -> None:
         c.checks.expect("a host that is only read: " + " ".join(words), told=(told, got[1]), status=(wanted, got[2]), left=(["a.adf"], c.names()))
 
 
-PARTS = (archives, latin_names, infs, endings, fitting, converting_to_fit, many_refusals)
+PARTS = (archives, latin_names, infs, endings, fitting, many_refusals)
 MOUNTED = (without_attributes, full_hosts, unwritable_hosts)

@@ -102,6 +102,7 @@ def readme(suite: Suite, program: str) -> None:
         table.write_table(folder)
         os.mkdir(os.path.join(folder, "bin"))
         os.symlink(program, os.path.join(folder, "bin", "fcore"))
+        os.symlink(os.environ["FCONVERT"], os.path.join(folder, "bin", "fconvert"))
         os.symlink(os.path.join(TOP, "scripts", "fcdisc"), os.path.join(folder, "bin", "fcdisc"))
         environment = {**os.environ, "FCORE": program, "PATH": "%s/bin:%s" % (folder, os.environ["PATH"])}
         # the examples also speak of an image with interleaved sides, and of one with a header
@@ -124,7 +125,7 @@ def made(words: List[str]) -> Optional[str]:
 
 def installed_differences(program: str, folder: str) -> Iterator[str]:
     root = os.path.join(folder, "root")
-    places = ["PROGRAM=" + program, "DESTDIR=" + root, "PREFIX=/there"]
+    places = ["PROGRAM=" + program, "CONVERTER=" + os.environ["FCONVERT"], "DESTDIR=" + root, "PREFIX=/there"]
     failed = made(["install", "uninstall", *places])
     left = [name for _, _, names in os.walk(root) for name in names]
     if failed or left:
@@ -135,13 +136,14 @@ def installed_differences(program: str, folder: str) -> Iterator[str]:
         yield failed
         return
     yield from started_differences(root + "/there/bin/fcdisc", folder)
-    for page in ("fcdisc.1", "fcore.1"):
+    for page in ("fcdisc.1", "fconvert.1", "fcore.1"):
         if not os.path.exists(root + "/there/share/man/man1/" + page):
             yield "there is no page " + page
 
 
 def packed_differences(program: str, folder: str) -> Iterator[str]:
-    ran = subprocess.run([os.path.join(TOP, "tools", "run"), "dist", program, folder], capture_output=True, text=True, check=False)
+    words = [os.path.join(TOP, "tools", "run"), "dist", program, os.environ["FCONVERT"], folder]
+    ran = subprocess.run(words, capture_output=True, text=True, check=False)
     if ran.returncode:
         yield ran.stdout + ran.stderr
         return
@@ -155,9 +157,12 @@ def packed_differences(program: str, folder: str) -> Iterator[str]:
 
 
 def started_differences(fcdisc: str, folder: str) -> Iterator[str]:
-    """A job of fcdisc, and interrupts while it starts: it ends by them, if it wasn't at its end, and says nothing."""
+    """Jobs of fcdisc, and interrupts while it starts: it ends by them, if it wasn't at its end, and says nothing."""
     table.write_image(os.path.join(folder, "hello.adf"), table.hello().image())
-    environment = {name: text for name, text in os.environ.items() if name != "FCORE"}
+    environment = {name: text for name, text in os.environ.items() if name not in ("FCORE", "FCONVERT")}
+    ran = subprocess.run([fcdisc, "convert", "F+", "hello.adf", "new.adf"], cwd=folder, env=environment, capture_output=True, check=False)
+    if ran.stdout != b"1 of 1 file copied to new.adf\n":
+        yield "fcdisc convert gives %r, and says %r" % (ran.stdout, ran.stderr)
     words = [fcdisc, "get", "hello.adf", "$.Hello", "-"]
     ran = subprocess.run(words, cwd=folder, env=environment, capture_output=True, check=False)
     if ran.stdout != b"Hello":
@@ -196,9 +201,9 @@ def man_pages(suite: Suite) -> None:
 
 def embedded(suite: Suite) -> None:
     """The images that the repository has are those of the table."""
-    data = os.path.join(TOP, "crates", "fcore", "data")
-    for name in sorted(os.listdir(data)):
-        if name.endswith(".adf") and suite.wants(name):
-            same = read(os.path.join(data, name)) == bytes(table.table()[0][name])
-            suite.note(name, [] if same else ["it isn't the image of the table"])
+    for data in (os.path.join(TOP, "crates", program, "data") for program in ("fcore", "fconvert")):
+        for name in sorted(os.listdir(data)):
+            if name.endswith(".adf") and suite.wants(name):
+                same = read(os.path.join(data, name)) == bytes(table.table()[0][name])
+                suite.note(name, [] if same else ["it isn't the image of the table"])
 
