@@ -14,11 +14,11 @@ _fcdisc()
         check) options='--offset --order --json --damaged --help' ;;
         new|strip|types) options='--help' ;;
         adl|undo) options='--back --help' ;;
-        put) options='--offset --order --backup --in-place --replace --type --types --help' ;;
-        add) options='--offset --order --backup --in-place --fit --verbose --types --replace --help' ;;
-        mkdir) options='--offset --order --backup --in-place -p --help' ;;
-        rm|cp) options='--offset --order --backup --in-place -r --help' ;;
-        mv|access|compact|reclaim) options='--offset --order --backup --in-place --help' ;;
+        put) options='--offset --order --backup --in-place --no-safe --replace --type --types --help' ;;
+        add) options='--offset --order --backup --in-place --no-safe --fit --verbose --types --replace --help' ;;
+        mkdir) options='--offset --order --backup --in-place --no-safe -p --help' ;;
+        rm|cp) options='--offset --order --backup --in-place --no-safe -r --help' ;;
+        mv|access|compact|reclaim) options='--offset --order --backup --in-place --no-safe --help' ;;
         convert) options='--offset --order --fit --verbose --help' ;;
         find) options='--offset --order --type --holds --sha256 --help' ;;
         diff) options='--offset --order --verbose --help' ;;

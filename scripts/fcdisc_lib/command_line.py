@@ -153,8 +153,8 @@ def add_whole(added: Jobs) -> None:
     job.add_argument("image", metavar="IMAGE")
 
     job = add_job(added, "convert", later("conversion", "convert"),
-                  "Make a disc of another format with all files of a disc. What can't be on it is "
-                  "reported; the rest is copied.")
+                  "Make a disc of another format with all files of a disc, or none: what can't be on it is "
+                  "named before anything is made.")
     add_order(job)
     job.add_argument("format", metavar="FORMAT", type=str.upper, choices=FORMATS, help=", ".join(FORMATS))
     job.add_argument("--fit", action="store_true", help="give other names to what the disc doesn't take, and list them")
@@ -171,8 +171,10 @@ def add_change(added: Jobs, name: str, run: Job, text: str,
     add_order(job)
     job.add_argument("--backup", choices=BACKUPS, default=BACKUPS[0], help="`first`: IMAGE~ is the image before the first "
                      "change, and stays; `each`: every change leaves one more, IMAGE~1~, IMAGE~2~ and so on")
-    job.add_argument("--in-place", action="store_true", help="change the image itself, without a copy: if that is cut off, the "
-                     "disc may be damaged; only in disc order and without a header")
+    job.add_argument("--in-place", action="store_true", help="change the image itself, without a copy: of a disc with big directories "
+                     "(E+, F+) each step is done whole or not at all; if it is cut off on another, the disc may be damaged; only in disc "
+                     "order and without a header")
+    job.add_argument("--no-safe", action="store_true", help="with --in-place, on any disc as on the others: faster, and it needs less room")
     if count:
         job.add_argument("image", metavar="IMAGE", nargs=count)
     else:

@@ -16,6 +16,7 @@ from typing import BinaryIO, Callable, Dict, Iterable, Iterator, List, NamedTupl
 from . import names
 from .backups import Backup
 from .complaints import Complaints
+from .description import describe
 from .contents import CHANGED, Content, LargeFile
 from .faults import refusal_explained
 from .fitting import SHORT_NAME
@@ -24,9 +25,9 @@ from .images import (AS_IT_IS, L_SIZE, SIDES, Image, copy, has_doubtful_order, n
                      pieces_from, read_at, size_of, to_interleaved)
 from .leftovers import remove_leftovers
 from .locks import is_same, locked_file, unbroken
-from .messages import FAILED, Trouble, counted, reason, shown
+from .messages import FAILED, Trouble, counted, reason, shown, tell
 from .output import Folder, NewFile, split_path
-from .program import SCRIPT_LIMIT, BadImage, Path, Refused, Run, scripts
+from .program import SAFE, SCRIPT_LIMIT, BadImage, NotSafe, Path, Refused, Run, scripts
 
 Result = TypeVar("Result")
 MOST_FILES, MOST_BYTES = 64, 1 << 28  # large files that one run takes, and their bytes if they are several
@@ -113,6 +114,7 @@ class Edit:
 
     def __init__(self, program: str, words: Namespace):
         self.program, self.name, self.order, self.in_place = program, words.image, words.order, words.in_place
+        self.is_safe = words.in_place and not words.no_safe  # each line whole or not at all, if the disc suits
         self.path = os.path.realpath(words.image)
         self.folder, self.file_name = split_path(self.path)
         self.backup = Backup(self.name, self.file_name, words.backup)
@@ -183,16 +185,32 @@ class Edit:
         """Runs a script that changes the disc."""
         if self.working is None:
             self.working = self.begin()
+        try:
+            return self.perform_once(script, read, given)
+        except NotSafe:
+            self.is_safe = False
+            return self.perform_once(script, read, given)
+
+    def perform_once(self, script: bytes, read: Callable[[Run], Result], given: Sequence[int]) -> Result:
+        assert self.working
         number = self.working.fileno()
+        self.is_safe = self.is_safe and describe(self.image.file).form.endswith("+")
         with unbroken() if self.in_place else nullcontext():
-            run = Run(self.program, self.name, ["--", "/dev/fd/%d" % number], script, [number], given)
+            run = Run(self.program, self.name, [*[SAFE] * self.is_safe, "--", "/dev/fd/%d" % number], script, [number], given)
             try:
                 with run:
                     return read(run)
             except (Trouble, BadImage) as error:
                 text = str(error) if isinstance(error, Trouble) else "%s: not accepted: %s" % (shown(self.name), error)
-                raise Trouble("%s: %s" % (text, "it was changed in place, and may be damaged: use check" if self.in_place
-                                          else "nothing was changed")) from None
+                raise Trouble("%s: %s" % (text, self.left())) from None
+
+    def left(self) -> str:
+        """What a job that broke off leaves."""
+        if not self.in_place:
+            return "nothing was changed"
+        if self.is_safe:
+            return "it was changed in place, in whole steps: what was done stands, and nothing is damaged"
+        return "it was changed in place, and may be damaged: use check"
 
     def change(self, steps: Iterable[Step]) -> None:
         """Makes the changes, by one run of fcore or as few as there can be."""
@@ -222,6 +240,8 @@ class Edit:
             except OSError as error:
                 raise self.no_copy(error) from None
         tell_failures(self.name, self.failures, verbose)
+        if self.is_safe and any(failure.name == "DiscFull" for failure in self.failures):
+            tell("%s: each directory that changes is written anew, which needs room: --no-safe does without" % shown(self.name))
         return FAILED if self.failures else 0
 
     def replace(self, holder: Folder) -> None:

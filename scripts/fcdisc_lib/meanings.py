@@ -133,6 +133,9 @@ REFUSALS: Dict[str, Refusal] = {
         "no piece of the disc's free space is long enough: use compact first"),
     "MapFull": Refusal(
         16, "of delete, save and create: the old map has no room for another hole", "the list of free space is full: use compact first"),
+    "Spread": Refusal(
+        17, "with --safe: more than nine zones of the map would change at once", "more than nine zones of the map would change at once: "
+        "--no-safe does that, but not whole or not at all"),
     "NoHostFile": Refusal(18, "of put: the host has no file of that name", "the file is no longer there"),
     "HostTooLong": Refusal(19, "of put: the host's file has more than 4,294,967,295 bytes", "it has more than 4,294,967,295 bytes"),
     "HostExists": Refusal(20, "of get: the host has a file of that name", "there is a file of its name here already"),

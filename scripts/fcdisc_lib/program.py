@@ -15,7 +15,8 @@ from .messages import Trouble, reason, shown
 SCRIPT_LIMIT = 1 << 24  # bytes; fcore takes no longer script
 BUFFER = 1 << 20
 DIRECTORY = 8  # of an object's attributes
-READ_ONLY = "--read-only"
+READ_ONLY, SAFE = "--read-only", "--safe"
+UNSUITED = (9, 10)  # the statuses of a disc that --safe doesn't serve, and of an fcore that hasn't it: nothing was done
 DONE = b"ok\n"  # the last line of a reply
 OPEN_FILES = "/dev/fd"  # the files that a program has open, by their numbers
 Path = Tuple[bytes, ...]
@@ -47,6 +48,10 @@ class Refused(Exception):
         self.name = name
 
 
+class NotSafe(Exception):
+    """The safe mode doesn't serve the disc; nothing was done."""
+
+
 class Entry(NamedTuple):
     """An object, as a directory lists it."""
 
@@ -65,19 +70,19 @@ class Entry(NamedTuple):
         return bool(self.attributes & DIRECTORY)
 
 
-def find_program() -> str:
-    """The fcore to use: $FCORE, else the one beside this program, else one on PATH, else the one that was built here."""
-    told = os.environ.get("FCORE")
+def find_program(name: str = "fcore") -> str:
+    """The fcore or fconvert to use: $FCORE, else the one beside this program, else one on PATH, else the one that was built here."""
+    told = os.environ.get(name.upper())
     if told:
         if not os.access(told, os.X_OK):
-            raise Trouble("$FCORE is %s, and that can't be run" % shown(told))
+            raise Trouble("$%s is %s, and that can't be run" % (name.upper(), shown(told)))
         return os.path.abspath(told)
     here = os.path.dirname(os.path.realpath(sys.argv[0]))
-    folders = [here, *os.get_exec_path(), os.path.join(here, "..", "crates", "fcore", "out")]
-    for place in (os.path.join(folder, "fcore") for folder in folders):
+    folders = [here, *os.get_exec_path(), os.path.join(here, "..", "crates", name, "out")]
+    for place in (os.path.join(folder, name) for folder in folders):
         if os.path.isfile(place) and os.access(place, os.X_OK):
             return os.path.abspath(place)
-    raise Trouble("there is no program fcore beside this one or on the PATH: install it, or name it by $FCORE")
+    raise Trouble("there is no program %s beside this one or on the PATH: install it, or name it by $%s" % (name, name.upper()))
 
 
 class Run:
@@ -94,7 +99,7 @@ class Run:
             raise Trouble("%s can't be run: %s" % (shown(program), reason(error))) from None
         assert self.process.stdin and self.process.stdout
         self.replies: BinaryIO = self.process.stdout  # type: ignore[assignment]
-        self.image, self.script = image, script
+        self.image, self.script, self.is_safe = image, script, SAFE in words
         self.ends = ENDS if READ_ONLY in words else WRITING_ENDS
 
     def __enter__(self) -> Run:
@@ -147,6 +152,8 @@ class Run:
         status = self.process.wait()
         if status == 3 and is_fault(line):
             return BadImage(line.decode("ascii").rstrip("\n").partition(" ")[2])
+        if self.is_safe and status in UNSUITED:
+            return NotSafe()
         if status < 0:
             return self.trouble("fcore was ended by signal %d" % -status)
         return changed if status in (0, 1) else self.trouble(self.ends.get(status, "fcore ended with status %d" % status))

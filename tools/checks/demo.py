@@ -115,7 +115,7 @@ class Demos:
             opened.write(bytes(1 << 20))
         self.expect("--demo over a bad image", (3, "bad-image NoKind\n"), self.run(["--demo", "7", "zeros.adf"]))
         self.expect("--demo without an image", (12, ""), self.run(["--demo", "7", "nothing.adf"]))
-        self.expect("--demo --safe", (9, ""), self.run(["--demo", "7", "--safe", "zeros.adf"]))
+        self.expect("--demo --safe over a bad image", (3, "bad-image NoKind\n"), self.run(["--demo", "7", "--safe", "zeros.adf"]))
         full = subprocess.run("%s --new E --demo 3 full.adf > /dev/full" % self.program, shell=True).returncode
         self.expect("--demo on a full output", 6, full)
         os.remove("full.adf")

@@ -10,7 +10,7 @@ import collections
 import errno
 import os
 import subprocess
-from typing import Counter, Dict, Iterable, List, Optional, Set, Tuple, Union
+from typing import Counter, Dict, Iterable, List, Optional, Sequence, Set, Tuple, Union
 
 from tools.checks import crash
 from tools.checks.outside import fault, some_of
@@ -54,8 +54,8 @@ class Ended:
 class Shimmed:
     """The built program over an image in a folder of its own, with the object between it and the system."""
 
-    def __init__(self, program: str, folder: str) -> None:
-        self.program, self.image = os.path.realpath(program), os.path.join(folder, "shimmed.adf")
+    def __init__(self, program: str, folder: str, options: Sequence[str] = ()) -> None:
+        self.program, self.options, self.image = os.path.realpath(program), options, os.path.join(folder, "shimmed.adf")
         self.shim, self.log = built_shim(folder), os.path.join(folder, "log")
         self.left: Optional[bytes] = None  # what the file holds
 
@@ -66,7 +66,7 @@ class Shimmed:
         environment = {"LD_PRELOAD": self.shim, "OUTSIDE_FAULTS": faults}
         if is_noted:
             environment["OUTSIDE_LOG"] = self.log
-        ran = subprocess.run([self.program, self.image], input=script, stdout=subprocess.PIPE, stderr=subprocess.STDOUT, check=False,
+        ran = subprocess.run([self.program, *self.options, self.image], input=script, stdout=subprocess.PIPE, stderr=subprocess.STDOUT, check=False,
                              timeout=MOST_SECONDS, env=environment)
         found = read(self.image)
         left = self.left = image if found == image else found

@@ -18,8 +18,8 @@ import tempfile
 from types import ModuleType
 from typing import TYPE_CHECKING, Callable, Collection, Dict, Iterable, Iterator, List, Optional, Sequence, Tuple, TypeVar, Union
 
-from tools.checks import (examples, fcdisc_backups, fcdisc_cases, fcdisc_changes, fcdisc_collections, fcdisc_everyday,
-                          fcdisc_exchange, fcdisc_table)
+from tools.checks import (examples, fcdisc_backups, fcdisc_cases, fcdisc_changes, fcdisc_collections, fcdisc_conversions, fcdisc_everyday,
+                          fcdisc_exchange, fcdisc_safe, fcdisc_table)
 from tools.checks.selection import Suite, shortened
 from tools.checks.work_folders import fill, snapshot, wait_for
 from tools.files import TOP
@@ -476,6 +476,14 @@ def keeping(suite: Suite, fcore: str) -> None:
         mounts = can_mount()
         for module in (fcdisc_backups, fcdisc_exchange, fcdisc_everyday):
             run_parts(checks, fcdisc_changes.Changes(checks), (*module.PARTS, *(module.MOUNTED if mounts else ())))
+        run_parts(checks, fcdisc_changes.Changes(checks), fcdisc_safe.PARTS)
+
+
+def conversions(suite: Suite, fcore: str) -> None:
+    """`convert`, under which fconvert works, in its own cases and over each disc."""
+    with prepared(suite, fcore) as checks:
+        run_parts(checks, fcdisc_changes.Changes(checks), (*fcdisc_conversions.PARTS, *(fcdisc_conversions.MOUNTED if can_mount() else ())))
+        fcdisc_conversions.each_disc(checks)
 
 
 def by_conditions(suite: Suite, fcore: str) -> None:
@@ -485,7 +493,7 @@ def by_conditions(suite: Suite, fcore: str) -> None:
 
 
 def rounds(suite: Suite, fcore: str) -> None:
-    """`extract` and `add`, and `convert`, of each disc; and by archives and .inf files."""
+    """`extract` and `add` of each disc; and by archives and .inf files."""
     with prepared(suite, fcore) as checks:
         fcdisc_changes.run_rounds(checks)
         for name, _, data in fcdisc_changes.whole_discs(checks):

@@ -191,10 +191,10 @@ def reads(place: Place) -> None:
 STATUSES = [
     (0, ["disc.adf"], "empty"), (1, ["disc.adf"], "refused"), (2, ["--unknown", "disc.adf"], "script"),
     (3, ["zeros.adf"], "script"), (3, ["/dev/null"], "script"), (4, ["."], "script"),
-    (8, ["disc.adf"], "long"), (9, ["--safe", "disc.adf"], "script"), (12, ["none.adf"], "script"),
+    (8, ["disc.adf"], "long"), (10, ["--safe", "disc.adf"], "script"), (12, ["none.adf"], "script"),
     (12, ["--new", "E", "disc.adf"], "script"), (12, ["--new", "E", "victim.adf"], "script"),
     (8, ["--new", "E", "fresh.adf"], "long"), (4, ["--new", "E", "none/fresh.adf"], "script"),
-    (9, ["--safe", "--new", "E", "fresh.adf"], "script"),
+    (12, ["--safe", "none.adf"], "script"), (3, ["--safe", "zeros.adf"], "script"),
     (2, [b"d\xffsc.adf"], "script"), (2, ["--new", "E", b"fresh\xff.adf"], "script"), (2, [""], "script"),
     (12, ["n" * 300], "script"), (12, ["n" * 5000], "script"), (12, ["disc.adf/"], "script"),
     (4, ["--new", "E", "n" * 300], "script"), (4, ["--new", "E", "n" * 5000], "script"),
@@ -229,10 +229,10 @@ def wanted_of_closed(words: List[str], script: str, closed: Tuple[int, ...]) -> 
     """Status and what is left of fresh.adf: the words come first, then the script, the image, the replies."""
     if "--unknown" in words:
         return 2, "absent"
-    if "--safe" in words:
-        return 9, "absent"
     if 0 in closed:
         return 5, "absent"
+    if "--safe" in words:
+        return 10, "absent"  # the disc doesn't suit
     if "none.adf" in words:
         return 12, "absent"
     left = "whole" if "--new" in words else "absent"
@@ -482,7 +482,7 @@ def main(program: str) -> Optional[bool]:
             disturbed_making(place, place.run(["--new", "E", "fresh.adf"]).output)
             kills(place)
             limits(place)
-            wanted = {0, 1, 2, 3, 4, 5, 6, 7, 8, 9, 12}
+            wanted = {0, 1, 2, 3, 4, 5, 6, 7, 8, 10, 12}
             place.note("statuses", wanted <= place.seen, "never seen: %s" % sorted(wanted - place.seen))
         finally:
             shutil.rmtree(place.root)

@@ -156,18 +156,19 @@ def refused_changes() -> Iterator[Case]:
                    ROOT_REFUSED + NOT_FOUND, made=("set-%s.adf" % form, "fresh-%s.adf" % form))
 
 
-# ---- what isn't implemented yet: status 9 before anything is attached; and images that can't be changed
+# ---- images that can't be changed, and discs that the safe mode doesn't serve: status 10, and no line is run
 
 
-def unbuilt() -> Iterator[Case]:
+def unsuited() -> Iterator[Case]:
     yield Case("change-no-image", ["nothing.adf"], "cdir $.A\n", 12)
     yield Case("delete-no-image", ["nothing.adf"], "delete $.A\n", 12)
     yield Case("set-bad-image", ["zeros.adf"], f"set $.A {ZEROS} R\n", 3, "bad-image NoKind\n")
     yield Case("compact-bad-image", ["zeros.adf"], "compact\n", 3, "bad-image NoKind\n")
     for at, words in enumerate((["--safe"], ["--safe", "--demo", "1"])):
-        yield Case("option-%d" % at, [*words, "hello.adf"], "load $.hello\n", 9)
-        yield Case("option-%d-no-image" % at, ["nothing.adf", *words], "", 9)
-    yield Case("new-and-safe", ["--new", "E+", "--safe", "unmade.adf"], "free\n", 9, absent="unmade.adf")
+        yield Case("option-%d" % at, [*words, "hello.adf"], "load $.hello\n", 10)
+        yield Case("option-%d-no-image" % at, ["nothing.adf", *words], "", 12)
+    yield Case("new-and-safe", ["--new", "E+", "--safe", "safe.adf"], "free\n", 0, "free 815104 815104\nok\n", made=("safe.adf", "fresh-E+.adf"))
+    yield Case("new-and-not-safe", ["--new", "E", "--safe", "not-safe.adf"], "", 10, made=("not-safe.adf", "fresh-E.adf"))
 
 
 # ---- words
@@ -207,9 +208,9 @@ def words() -> Iterator[Case]:
     for at, image in enumerate((["--", "--new"], ["--", "-x"], ["help"], ["a=b"], ["a=b", "--read-only"])):
         yield Case("no-such-image-%d" % at, image, "load $.hello\n", 12)
     yield Case("new-behind-dashes", ["--new", "D", "--", "nowhere/-x"], "free\n", 4)
-    for at, all_options in enumerate((["--safe", "a folder/hello.adf", "--demo", "10000", "--read-only"], ["--safe", "--", "--"],
-                                      ["--demo=1", "--safe", "nothing.adf", "--new", "E+"])):
-        yield Case("options-%d" % at, all_options, "load $.hello\n", 9, absent="nothing.adf")
+    for at, (status, all_options) in enumerate((
+            (10, ["--safe", "a folder/hello.adf", "--demo", "10000", "--read-only"]), (12, ["--safe", "--", "--"]), (10, ["--demo=1", "--safe", "hello.adf"]))):
+        yield Case("options-%d" % at, all_options, "load $.hello\n", status)
 
 
 # ---- fresh volumes
@@ -231,5 +232,5 @@ def fresh() -> Iterator[Case]:
 
 
 def all_cases() -> Iterator[Case]:
-    for group in (grammar, long_scripts, compaction, lost_space, refused_changes, unbuilt, words, fresh):
+    for group in (grammar, long_scripts, compaction, lost_space, refused_changes, unsuited, words, fresh):
         yield from group()
