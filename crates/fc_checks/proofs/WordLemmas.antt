@@ -20,6 +20,13 @@ pub words-drop : (bs : List ℕ) (i : ℕ) → i + 4 ≤ length bs → words (dr
 words-drop bs i h =
     words-first (drop i bs) (omega (arith, length-drop i bs)) ∙ ap (λ rest. u32_at bs i ∷ words rest) (drop-drop 4 i bs)
 
+-- the words of 16 bytes stand before the rest
+pub words-four : (bs : List ℕ) → 16 ≤ length bs → words bs ≡ u32_at bs 0 ∷ u32_at bs 4 ∷ u32_at bs 8 ∷ u32_at bs 12 ∷ words (drop 16 bs)
+words-four bs h =
+    words-drop bs 0 (omega arith)
+    ∙ ap (λ rest. u32_at bs 0 ∷ rest) (words-drop bs 4 (omega arith)
+    ∙ ap (λ rest. u32_at bs 4 ∷ rest) (words-drop bs 8 (omega arith) ∙ ap (λ rest. u32_at bs 8 ∷ rest) (words-drop bs 12 (omega arith))))
+
 -- fewer than four bytes have no word
 pub words-few : (bs : List ℕ) → length bs < 4 → words bs ≡ []
 words-few [] h = refl

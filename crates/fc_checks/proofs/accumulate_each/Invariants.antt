@@ -2,7 +2,7 @@ use Rattle.std.proofs.Common.{◌≡◌, ◌*◌, drop}
 use Rattle.std.specs.List.{fold}
 use Rattle.fc_bytes.specs.Words.{words}
 use Rattle.fc_checks.specs.Checks.{accumulate}
-use Rattle.fc_checks.proofs.accumulate_words.Given as goal
+use Rattle.fc_checks.proofs.accumulate_each.Given as goal
 
 -- with the words that are left the whole is taken in
 abbrev pub invariant-loop-i : goal.invariant-loop-i

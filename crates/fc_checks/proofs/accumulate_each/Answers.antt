@@ -5,7 +5,7 @@ use Rattle.byteorder.specs.Endian.{little_number}
 use Rattle.fc_bytes.specs.Words.{words, u32_at}
 use Rattle.fc_checks.specs.Checks.{accumulate}
 use Rattle.fc_checks.proofs.WordLemmas.{words-drop, words-few}
-use Rattle.fc_checks.proofs.accumulate_words.Goals as goal
+use Rattle.fc_checks.proofs.accumulate_each.Goals as goal
 
 pub loop-i-preserved : goal.loop-i-preserved
 loop-i-preserved c =
