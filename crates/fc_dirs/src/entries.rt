@@ -8,7 +8,7 @@ use fc_device::NoMemory;
 use fc_names::{Attrs, Name, fold_less};
 
 impl Entry {
-    /// The same entry, with memory for its name.
+    /// The same entry, with its own memory if the name is long.
     pub fn copied(&self) -> Result<Entry, NoMemory>
         ensures { IfOk result (λ copy. copy ≡ self.now) }
     {

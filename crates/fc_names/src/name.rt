@@ -4,29 +4,68 @@ ghost use Rattle.std.specs.List.{All};
 ghost use Rattle.fc_names.specs.Names.{IsName, name_cmp, is_same_name, is_name_before, is_plain, is_writable, is_writable_byte, name_limit, upper};
 
 use fc_device::NoMemory;
-use std::alloc::Global;
+use std::alloc::{AllocError, Global};
 use std::cmp::Ordering;
+use std::fmt;
 use std::marker::Model;
 
 /// The most bytes of a name.
 pub const LONGEST: usize = 255;
 
-/// The name of an object: 1 to 255 bytes, each at least 32. It takes memory of its own length.
-#[derive(Clone, Debug, Drop)]
+// The most bytes of a name that takes no memory.
+const INLINE: usize = 30;
+
+/// The name of an object: 1 to 255 bytes, each at least 32. At most 30 bytes stand in the value itself, and only a
+/// longer name takes memory.
+#[derive(Drop)]
 pub struct Name {
-    bytes: Vec<u8>,
+    place: Place,
 }
+
+// Where the bytes of a name stand.
+#[derive(Drop)]
+enum Place {
+    // The first `len` of these bytes.
+    Inline { len: u8, bytes: [u8; INLINE] },
+    Memory(Vec<u8>),
+}
+
+const _: () = prove!(size_of::<Name>() == 32);
 
 impl Model for Name {
     ghost use Rattle.std.specs.Prelude.{List, ℕ};
 
     ghost Value = { List ℕ };
 
-    ghost use Rattle.fc_names.specs.Names.{IsName};
+    ghost use Rattle.fc_names.specs.Places.{name_at, IsPlace};
 
-    ghost view = { λ n. n.bytes.items };
+    ghost view = { λ n. name_at n.place };
 
-    ghost invariant = { λ n. IsName n.bytes.items };
+    ghost invariant = { λ n. IsPlace n.place };
+}
+
+impl Clone for Name {
+    ghost is_clone = { λ name copy. copy ≡ name };
+
+    fn clone(&self) -> Result<Name, AllocError> {
+        Ok(Name {
+            place: match &self.place {
+                Place::Inline { len, bytes } => Place::Inline {
+                    len: *len,
+                    bytes: *bytes,
+                },
+                Place::Memory(bytes) => Place::Memory(bytes.clone()?),
+            },
+        })
+    }
+}
+
+impl fmt::Debug for Name {
+    fn fmt<W: fmt::Write>(&self, f: &mut fmt::Formatter<W>) -> fmt::Result {
+        f.debug_struct("Name")
+            .field("bytes", &self.bytes())
+            .finish()
+    }
 }
 
 impl PartialEq for Name {
@@ -69,8 +108,19 @@ impl Name {
         requires printed { All (λ c. 32 ≤ c) b.now }
         ensures { IfOk result (λ name. name ≡ b.now) }
     {
+        if b.len() > INLINE {
+            let bytes = Vec::from_slice(alloc, b)?;
+            return Ok(Name {
+                place: Place::Memory(bytes),
+            });
+        }
+        let mut bytes = [0; INLINE];
+        bytes[..b.len()].copy_from_slice(b);
         Ok(Name {
-            bytes: Vec::from_slice(alloc, b)?,
+            place: Place::Inline {
+                len: b.len() as u8,
+                bytes,
+            },
         })
     }
 
@@ -79,7 +129,10 @@ impl Name {
         ensures same { result.now ≡ self.now }
         ensures name { IsName self.now }
     {
-        &self.bytes
+        match &self.place {
+            Place::Inline { len, bytes } => &bytes[..usize::from(*len)],
+            Place::Memory(bytes) => bytes,
+        }
     }
 }
 
@@ -114,7 +167,7 @@ pub fn fold_cmp_bytes(a: &[u8], b: &[u8]) -> Ordering
 pub fn fold_eq(a: &Name, b: &Name) -> bool
     ensures { result ≡ is_same_name a.now b.now }
 {
-    fold_cmp(a, b).is_eq()
+    a.bytes().eq_ignore_ascii_case(b.bytes())
 }
 
 /// Whether a name comes before another, with `a` to `z` taken as `A` to `Z`.
