@@ -2,8 +2,8 @@
 # SPDX-License-Identifier: MIT
 """Changes discs in the safe mode with the built program, and looks at each reply and image, and at what crashes and I/O errors leave.
 
-usage: tools/run checks/safe PROGRAM [--discs N] [--commands N] [--draws N] [--failing N] [--seed N]    30 discs, if nothing else is said
-       tools/run checks/safe PROGRAM --whole    100,000 images and more
+usage: tools/run checks/safe PROGRAM [--discs N] [--commands N] [--draws N] [--failing N] [--seed N] [--workers N]    30 discs, if nothing else is said
+       tools/run checks/safe PROGRAM --whole    100,000 images and more, by as many workers as there are processors; a line a disc
        tools/run checks/safe PROGRAM --plain    the same crashes without the safe mode, of which most lines have to be found out
 
 Lines are drawn over discs that suit (fragmented ones, shared identifiers, directories and roots that grow, nearly full ones). The reply has
@@ -17,6 +17,7 @@ from __future__ import annotations
 
 import argparse
 import collections
+import concurrent.futures
 import hashlib
 import os
 import random
@@ -251,9 +252,10 @@ class Safe:
         except Wrong as wrong:
             self.note("calls fail over disc %d, %s" % (number, name), str(wrong))
 
-    def all(self) -> bool:
-        number = found = failing = 0
-        while found < self.options.discs:
+    def share(self, number: int, step: int) -> int:
+        """Every `step`th disc from one on, until there are as many discs and images as each worker owes: how many discs suited."""
+        found = failing = 0
+        while found * step < self.options.discs or self.counts["images"] * step < self.options.images:
             name, image = drawn_discs.image_of(number)
             state = opened(image)
             if not is_suitable(state):
@@ -261,10 +263,22 @@ class Safe:
             else:
                 found += 1
                 script = self.disc(number, name, image)
-                if failing < self.options.failing and len(image) < 3 << 20:
+                if failing * step < self.options.failing and len(image) < 3 << 20:
                     failing += 1
                     self.failing(number, name, image, script)
-            number += 1
+                if self.options.whole:
+                    print("disc %d, %s: %d images so far, %d failed" % (number, name, self.counts["images"], len(self.failures)), flush=True)
+            number += step
+        return found
+
+    def all(self) -> bool:
+        found, count = 0, self.options.workers
+        with concurrent.futures.ProcessPoolExecutor(count) as pool:
+            for part in [pool.submit(share_of, self.options, at) for at in range(count)]:
+                discs, counts, failures = part.result()
+                found += discs
+                self.counts.update(counts)
+                self.failures += failures
         return self.told(found)
 
     def unsuited(self, number: int, name: str, image: bytes) -> None:
@@ -304,6 +318,13 @@ class Safe:
         print("safe: %d discs, %d images, of which %d read, %d failing calls; %d failed" % (
             discs, self.counts["images"], self.counts["images read"], self.counts["failing calls"], len(self.failures)))
         return not self.failures
+
+
+def share_of(options: argparse.Namespace, at: int) -> Tuple[int, Counter[str], List[str]]:
+    """What one of the workers finds: how many discs suited, its counts, and its failures."""
+    with tempfile.TemporaryDirectory() as folder:
+        safe = Safe(options, folder)
+        return safe.share(at, options.workers), safe.counts, safe.failures
 
 
 def first_reply(state: State, line: bytes) -> Tuple[str, int, Optional[SafeNeeds]]:
@@ -415,13 +436,15 @@ def rows(program: str, folder: str) -> Iterator[str]:
 def main(words: List[str]) -> bool:
     parser = argparse.ArgumentParser(usage=__doc__, add_help=False)
     parser.add_argument("program")
-    for name, value in (("--discs", 30), ("--commands", 12), ("--draws", 3), ("--failing", 3), ("--seed", 1), ("--each", 8), ("--moments", 40)):
+    for name, value in (("--discs", 30), ("--commands", 12), ("--draws", 3), ("--failing", 3), ("--seed", 1), ("--each", 8), ("--moments", 40),
+                        ("--images", 0), ("--workers", 1)):
         parser.add_argument(name, type=int, default=value)
     for name in ("--whole", "--plain"):
         parser.add_argument(name, action="store_true")
     options = parser.parse_args(words)
     if options.whole:
-        options.discs, options.commands, options.draws, options.failing, options.moments = 48, 40, 8, 10, 200
+        options.discs, options.commands, options.draws, options.failing, options.moments, options.images = 48, 40, 8, 10, 200, 100000
+        options.workers = os.cpu_count() or 1
     if not has_compiler():
         print("safe: left out, no C compiler here (%s)" % compiler()[0])
         return True
