@@ -1,14 +1,15 @@
--- What is kept beside a list of owners of their directories: the nodes that each holds.
-use Rattle.std.specs.Prelude.{ℕ, List, IsPermutation, IsTrue, filter, map}
+-- What is kept beside a list of owners of their directories: the owners that each holds.
+use Rattle.std.specs.Prelude.{ℕ, Bool, List, IsPermutation, IsTrue, filter}
 use Rattle.fc_alloc.specs.declared.owner.Owner.{Owner}
 use Rattle.fc_alloc.specs.declared.held.Held.{Held}
-use Rattle.fc_alloc.specs.Lists.{nodes_at}
-use Rattle.fc_alloc.specs.Owners.{is_held}
+use Rattle.fc_alloc.specs.Lists.{row_at}
+use Rattle.fc_alloc.specs.Owners.{AreInOrder, is_held}
 
--- the nodes of the owners that a directory holds
-abbrev pub nodes_held : List Owner → ℕ → List ℕ
-nodes_held owners dir = map (λ o. o.node) (filter (is_held dir) owners)
+-- These are the owners that the directory holds, in order once the table is settled.
+pub record IsRow (dir : ℕ) (settled : Bool) (owners row : List Owner) : Type 0 where
+  pub same : IsPermutation (filter (is_held dir) owners) row
+  pub sorted : IsTrue settled → AreInOrder row
 
--- unless it was given up, the table has each directory's nodes, in any order
+-- unless it was given up, the table has each directory's owners
 abbrev pub AreHeld : List Owner → Held → Type 0
-AreHeld owners held = IsTrue held.complete → (dir : ℕ) → IsPermutation (nodes_held owners dir) (nodes_at held.table.items dir)
+AreHeld owners held = IsTrue held.complete → (dir : ℕ) → IsRow dir held.settled owners (row_at held.rows.items dir)

@@ -1,6 +1,8 @@
 -- Lists of owners.
-use Rattle.std.specs.Prelude.{ℕ, Bool, ◌==◌, nat_eq, if◌then◌else◌, List, map}
+use Rattle.std.specs.Prelude.{◌≡◌, ◌<◌, ◌≤◌, ◌&&◌, ◌||◌, ◌==◌, ℕ, Bool, nat_eq, nat_lt, if◌then◌else◌, List, IsPermutation, filter, length, map, slice_index_or}
+use Rattle.std.specs.Bool.{beq}
 use Rattle.std.specs.List.{list_any, IsDistinct}
+use Rattle.std.specs.List.Sorted.{IsNonDecreasingBy}
 use Rattle.fc_alloc.specs.declared.owner.Owner.{Owner}
 
 -- whether an owner is that of this node
@@ -30,3 +32,21 @@ with_changed o owners = map (λ p. if is_node o.node p then o else p) owners
 -- no two owners are of one node
 abbrev pub HaveOwnNodes : List Owner → Type 0
 HaveOwnNodes owners = IsDistinct nat_eq (map (λ o. o.node) owners)
+
+-- whether two owners are the same
+abbrev pub is_same : Owner → Owner → Bool
+is_same p o = p.id == o.id && (p.dir == o.dir && (p.node == o.node && (beq p.file o.file && (p.low == o.low && (p.first == o.first && p.sectors == o.sectors)))))
+
+-- whether an owner has a lower identifier than another, or the same and a lower first sector
+abbrev pub comes_before : Owner → Owner → Bool
+comes_before p o = nat_lt p.id o.id || (p.id == o.id && nat_lt p.first o.first)
+
+-- Identifiers do not fall, and of one identifier first sectors do not.
+pub record AreInOrder (owners : List Owner) : Type 0 where
+  pub ids : IsNonDecreasingBy (λ o. o.id) owners
+  pub firsts : (i j : ℕ) (d : Owner) → i ≤ j → j < length owners → (slice_index_or owners i d).id ≡ (slice_index_or owners j d).id → (slice_index_or owners i d).first ≤ (slice_index_or owners j d).first
+
+-- These are the owners that the directory holds, in order.
+pub record AreHeldBy (dir : ℕ) (owners held : List Owner) : Type 0 where
+  pub same : IsPermutation (filter (is_held dir) owners) held
+  pub sorted : AreInOrder held

@@ -1,12 +1,11 @@
 // What is kept beside a list of owners: by node, where its owner stands; by identifier, how many owners have it.
-ghost use Rattle.std.specs.Prelude.{◌≡◌, ◌<◌, ◌≤◌, ◌+◌, ◌-◌, ◌^◌, ◌++◌, ℕ, Some, length, replicate, slice_index, slice_set, vec_len, count_by, IfOk, OnOk, IsFalse, MatchOption};
-ghost use Rattle.std.specs.List.{HoldsAt, filter_map, find};
+ghost use Rattle.std.specs.Prelude.{◌≡◌, ◌<◌, ◌≤◌, ◌+◌, ◌-◌, ◌^◌, ◌++◌, ℕ, Some, length, replicate, slice_index, slice_set, vec_len, count_by, OnOk, IsFalse, MatchOption};
+ghost use Rattle.std.specs.List.{HoldsAt, find};
 ghost use Rattle.fc_alloc.specs.Owners.{has_node, is_node, owns};
 ghost use Rattle.fc_alloc.specs.Index.{AreCounts, ArePlaces};
 
 use crate::Owner;
 use fc_device::NoMemory;
-use std::alloc::{AllocError, Global};
 
 // Where the owner of a node stands.
 pub fn place_of(list: &[Owner], places: &[usize], node: u64) -> Option<usize>
@@ -33,25 +32,6 @@ pub fn owner_of(list: &[Owner], places: &[usize], node: u64) -> Option<Owner>
         return None;
     };
     Some(list[place])
-}
-
-// The owners of nodes, in their order. Those without one are passed over.
-pub fn owners_of(
-    alloc: Global,
-    list: &[Owner],
-    places: &[usize],
-    nodes: &[u64],
-) -> Result<Vec<Owner>, AllocError>
-    requires { ArePlaces list.now places.now }
-    ensures { IfOk result (λ found. found.items ≡ filter_map (λ node. find (is_node node) list.now) nodes.now) }
-{
-    let mut found = Vec::new(alloc);
-    for node in nodes {
-        if let Some(owner) = owner_of(list, places, *node) {
-            found.push(owner)?;
-        }
-    }
-    Ok(found)
 }
 
 // Grows the table of places so that it has a node.

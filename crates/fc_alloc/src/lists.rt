@@ -1,6 +1,6 @@
-//! Lists of the numbers of nodes, by the number of a directory. A directory past the end has none.
+//! Rows by the number of a directory, as the numbers of its nodes. A directory past the end has an empty row.
 ghost use Rattle.std.specs.Prelude.{◌≡◌, ◌≢◌, ◌<◌, ◌++◌, ◌∷◌, [], ℕ, vec_len, IsOk, OnOk};
-ghost use Rattle.fc_alloc.specs.Lists.{nodes_at};
+ghost use Rattle.fc_alloc.specs.Lists.{nodes_at, row_at};
 
 use std::alloc::AllocError;
 
@@ -15,9 +15,9 @@ pub fn put_last(lists: &mut Vec<Vec<u64>>, dir: u64, node: u64) -> Result<(), Al
     Ok(())
 }
 
-/// Adds empty lists until a directory has one.
-pub fn grow(lists: &mut Vec<Vec<u64>>, dir: usize) -> Result<(), AllocError>
-    ensures same { (d : ℕ) → nodes_at lists.new.items d ≡ nodes_at lists.old.items d }
+/// Adds empty rows until a directory has one.
+pub fn grow<T: Drop>(lists: &mut Vec<Vec<T>>, dir: usize) -> Result<(), AllocError>
+    ensures same { (d : ℕ) → row_at lists.new.items d ≡ row_at lists.old.items d }
     ensures room { OnOk result (dir < vec_len lists.new) }
 {
     let Some(len) = dir.checked_add(1) else {

@@ -1,14 +1,12 @@
 // The owners of a disc's identifiers.
-ghost use Rattle.std.specs.Prelude.{◌≡◌, [], ◌∷◌, ◌++◌, Contains, IsPermutation, IfOk, IsFalse, IsTrue, OnErr, OnOk, count_by, filter};
+ghost use Rattle.std.specs.Prelude.{◌≡◌, [], ◌∷◌, ◌++◌, Contains, IsPermutation, IfSome, IsFalse, IsTrue, OnErr, OnOk, count_by};
 ghost use Rattle.std.specs.List.{find};
-ghost use Rattle.fc_alloc.specs.Owners.{HaveOwnNodes, has_node, is_held, is_id_owned, is_node, owns, with_changed};
+ghost use Rattle.fc_alloc.specs.Owners.{AreHeldBy, HaveOwnNodes, has_node, is_id_owned, is_node, owns, with_changed};
 ghost use Rattle.fc_alloc.specs.declared.owner.Owner.{Owner};
 
 use crate::Owner;
 use crate::held::Held;
-use crate::index::{
-    count_down, count_in, count_up, grow_counts, grow_places, owner_of, owners_of, place_of,
-};
+use crate::index::{count_down, count_in, count_up, grow_counts, grow_places, owner_of, place_of};
 use fc_device::NoMemory;
 use std::alloc::Global;
 use std::marker::Model;
@@ -21,7 +19,7 @@ pub struct Owners {
     places: Vec<usize>,
     // By identifier, how many owners have it. `change` may bring identifiers past the table's end.
     counts: Vec<usize>,
-    // By directory, the nodes of the owners that it holds.
+    // By directory, the owners that it holds.
     held: Held,
     // No owner has a greater identifier.
     top: u32,
@@ -127,17 +125,21 @@ impl Owners {
         }
     }
 
-    /// The owners of the objects that a directory holds, in any order. The directory is given by the number of its node.
-    pub fn held_by(&self, alloc: Global, dir: u64) -> Result<Vec<Owner>, NoMemory>
-        ensures { IfOk result (λ found. IsPermutation (filter (is_held dir) self.now) found.items) }
+    /// Puts the owners of each directory in order for `held_in`, and keeps them so from now on. It is called once all owners of a
+    /// disc were added: to put each in its place as it comes takes the square of a directory's length where they come in another
+    /// order.
+    pub fn settle(&mut self)
+        ensures { self.new ≡ self.old }
     {
-        match self.held.get(dir) {
-            Some(nodes) => Ok(owners_of(alloc, &self.list, &self.places, nodes)?),
-            None => {
-                let all = self.list.iter().copied();
-                Ok(all.filter(|o| o.dir == dir).collect(alloc)?)
-            }
-        }
+        self.held.settle();
+    }
+
+    /// The owners of the objects that a directory holds, in order. The directory is given by the number of its node. `None`
+    /// before `settle`, and if there was no memory to keep them.
+    pub fn held_in(&self, dir: u64) -> Option<&[Owner]>
+        ensures { IfSome result (λ held. AreHeldBy dir self.now held.now) }
+    {
+        self.held.get(dir)
     }
 
     /// Whether an owner has this identifier.

@@ -3,7 +3,7 @@ ghost use Rattle.std.specs.Prelude.{◌≡◌, ◌⊎◌, ◌≤◌, ◌<◌, �
 ghost use Rattle.std.specs.List.{range_with_len};
 ghost use Rattle.std.specs.Option.{ForSome};
 ghost use Rattle.fc_device.specs.Faults.{HasCause};
-ghost use Rattle.fc_device.specs.Form.{KeepsForm, IsFresh, IsUntouched};
+ghost use Rattle.fc_device.specs.Form.{KeepsForm, KeepsImage, IsFresh, IsUntouched};
 ghost use Rattle.fc_device.specs.Sectors.{row_at, sector_at, with_row, with_sector};
 ghost use Rattle.fc_device.specs.Stops.{HasRowPart, LeavesOnly, RowOldOrNew, SectorOldOrNew, StillLeaves};
 ghost use Rattle.fc_cache.specs.Sectors.{entries_of, entries_without, is_kept, AreSectors, AreWhole, KeepsRead, KeepsWritten};
@@ -101,15 +101,11 @@ impl<D: Disk> Disk for CachedDisk<D> {
         requires least { 8 ≤ log2 }
         requires most { log2 ≤ 10 }
         ensures size { size_of self.new ≡ 2 ^ log2 }
-        ensures attached { attached_of self.new ≡ attached_of self.old }
-        ensures gives { gives_of self.new ≡ gives_of self.old }
-        ensures asked { asked_of self.new ≡ asked_of self.old }
-        ensures length { length_of self.new ≡ length_of self.old }
+        ensures image { KeepsImage attached_of tells_stops_of gives_of asked_of length_of self.old self.new }
         ensures bytes { bytes_of self.new ≡ bytes_of self.old }
         ensures pending { pending_of self.new ≡ pending_of self.old }
         ensures stops { LeavesOnly moment_of left_of self.old self.new (left_of self.old (moment_of self.old)) }
         ensures still { StillLeaves moment_of left_of self.old self.new }
-        ensures tells_stops { tells_stops_of self.new ≡ tells_stops_of self.old }
         ensures read_calls { reads_of self.new ≡ reads_of self.old }
         ensures faults { faults_of self.old ≤ faults_of self.new }
 

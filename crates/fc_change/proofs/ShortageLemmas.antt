@@ -144,6 +144,10 @@ pub bits_suffice : (m : Map) (refusal : Option Refusal) (bits : ℕ) → Answers
 bits_suffice m refusal bits is has =
     is ∙ ap (λ (b : Bool). first_of (when b refusals.DiscFull ∷ [])) (le-ltb (bits_in (hole_runs m)) bits (leb-true bits (bits_in (hole_runs m)) has))
 
+-- A supply of all holes that has the bits suffices.
+pub stock_suffices : (m : Map) (s : Stock) (refusal : Option Refusal) (bits : ℕ) → s ≡ stock_of m → AnswersBits m refusal (Ok bits) → nat_le bits (bits_in s.holes) ≡ true → refusal ≡ None
+stock_suffices m s refusal bits all answers has = bits_suffice m refusal bits answers (subst (λ (t : Stock). nat_le bits (bits_in t.holes) ≡ true) all has)
+
 pub bits_lack : (m : Map) (refusal : Option Refusal) (bits : ℕ) → AnswersBits m refusal (Ok bits) → nat_le bits (bits_in (hole_runs m)) ≡ false → refusal ≡ Some refusals.DiscFull
 bits_lack m refusal bits is lacks =
     is ∙ ap (λ (b : Bool). first_of (when b refusals.DiscFull ∷ [])) (lt-ltb (bits_in (hole_runs m)) bits (leb-false bits (bits_in (hole_runs m)) lacks))

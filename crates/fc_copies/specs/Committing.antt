@@ -1,7 +1,16 @@
--- What a commit asks of the image before it, and what it leaves of the map.
-use Rattle.std.specs.Prelude.{◌≡◌, ◌<◌, ℕ, List, [], slice_index, slice_index_or, Contains}
+-- What a commit asks of the disk and of the image before it, and what it leaves of the map.
+use Rattle.std.specs.Prelude.{◌≡◌, ◌<◌, ◌≤◌, ℕ, ◌+◌, ◌*◌, List, [], slice_index, slice_index_or, Contains, IsTrue, IsFalse}
+use Rattle.fc_device.specs.declared.disk.Disk.{Ghosts}
+use Rattle.fc_record.specs.declared.Geometry.{Geometry}
 use Rattle.fc_newmap.specs.Map.{Map, sector_of}
 use Rattle.fc_copies.specs.Copies.{HoldsCopies}
+
+-- The disk takes both copies of a map: it is attached, nothing is pending, its sectors are the geometry's, and it has those of both copies.
+pub record TakesCopies {D : Type 0} (d : Ghosts D) (disk : D) (g : Geometry) : Type 0 where
+  pub attached : IsTrue (d.attached disk)
+  pub settled : IsFalse (d.pending disk)
+  pub size : d.sector_size disk ≡ g.sector
+  pub on_disk : g.map_sector + 2 * g.zones ≤ d.sectors disk
 
 -- Both copies are equal and sound, the map has their CrossChecks, and its other zones are theirs.
 pub record CanWrite (m : Map) (changed image : List ℕ) : Type 0 where

@@ -1,12 +1,12 @@
 // A map that is written into both copies.
-ghost use Rattle.std.specs.Prelude.{◌≡◌, ◌<◌, ◌≤◌, ◌+◌, ◌*◌, ◌^◌, [], All, length, IsTrue, IsFalse, IsOk, OnOk};
+ghost use Rattle.std.specs.Prelude.{◌≡◌, ◌<◌, ◌≤◌, ◌+◌, ◌^◌, [], All, length, IsTrue, IsFalse, IsOk, OnOk};
 ghost use Rattle.std.specs.List.Sorted.{IsStrictlyIncreasing};
 ghost use Rattle.std.specs.Option.{ForSome};
 ghost use Rattle.fc_device.specs.Calls.{FailsByFault, SameForm, StopsAndExitsLeave};
 ghost use Rattle.fc_newmap.specs.Edits.{KeepsRuns};
 ghost use Rattle.fc_newmap.specs.Map.{sector_of, with_zone};
 ghost use Rattle.fc_newmap.specs.NewMap.{IsNewMap};
-ghost use Rattle.fc_copies.specs.Committing.{CanWrite, KeepsContents};
+ghost use Rattle.fc_copies.specs.Committing.{CanWrite, KeepsContents, TakesCopies};
 ghost use Rattle.fc_copies.specs.Copies.{copy_of, sealed_zones, ChangesCopies, CommitEnds, CommitLeaves};
 ghost use Rattle.fc_copies.specs.declared.Which.TheVariants.{One};
 ghost use Rattle.fc_copies.specs.Gate.{gate_delta, gated, gated_sector};
@@ -104,10 +104,7 @@ fn write_zones<D: Disk>(
 
 // Writes these zones into copy 1, syncs, then writes them into copy 2, and syncs. For no zones it does nothing.
 fn write_both<D: Disk>(disk: &mut D, map: &NewMap, changed: &[u16]) -> Result<(), DiskFault>
-    requires attached { IsTrue (D.attached disk.old) }
-    requires settled { IsFalse (D.pending disk.old) }
-    requires size { D.sector_size disk.old ≡ map.now.geometry.sector }
-    requires on_disk { map.now.geometry.map_sector + 2 * map.now.geometry.zones ≤ D.sectors disk.old }
+    requires disk { TakesCopies D.Disk disk.old map.now.geometry }
     requires zones { All (λ z. z < map.now.geometry.zones) changed.now }
     ensures keeps { StopsAndExitsLeave D.Disk disk.old disk.new (PassesBoth map.now.geometry changed.now (sector_of map.now)) }
     ensures map { IsNewMap map.now }
@@ -144,10 +141,7 @@ pub fn commit<D: Disk>(
     map: &mut NewMap,
     changed: &ArrayVec<u16, 9>,
 ) -> Result<(), DiskFault>
-    requires attached { IsTrue (D.attached disk.old) }
-    requires settled { IsFalse (D.pending disk.old) }
-    requires size { D.sector_size disk.old ≡ map.old.geometry.sector }
-    requires on_disk { map.old.geometry.map_sector + 2 * map.old.geometry.zones ≤ D.sectors disk.old }
+    requires disk { TakesCopies D.Disk disk.old map.old.geometry }
     requires rising { IsStrictlyIncreasing changed.now.items }
     requires zones { All (λ z. z < map.old.geometry.zones) changed.now.items }
     requires ready { ForSome (D.bytes disk.old) (CanWrite map.old changed.now.items) }
@@ -180,10 +174,7 @@ pub fn commit_wide<D: Disk>(
     map: &mut NewMap,
     changed: &Vec<u16>,
 ) -> Result<(), DiskFault>
-    requires attached { IsTrue (D.attached disk.old) }
-    requires settled { IsFalse (D.pending disk.old) }
-    requires size { D.sector_size disk.old ≡ map.old.geometry.sector }
-    requires on_disk { map.old.geometry.map_sector + 2 * map.old.geometry.zones ≤ D.sectors disk.old }
+    requires disk { TakesCopies D.Disk disk.old map.old.geometry }
     requires zones { All (λ z. z < map.old.geometry.zones) changed.now.items }
     requires ready { ForSome (D.bytes disk.old) (CanWrite map.old changed.now.items) }
     ensures map { map.new ≡ record map.old { zones = sealed_zones changed.now.items map.old.zones } }

@@ -39,11 +39,3 @@ laid at (part ∷ parts) end = zeros (256 * (part.0 - at)) ++ part.1.now ++ laid
 -- the disc of a fresh volume
 unfoldable pub disc_of : Format → List ℕ
 disc_of format = front_of format ++ zeros (format_size format - length (front_of format))
-
--- what shaping a disk and writing to it keep
-pub record SameImage {D : Type 0} (d : Ghosts D) (old new : D) : Type 0 where
-  pub attached_stays : d.attached new ≡ d.attached old
-  pub tells_stays : d.tells_stops new ≡ d.tells_stops old
-  pub gives_stays : d.gives new ≡ d.gives old
-  pub asked_stays : d.asked new ≡ d.asked old
-  pub length_stays : d.image_length new ≡ d.image_length old

@@ -1,10 +1,10 @@
 // A disk that is made a fresh volume.
 ghost use Rattle.std.specs.Prelude.{◌≡◌, ◌++◌, ◌≤◌, ◌<◌, ◌-◌, ◌*◌, ℕ, Err, option_map, length, IsTrue, IsFalse, OnOk};
-ghost use Rattle.fc_device.specs.Calls.{FailsByFault, SameForm, StopsAndExitsLeave};
+ghost use Rattle.fc_device.specs.Calls.{FailsByFault, SameForm, SameImage, StopsAndExitsLeave};
 ghost use Rattle.fc_device.specs.Faults.{Rose};
 ghost use Rattle.fc_format.specs.Fresh.{boot_block, f_zone0, f_zone1, f_zone3, format_size, fresh_image, zeros};
 ghost use Rattle.fc_format.specs.Zones.{IsRecordOfF};
-ghost use Rattle.fc_format.specs.Passes.{KeepsBehind, LengthensFront, SameBehind, SameImage, disc_of};
+ghost use Rattle.fc_format.specs.Passes.{KeepsBehind, LengthensFront, SameBehind, disc_of};
 ghost use Rattle.fc_format.specs.declared.volume.FormatError.TheVariants as errors;
 
 use crate::Format;

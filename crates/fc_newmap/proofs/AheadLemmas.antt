@@ -1,5 +1,5 @@
 -- A search for an identifier that begins and ends where its runs can begin and end.
-use Rattle.std.proofs.Common.{◌≡◌, ◌<◌, ◌≤◌, ℕ, zero, suc, ◌+◌, ◌-◌, Bool, false, cond, List, [], ◌∷◌, ◌++◌, refl, sym, ap, ap₂, subst, ◌∙◌, inl, inr, arith}
+use Rattle.std.proofs.Common.{◌≡◌, ◌<◌, ◌≤◌, ◌⊎◌, ℕ, zero, suc, ◌+◌, ◌-◌, Bool, false, cond, List, [], ◌∷◌, ◌++◌, refl, sym, ap, ap₂, subst, ◌∙◌, inl, inr, arith}
 use Rattle.std.specs.Prelude.{Contains, filter}
 use Rattle.std.proofs.lemmas.Bool.{cases_lt, le-leb, lt-leb, or_parts as neither}
 use Rattle.std.proofs.lemmas.List.{append-nil, map-append}
@@ -213,3 +213,50 @@ whole_search m id last all = record {
   reach = λ z low more. absurd (not_below (last + 1) (zones_before m.geometry id z) (omega (arith, more)) (omega (arith, before_low m.geometry id z low)));
   start = λ z low e some. absurd (some refl);
 }
+
+-- ---- the next zone that may have runs of an identifier
+
+-- Both zones and the first one that may have some, by where the search begins.
+further : (zones home ahead reach z y first before later : ℕ)
+    → (home + ahead < zones → first ≡ home + ahead) → (zones ≤ home + ahead → first + zones ≡ home + ahead)
+    → (home ≤ z → before + home ≡ z) → (z < home → before + home ≡ zones + z) → (home ≤ y → later + home ≡ y) → (y < home → later + home ≡ zones + y)
+    → home < zones → ahead < zones → y < zones → z ≤ y → (ahead ≤ before → reach ≤ before) → (z < first → y < first) → ahead ≤ later → reach ≤ later
+further zones home ahead reach z y first before later whole round z_above z_below y_above y_below home_in few low from none early behind =
+    elim (cases_lt z home) [
+      | inl zb ↦ (
+          let zb' = z_below zb in
+          elim (cases_lt y home) [
+            | inl yb ↦ (let yb' = y_below yb in elim (cases_lt (home + ahead) zones) [ inl w ↦ (let w' = whole w in grind arith) | inr w ↦ (let w' = round w in grind arith) ])
+            | inr ya ↦ (let ya' = y_above ya in elim (cases_lt (home + ahead) zones) [ inl w ↦ (let w' = whole w in grind arith) | inr w ↦ (let w' = round w in grind arith) ])
+          ])
+      | inr za ↦ (
+          let za' = z_above za in
+          let ya' = y_above (omega arith) in
+          elim (cases_lt (home + ahead) zones) [ inl w ↦ (let w' = whole w in grind arith) | inr w ↦ (let w' = round w in grind arith) ])
+    ]
+
+before_is : (g : Geometry) (id z : ℕ) → z < g.zones → (home_zone g id ≤ z → zones_before g id z + home_zone g id ≡ z) × (z < home_zone g id → zones_before g id z + home_zone g id ≡ g.zones + z)
+before_is g id z low =
+    let home = home_zone g id in
+    let home_in = home_low g id (omega arith) in (
+      λ h. ap (λ (b : Bool). cond b (z - home) (g.zones - home + z) + home) (le-leb home z h) ∙ (let e : z - home + home ≡ z = omega arith in e),
+      λ h. ap (λ (b : Bool). cond b (z - home) (g.zones - home + z) + home) (lt-leb home z h) ∙ (let e : g.zones - home + z + home ≡ g.zones + z = omega arith in e),
+    )
+
+pub none_till : (g : Geometry) (id ahead reach z y first : ℕ) → z < g.zones → y < g.zones → ahead < g.zones → first ≡ zone_up g (home_zone g id) ahead
+    → (ahead ≤ zones_before g id z → reach ≤ zones_before g id z) → z ≤ y → (z < first → y < first) → (zones_before g id y < ahead) ⊎ (reach ≤ zones_before g id y)
+none_till g id ahead reach z y first z_low low few is none from early =
+    let home = home_zone g id in
+    let home_in = home_low g id (omega arith) in
+    let up = up_is g home ahead home_in few in
+    let bz = before_is g id z z_low in
+    let by = before_is g id y low in
+    elim (cases_lt (zones_before g id y) ahead) [
+      | inl less ↦ inl less
+      | inr more ↦ inr (further g.zones home ahead reach z y first (zones_before g id z) (zones_before g id y) (λ h. is ∙ up.0 h) (λ h. ap (λ (n : ℕ). n + g.zones) is ∙ up.1 h) bz.0 bz.1 by.0 by.1 home_in few low from none early more)
+    ]
+
+-- by a row
+pub none_by : (m : Map) (id : ℕ) (row : IdTally) (y : ℕ) → IsRow m id row → y < m.geometry.zones → (zones_before m.geometry id y < row.ahead) ⊎ (row.reach ≤ zones_before m.geometry id y) → has_run_of m id y ≡ false
+none_by m id row y is low (inl less) = is.ahead y low less
+none_by m id row y is low (inr more) = is.reach y low more

@@ -44,7 +44,7 @@ pub fn home_zone(g: &Geometry, id: u32) -> u16
 }
 
 // The zone so many zones above a zone, and round.
-fn zone_up(g: &Geometry, z: u16, n: u16) -> u16
+pub fn zone_up(g: &Geometry, z: u16, n: u16) -> u16
     requires zone { z < g.now.zones }
     requires few { n < g.now.zones }
     ensures value { result ≡ zone_up g.now z n }

@@ -1,16 +1,16 @@
 // A tally of a map's runs by their identifiers, kept while the map is edited.
 
-ghost use Rattle.std.specs.Prelude.{◌≡◌, ◌<◌, ◌≤◌, ◌+◌, ◌^◌, false, IfOk, IfSome, IsFalse};
+ghost use Rattle.std.specs.Prelude.{◌≡◌, ◌<◌, ◌≤◌, ◌⊎◌, ◌+◌, ◌^◌, ℕ, false, IfOk, IfSome, IsFalse};
 ghost use Rattle.std.specs.List.{list_any};
 ghost use Rattle.std.specs.Option.{option_map};
 ghost use Rattle.fc_zone.specs.declared.RunKind.TheVariants.{Id};
 ghost use Rattle.fc_record.specs.Record.{id_limit};
 ghost use Rattle.fc_newmap.specs.Map.{bits_in, has_id, id_runs, runs_of};
 ghost use Rattle.fc_newmap.specs.NewMap.{IsOfRecord};
-ghost use Rattle.fc_newmap.specs.Tally.{HasBits, HasRoom, IsRow, IsSearch, IsTally, counted, first_start, no_runs, row_less, uncounted, zones_before};
+ghost use Rattle.fc_newmap.specs.Tally.{HasBits, HasRoom, IsRow, IsSearch, IsTally, counted, first_start, has_run_of, no_runs, row_less, uncounted, zones_before};
 
 use crate::NewMap;
-use crate::runs::home_zone;
+use crate::runs::{home_zone, zone_up};
 use crate::walk::Walk;
 use fc_device::NoMemory;
 use fc_record::Geometry;
@@ -202,6 +202,26 @@ fn search_by(row: IdTally, last: u16) -> Search
     }
 }
 
+// The least zone from one on that may have runs of an identifier by its row, and the number of zones if none does. The
+// zones that may have some follow each other in the search: those before its end, from its first one on.
+fn next_zone_by(g: &Geometry, id: u32, row: IdTally, z: u16) -> u16
+    requires record { IsOfRecord g.now }
+    requires zone { z < g.now.zones }
+    ensures onward { z ≤ result }
+    ensures low { result ≤ g.now.zones }
+    ensures none { (y : ℕ) → z ≤ y → y < result → (zones_before g.now id y < row.ahead) ⊎ (row.reach ≤ zones_before g.now id y) }
+{
+    if row.ahead >= row.reach || row.ahead >= g.zones {
+        return g.zones;
+    }
+    let before = zones_before(g, id, z);
+    if row.ahead <= before && before < row.reach {
+        return z;
+    }
+    let first = zone_up(g, home_zone(g, id), row.ahead);
+    if first > z { first } else { g.zones }
+}
+
 impl NewMap {
     // What the tally says of an identifier, if it reaches so far.
     fn row(&self, id: u32) -> Option<IdTally>
@@ -237,6 +257,24 @@ impl NewMap {
         };
         let before = zones_before(self.geometry(), id, z);
         row.ahead <= before && before < row.reach
+    }
+
+    /// The least zone from one on that may have runs of an identifier, and the number of zones if none does: no zone
+    /// before it has one. The zone itself says nothing, and is the answer if the map has no tally. Costs no search.
+    pub fn next_zone_of(&self, id: u32, z: u16) -> u16
+        requires { z ≤ self.now.geometry.zones }
+        ensures onward { z ≤ result }
+        ensures low { result ≤ self.now.geometry.zones }
+        ensures none { (y : ℕ) → z ≤ y → y < result → has_run_of self.now id y ≡ false }
+    {
+        let g = self.geometry();
+        if z == g.zones {
+            return z;
+        }
+        match self.row(id) {
+            Some(row) => next_zone_by(g, id, row, z),
+            None => z,
+        }
     }
 
     /// Makes the tally of the runs of all identifiers, in one pass over the runs, unless there is one. If memory is short,

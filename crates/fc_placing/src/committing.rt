@@ -1,12 +1,12 @@
 // Changed zones of a map, written into both copies on the disk.
 
-ghost use Rattle.std.specs.Prelude.{◌≡◌, ◌<◌, ◌≤◌, ◌+◌, ◌*◌, [], All, length, IsTrue, IsFalse, IsOk, OnOk};
+ghost use Rattle.std.specs.Prelude.{◌≡◌, ◌<◌, ◌≤◌, [], All, length, IsFalse, IsOk, OnOk};
 ghost use Rattle.std.specs.List.Sorted.{IsStrictlyIncreasing};
 ghost use Rattle.std.specs.Option.{ForSome};
 ghost use Rattle.fc_device.specs.Calls.{FailsByFault, SameForm, StopsAndExitsLeave};
 ghost use Rattle.fc_newmap.specs.Edits.{KeepsRuns};
 ghost use Rattle.fc_copies.specs.declared.Which.TheVariants.{One};
-ghost use Rattle.fc_copies.specs.Committing.{CanWrite, KeepsContents};
+ghost use Rattle.fc_copies.specs.Committing.{CanWrite, KeepsContents, TakesCopies};
 ghost use Rattle.fc_copies.specs.Copies.{ChangesCopies, CommitEnds, CommitLeaves, copy_of};
 
 use arrayvec::ArrayVec;
@@ -36,10 +36,7 @@ pub fn commit_zones<D: Disk>(
     map: &mut NewMap,
     changed: &Vec<u16>,
 ) -> Result<(), DiskFault>
-    requires attached { IsTrue (D.attached disk.old) }
-    requires settled { IsFalse (D.pending disk.old) }
-    requires size { D.sector_size disk.old ≡ map.old.geometry.sector }
-    requires on_disk { map.old.geometry.map_sector + 2 * map.old.geometry.zones ≤ D.sectors disk.old }
+    requires disk { TakesCopies D.Disk disk.old map.old.geometry }
     requires rising { IsStrictlyIncreasing changed.now.items }
     requires zones { All (λ z. z < map.old.geometry.zones) changed.now.items }
     requires ready { ForSome (D.bytes disk.old) (CanWrite map.old changed.now.items) }

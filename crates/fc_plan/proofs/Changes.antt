@@ -1,5 +1,5 @@
 -- Which zones change, as a list.
-use Rattle.std.proofs.Common.{◌≡◌, ◌<◌, ℕ, zero, suc, ◌+◌, ◌-◌, Bool, true, false, cond, List, [], ◌∷◌, ◌++◌, length, Contains, inl, inr, refl, sym, ap, subst, ◌∙◌, arith, append_assoc}
+use Rattle.std.proofs.Common.{◌≡◌, ◌<◌, ◌≤◌, ℕ, zero, suc, ◌+◌, ◌-◌, Bool, true, false, cond, List, [], ◌∷◌, ◌++◌, length, Contains, inl, inr, refl, sym, ap, subst, ◌∙◌, arith, append_assoc}
 use Rattle.std.specs.Prelude.{filter, ◌||◌, OnOk, Result, Ok, Err}
 use Rattle.std.specs.List.{list_any, range_with_len}
 use Rattle.std.proofs.lemmas.List.{append-nil}
@@ -56,6 +56,21 @@ one_missed t n at old now so_far low test = record {
 pub step_passed : (t : ℕ → Bool) (n at : ℕ) (old now then : List ℕ) (b : Bool) → ArePassed t n at old now → at < n → b ≡ t at → then ≡ cond b (now ++ at ∷ []) now → ArePassed t n (at + 1) old then
 step_passed t n at old now then true so_far low test is = one_passed t n at old now then so_far low (sym test) is
 step_passed t n at old now then false so_far low test is = subst (λ (xs : List ℕ). ArePassed t n (at + 1) old xs) (sym is) (one_missed t n at old now so_far low (sym test))
+
+pub passed_none : (t : ℕ → Bool) (n : ℕ) (old : List ℕ) → ArePassed t n 0 old old
+passed_none t n old = record {
+  more = [];
+  is = sym (append-nil old);
+  rest = ap (λ (k : ℕ). filter t (range_with_len 0 k)) (let e : n - 0 ≡ n = omega arith in e);
+}
+
+-- numbers that fail the test are passed over
+pub none_passed : (t : ℕ → Bool) (n at to : ℕ) (old now : List ℕ) → ArePassed t n at old now → at ≤ to → to ≤ n → ((y : ℕ) → at ≤ y → y < to → t y ≡ false) → ArePassed t n to old now
+none_passed t n at to old now so_far on low none = go (to - at) at so_far none (omega arith)
+  where
+    go : (k from : ℕ) → ArePassed t n from old now → ((y : ℕ) → from ≤ y → y < to → t y ≡ false) → from + k ≡ to → ArePassed t n to old now
+    go zero from is none e = subst (λ (x : ℕ). ArePassed t n x old now) (let same : from ≡ to = omega arith in same) is
+    go (suc k) from is none e = go k (from + 1) (one_missed t n from old now is (omega arith) (none from (omega arith) (omega arith))) (λ y above less. none y (omega arith) less) (omega arith)
 
 pub on_ok : {A E : Type 0} (P Q : Type 0) (r : Result A E) → (P → Q) → OnOk r P → OnOk r Q
 on_ok P Q (Ok x) f h = f h

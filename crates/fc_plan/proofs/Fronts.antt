@@ -134,6 +134,11 @@ contains_front [] k d low = absurd (omega arith)
 contains_front (x ∷ xs) zero d low = (0, omega arith, refl)
 contains_front (x ∷ xs) (suc k) d low = let r = contains_front xs k d (omega arith) in (suc r.0, (let l = r.1 in omega arith), r.2)
 
+any_default : (xs : List Part) (k : ℕ) (a b : Part) → k < length xs → get_or xs k a ≡ get_or xs k b
+any_default [] k a b low = absurd (omega arith)
+any_default (x ∷ xs) zero a b low = refl
+any_default (x ∷ xs) (suc k) a b low = any_default xs k a b (omega arith)
+
 module _ (parts : List Part) (rising : AllPairs BeginsBefore (fronts parts)) where
   pair : (i j : ℕ) (d : Part) → i < j → j < length parts → BeginsBefore (front_at (get_or parts i d)) (front_at (get_or parts j d))
   pair i j d less low =
@@ -183,11 +188,6 @@ module _ (parts : List Part) (rising : AllPairs BeginsBefore (fronts parts)) whe
           before_of a b (inl x) y = inl (omega (arith, y.0))
           before_of a b (inr (e, x)) y = inr (e ∙ y.0, omega (arith, y.1))
 
-      any_default : (xs : List Part) (k : ℕ) (a b : Part) → k < length xs → get_or xs k a ≡ get_or xs k b
-      any_default [] k a b low = absurd (omega arith)
-      any_default (x ∷ xs) zero a b low = refl
-      any_default (x ∷ xs) (suc k) a b low = any_default xs k a b (omega arith)
-
       elsewhere_then : (d : Part) → i < length parts → stands_at place (front_at (get_or parts i d)) ≡ false → (k : ℕ) (e : Part) → k < length parts → stands_at place (front_at (get_or parts k e)) ≡ true → ⊥
       elsewhere_then d low other k e in' there = elim (cases_lt k i) [
         | inl less ↦ not_before k e less there
@@ -233,11 +233,6 @@ module _ (parts : List Part) (rising : AllPairs BeginsBefore (fronts parts)) whe
         | inr other ↦ ne_eqb (get_or parts i d).zone z other ∙ sym (any_never z parts (λ k e in' there. never k e in' there other))
       ]
         where
-          any_default : (xs : List Part) (k : ℕ) (a b : Part) → k < length xs → get_or xs k a ≡ get_or xs k b
-          any_default [] k a b low = absurd (omega arith)
-          any_default (x ∷ xs) zero a b low = refl
-          any_default (x ∷ xs) (suc k) a b low = any_default xs k a b (omega arith)
-
           never : (k : ℕ) (e : Part) → k < length parts → (get_or parts k e).zone ≡ z → ((get_or parts i d).zone ≡ z → ⊥) → ⊥
           never k e in' there other = elim (cases_lt k i) [
             | inl less ↦ (let low = ltb-true (get_or parts k e).zone z (cut.0 k e (omega arith) less) in omega arith)
@@ -256,3 +251,19 @@ module _ (parts : List Part) (rising : AllPairs BeginsBefore (fronts parts)) whe
 
       pub zone_nowhere : length parts ≤ i → false ≡ has_part (fronts parts) z
       zone_nowhere past = sym (any_never z parts (λ k d low there. (let less = ltb-true (get_or parts k d).zone z (cut.0 k d (omega arith) (omega arith)) in omega arith)))
+
+      pub zone_next : (d : Part) → i < length parts → z ≤ (get_or parts i d).zone
+      zone_next d low = ltb-false (get_or parts i d).zone z (cut.1 i d (omega arith) low)
+
+      -- none lies in the zones from there to that of the next part
+      pub zone_none : (y : ℕ) (d : Part) → z ≤ y → (i < length parts → y < (get_or parts i d).zone) → has_part (fronts parts) y ≡ false
+      zone_none y d from early = any_never y parts (λ k e in' there. elim (cases_lt k i) [
+        | inl less ↦ (let low = ltb-true (get_or parts k e).zone z (cut.0 k e (omega arith) less) in omega arith)
+        | inr more ↦ (
+            let next = early (omega arith) in
+            let same : (get_or parts i d).zone ≡ (get_or parts i e).zone = ap (λ (p : Part). p.zone) (any_default parts i d e (omega arith)) in
+            elim (cases_lt i k) [
+              | inl past ↦ (let high = zone_le i k e past in' in omega arith)
+              | inr back ↦ (let at : (get_or parts k e).zone ≡ (get_or parts i e).zone = ap (λ (j : ℕ). (get_or parts j e).zone) (let f : k ≡ i = omega arith in f) in omega arith)
+            ])
+      ])

@@ -1,11 +1,9 @@
 -- What parts leave of the holes that they are cut from.
-use Rattle.std.proofs.Common.{◌≡◌, ◌≤◌, ◌⊎◌, ◌==◌, ◌+◌, ◌-◌, ◌%◌, true, false, List, [], ◌∷◌, ◌++◌, All, Contains, Option, Some, None, refl, sym, ap, ◌∙◌, arith, inl, inr, zero, suc}
+use Rattle.std.proofs.Common.{◌≡◌, ◌≤◌, ◌⊎◌, ◌==◌, ◌+◌, ◌-◌, ◌%◌, true, false, List, [], ◌∷◌, All, Contains, Option, Some, None, refl, sym, ap, ◌∙◌, arith, inl, inr, zero, suc}
 use Rattle.std.specs.Prelude.{IfSome}
 use Rattle.std.specs.List.{find}
 use Rattle.std.proofs.lemmas.Bool.{cond_both, eqb-false}
 use Rattle.std.proofs.lemmas.List.Elements.{All-nil, All-cons, All-contains}
-use Rattle.std.proofs.lemmas.List.Concat.{flat_map-append}
-use Rattle.std.proofs.lemmas.List.{append_assoc, append-nil}
 use Rattle.fc_record.specs.declared.Geometry.{Geometry}
 use Rattle.fc_newmap.specs.Map.{ZoneRun}
 use Rattle.fc_newmap.specs.NewMap.{IsOfRecord}
@@ -16,7 +14,6 @@ use Rattle.fc_image.specs.effects.Placed.{HasRunLength, holes_left, left_behind,
 use Rattle.fc_plan.specs.Plan.{AreApart, IsFrontOfOne}
 use Rattle.fc_plan.proofs.Taken.{find_is, mod-rest, stands_at-same, stands_at-self}
 use Rattle.fc_plan.proofs.MapLemmas.{count_at, count_at-cons, count_here}
-use Rattle.fc_newmap.proofs.TallyLemmas.{walked_on}
 
 -- ---- one hole at a place
 

@@ -27,3 +27,4 @@ pub mod Plans
 pub mod Shorts
 pub mod Stock
 pub mod Two
+pub mod MetHoles

@@ -159,20 +159,3 @@ read_at s place hole d in' read = read ∙ get_or_default s place hole d in'
 pub one_set : (holes : List ZoneRun) (hole part : ZoneRun) → Contains holes hole → take 1 (set holes 0 part) ≡ part ∷ []
 one_set [] hole part (i, in', e) = absurd (omega arith)
 one_set (h ∷ hs) hole part at = refl
-
--- holes of which the last one has what is missing have enough
-pub enough_last : (holes : List ZoneRun) (bits place missing : ℕ) (d : ZoneRun) → IsLast holes bits place missing → bits ≤ bits_in holes
-enough_last holes bits place missing d last =
-    let has : missing ≤ (get_or holes place d).1.len = last.has d in
-    let less : sum_by (λ (p : ZoneRun). p.1.len) (take place holes) + (get_or holes place d).1.len ≤ sum_by (λ (p : ZoneRun). p.1.len) holes = sum_by_more_le (λ (p : ZoneRun). p.1.len) holes place d last.within in
-    let before : bits_in (take place holes) + missing ≡ bits = last.before in
-    omega arith
-
-no_hole : ZoneRun
-no_hole = (0, record { start = 0; len = 0; kind = Hole })
-
--- Holes have so many bits together if there is a last one that is needed.
-pub needed_is : (holes : List ZoneRun) (bits : ℕ) (found : Option (ℕ × ℕ)) → IfSome found (λ last. IsLast holes bits last.0 last.1) → IfNone found (bits_in holes < bits)
-    → is_some found ≡ nat_le bits (bits_in holes)
-needed_is holes bits (Some x) last none = sym (le-leb bits (bits_in holes) (enough_last holes bits x.0 x.1 no_hole last))
-needed_is holes bits None last none = sym (lt-leb bits (bits_in holes) none)

@@ -1,6 +1,6 @@
 // Which zones a command changes.
 
-ghost use Rattle.std.specs.Prelude.{◌≡◌, ◌<◌, ◌++◌, ◌∷◌, [], if◌then◌else◌, ℕ, List, AllPairs, Contains, OnErr, OnOk, false, filter};
+ghost use Rattle.std.specs.Prelude.{◌≡◌, ◌<◌, ◌≤◌, ◌++◌, ◌∷◌, [], if◌then◌else◌, ℕ, List, AllPairs, Contains, OnErr, OnOk, false, filter};
 ghost use Rattle.fc_image.specs.effects.Placed.{BeginsBefore};
 ghost use Rattle.fc_image.specs.effects.Steady.{has_id_that};
 ghost use Rattle.fc_newmap.specs.Map.{runs_of, zone_numbers};
@@ -9,8 +9,8 @@ ghost use Rattle.fc_plan.specs.Giving.{has_run_of, is_one_of};
 
 use crate::Plan;
 use crate::applying::parts_in;
-use crate::giving::{is_one_of, may_have_any};
-use crate::plan::has_part;
+use crate::giving::{is_one_of, next_zone};
+use crate::plan::{has_part, next_part};
 use fc_device::NoMemory;
 use fc_newmap::{NewMap, Walk};
 use fc_zone::RunKind;
@@ -30,9 +30,6 @@ fn has_run_of(map: &NewMap, z: u16, ids: &[u32]) -> bool
     requires { z < map.now.geometry.zones }
     ensures { result ≡ has_run_of ids.now (runs_of map.now z) }
 {
-    if !may_have_any(map, z, ids) {
-        return false;
-    }
     let mut walk = Walk::from_zone(map, z, 0);
     while let Some((_, run)) = walk.next(map) {
         if is_of(ids, run.kind) {
@@ -50,6 +47,19 @@ fn is_changed(map: &NewMap, object: Option<&Plan>, dir: Option<&Plan>, gone: &[u
     ensures { result ≡ is_changed map.now (plan_in object.entry) (plan_in dir.entry) gone.now z }
 {
     has_part(parts_in(object), z) || has_part(parts_in(dir), z) || has_run_of(map, z, gone)
+}
+
+// The least zone from one on that may change, and the number of zones if none does.
+fn next_change(map: &NewMap, object: Option<&Plan>, dir: Option<&Plan>, gone: &[u32], z: u16) -> u16
+    requires zone { z ≤ map.now.geometry.zones }
+    requires object { AllPairs BeginsBefore (parts_in (plan_in object)) }
+    requires dir { AllPairs BeginsBefore (parts_in (plan_in dir)) }
+    ensures onward { z ≤ result }
+    ensures low { result ≤ map.now.geometry.zones }
+    ensures none { (y : ℕ) → z ≤ y → y < result → is_changed map.now (plan_in object.entry) (plan_in dir.entry) gone.now y ≡ false }
+{
+    let taken = next_part(parts_in(object), z).min(next_part(parts_in(dir), z));
+    next_zone(map, gone, z).min(taken)
 }
 
 // Appends a zone, if it changes.
@@ -80,9 +90,11 @@ fn push_changed(
     ensures grown { (more : List ℕ) × (zones.new.items ≡ zones.old.items ++ more) }
 {
     let all = map.geometry().zones;
-    for z in 0..all {
+    let mut z = next_change(map, object, dir, gone, 0);
+    while z < all {
         let changes = is_changed(map, object, dir, gone, z);
         push_if(zones, z, changes)?;
+        z = next_change(map, object, dir, gone, z + 1);
     }
     Ok(())
 }

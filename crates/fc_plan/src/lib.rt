@@ -5,6 +5,7 @@ mod applying;
 mod changing;
 mod fitting;
 mod giving;
+mod holes;
 mod laws;
 mod plan;
 mod planning;

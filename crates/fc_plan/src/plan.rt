@@ -1,6 +1,6 @@
 // Plans: where an object is to lie.
 
-ghost use Rattle.std.specs.Prelude.{◌≡◌, AllPairs, is_none, map, not, IfOk};
+ghost use Rattle.std.specs.Prelude.{◌≡◌, ◌<◌, ◌≤◌, ℕ, false, AllPairs, is_none, map, not, IfOk};
 ghost use Rattle.std.specs.List.{find};
 ghost use Rattle.fc_zone.specs.declared.Run.{Run};
 ghost use Rattle.fc_image.specs.effects.Placed.{BeginsBefore, stands_at};
@@ -79,5 +79,18 @@ pub fn has_part(parts: &[Part], z: u16) -> bool
     match parts.get(place) {
         Some(part) => part.zone == z,
         None => false,
+    }
+}
+
+// The least zone from one on in which one of some parts lies, which rise. The greatest number if none does.
+pub fn next_part(parts: &[Part], z: u16) -> u16
+    requires { AllPairs BeginsBefore (fronts parts.now) }
+    ensures onward { z ≤ result }
+    ensures none { (y : ℕ) → z ≤ y → y < result → has_part (fronts parts.now) y ≡ false }
+{
+    let place = parts.partition_point(|part| part.zone < z);
+    match parts.get(place) {
+        Some(part) => part.zone,
+        None => u16::MAX,
     }
 }

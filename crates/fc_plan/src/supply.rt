@@ -1,8 +1,8 @@
 // The space of a map that is not spoken for, from which the plans of one command are taken one after another.
 
-ghost use Rattle.std.specs.Prelude.{◌≡◌, ◌<◌, ◌+◌, ◌^◌, ◌∷◌, [], map, nat_le, None, Some, IfOk, IsErrOf, OnErr};
+ghost use Rattle.std.specs.Prelude.{◌≡◌, ◌<◌, ◌+◌, ◌^◌, ◌∷◌, ◌++◌, [], List, map, nat_le, None, Some, IfOk, IsErrOf, OnErr};
 ghost use Rattle.std.specs.Option.{option_map};
-ghost use Rattle.fc_newmap.specs.Map.{bits_in, hole_runs};
+ghost use Rattle.fc_newmap.specs.Map.{ZoneRun, bits_in};
 ghost use Rattle.fc_newmap.specs.NewMap.{IsOfRecord};
 ghost use Rattle.fc_image.specs.effects.Placed.{IsPlan, holes_left};
 ghost use Rattle.fc_image.specs.effects.Sharing.{units};
@@ -13,14 +13,15 @@ ghost use Rattle.fc_plan.specs.Supply.{stock_of};
 ghost use Rattle.fc_plan.specs.declared.supply.PlanError.TheVariants as errors;
 
 use crate::fitting::first_fitting;
+use crate::holes::Holes;
 use crate::plan::as_parts;
-use crate::planning::{fewest, last_needed};
+use crate::planning::fewest;
 use crate::{Part, Plan};
 use fc_device::NoMemory;
-use fc_newmap::{NewMap, Walk};
+use fc_newmap::NewMap;
 use fc_record::Geometry;
 use fc_zone::Run;
-use std::alloc::{AllocError, Global};
+use std::alloc::Global;
 use std::marker::Model;
 
 /// Why there is no plan.
@@ -48,20 +49,20 @@ impl From<NoMemory> for PlanError {
 #[derive(Drop)]
 pub struct Supply<'a> {
     map: &'a NewMap,
-    holes: Vec<(u16, Run)>,
+    holes: Holes,
     // The identifiers from here on that no run has are left.
     next: u32,
 }
 
 impl<'a> Model for Supply<'a> {
     ghost use Rattle.fc_newmap.specs.Ids.{unused_from};
-    ghost use Rattle.fc_plan.specs.Supply.{IsStocked, Stock};
+    ghost use Rattle.fc_plan.specs.Supply.{IsStocked, Stock, all_holes};
 
     ghost Value = { Stock };
 
-    ghost view = { λ s. record { geometry = s.map.now.geometry; holes = s.holes.items; ids = unused_from s.map.now s.next } };
+    ghost view = { λ s. record { geometry = s.map.now.geometry; holes = all_holes s.map.now s.holes; ids = unused_from s.map.now s.next } };
 
-    ghost invariant = { λ s. IsStocked s.map.now.geometry s.holes.items };
+    ghost invariant = { λ s. IsStocked s.map.now s.holes };
 }
 
 // The bits that so many bytes take.
@@ -73,18 +74,6 @@ fn units(g: &Geometry, bytes: u64) -> u64
 {
     let bits = bytes.div_ceil(g.bit_bytes);
     bits.next_multiple_of(u64::from(g.q)).max(u64::from(g.min))
-}
-
-// The holes of a map, rising.
-fn holes_of(alloc: Global, map: &NewMap) -> Result<Vec<(u16, Run)>, AllocError>
-    ensures { IfOk result (λ holes. holes.items ≡ hole_runs map.now) }
-{
-    let mut holes = Vec::new(alloc);
-    let mut walk = Walk::over_all(map);
-    while let Some(hole) = walk.next_hole(map) {
-        holes.push(hole)?;
-    }
-    Ok(holes)
 }
 
 // Parts that are taken from holes, and what they leave.
@@ -103,7 +92,7 @@ fn cut_from(alloc: Global, holes: &[(u16, Run)], g: &Geometry, bytes: u64) -> Re
     ensures plan { IfOk result (λ t. IsPlan g.now holes.now (units g.now bytes) (fronts t.parts.items)) }
     ensures cut { IfOk result (λ t. AreParts g.now holes.now (fronts t.parts.items)) }
     ensures left { IfOk result (λ t. t.left.items ≡ holes_left holes.now (fronts t.parts.items)) }
-    ensures free { IfOk result (λ t. AreFreeRuns g.now t.left.items) }
+    ensures free { IfOk result (λ t. (ahead : List ZoneRun) → AreFreeRuns g.now (holes.now ++ ahead) → AreFreeRuns g.now (t.left.items ++ ahead)) }
     ensures full { IsErrOf result PlanError.DiscFull → bits_in holes.now < units g.now bytes }
     ensures ids { IsErrOf result PlanError.IdsFull → ⊥ }
 {
@@ -131,7 +120,7 @@ fn cut_first(
     ensures fit { IfOk result (λ t. option_map (map part_of) (first_fit g.now (units g.now bytes) holes.now) ≡ Some t.parts.items) }
     ensures cut { IfOk result (λ t. AreParts g.now holes.now (fronts t.parts.items)) }
     ensures left { IfOk result (λ t. t.left.items ≡ holes_left holes.now (fronts t.parts.items)) }
-    ensures free { IfOk result (λ t. AreFreeRuns g.now t.left.items) }
+    ensures free { IfOk result (λ t. (ahead : List ZoneRun) → AreFreeRuns g.now (holes.now ++ ahead) → AreFreeRuns g.now (t.left.items ++ ahead)) }
     ensures full { IsErrOf result PlanError.DiscFull → first_fit g.now (units g.now bytes) holes.now ≡ None }
     ensures ids { IsErrOf result PlanError.IdsFull → ⊥ }
 {
@@ -146,27 +135,23 @@ fn cut_first(
 }
 
 impl<'a> Supply<'a> {
-    /// All holes and unused identifiers of a map. It goes over the holes; the identifiers are looked for as they are taken.
+    /// All holes and unused identifiers of a map. Both are looked for as they are taken.
     pub fn new(alloc: Global, map: &'a NewMap) -> Result<Supply<'a>, NoMemory>
         ensures { IfOk result (λ supply. supply ≡ stock_of map.now) }
     {
         map.is_map();
-        let holes = holes_of(alloc, map)?;
         Ok(Supply {
             map,
-            holes,
+            holes: Holes::all(alloc, map),
             next: 3,
         })
     }
 
-    /// Whether all holes together have so many bits.
+    /// Whether all holes together have so many bits. It goes over them until it is known.
     pub fn has_bits(&self, bits: u64) -> bool
         ensures { result ≡ nat_le bits (bits_in self.now.holes) }
     {
-        if bits == 0 {
-            return true;
-        }
-        last_needed(&self.holes, bits).is_some()
+        self.holes.have_bits(self.map, bits)
     }
 
     /// Plans parts for so many bytes, without an identifier: as few holes as can be, no rest shorter than a run may be.
@@ -181,8 +166,10 @@ impl<'a> Supply<'a> {
         ensures ids { IsErrOf result PlanError.IdsFull → ⊥ }
         ensures err { OnErr result (self.new ≡ self.old) }
     {
-        let cut = cut_from(alloc, &self.holes, self.map.geometry(), bytes)?;
-        self.holes = cut.left;
+        let g = self.map.geometry();
+        self.holes.meet(self.map, units(g, bytes))?;
+        let cut = cut_from(alloc, &self.holes.met, g, bytes)?;
+        self.holes.met = cut.left;
         Ok(cut.parts)
     }
 
@@ -218,8 +205,10 @@ impl<'a> Supply<'a> {
         ensures ids { IsErrOf result PlanError.IdsFull → ⊥ }
         ensures err { OnErr result (self.new ≡ self.old) }
     {
-        let cut = cut_first(alloc, &self.holes, self.map.geometry(), bytes)?;
-        self.holes = cut.left;
+        let g = self.map.geometry();
+        self.holes.meet(self.map, units(g, bytes))?;
+        let cut = cut_first(alloc, &self.holes.met, g, bytes)?;
+        self.holes.met = cut.left;
         Ok(cut.parts)
     }
 

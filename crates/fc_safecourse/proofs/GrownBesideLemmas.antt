@@ -26,7 +26,8 @@ use Rattle.fc_safelaws.proofs.PlaceLemmas.{HasPlace, has_place}
 use Rattle.fc_safecourse.proofs.LaidLemmas.{place_stretch}
 use Rattle.fc_safecourse.proofs.GrownStirLemmas.{GrowingJob, IsChanged, h, owner_in, y}
 use Rattle.fc_safecourse.proofs.GrownSpaceLemmas.{can, once, plan_at, unused, used}
-use Rattle.fc_safecourse.proofs.GrownLaidLemmas.{IsStaying, all_there, grown, grown_leaves, grown_new, grown_stays, is_grown, laid, laid_at, leaves_plan, plan}
+use Rattle.fc_safecourse.proofs.SaidAloneLemmas.{all_there}
+use Rattle.fc_safecourse.proofs.GrownLaidLemmas.{IsStaying, grown, grown_leaves, grown_new, grown_stays, is_grown, laid, laid_at, leaves_plan, plan}
 use Rattle.fc_safecourse.proofs.StretchLemmas.{stretch_apart, stretch_beside}
 
 module _ (x : GrowingJob) (s : Spaces) (placed : ArePlacedFirst x.m (h x) x.job x.wants s) where

@@ -38,12 +38,6 @@ use Rattle.fc_safecourse.proofs.GrownSpaceLemmas.{IsPlanOf, can, once, out_fits,
 use Rattle.fc_safecourse.proofs.GrownStepLemmas.{grown_at}
 use Rattle.fc_safecourse.proofs.StretchLemmas.{IsStretch, one_plan, stretch_apart, stretch_distinct, stretch_free}
 
--- whoever is among the owners leaves it free
-pub all_there : (t : Owner → Bool) (os : List Owner) (o : Owner) → list_all t os ≡ true → Contains os o → t o ≡ true
-all_there t [] o e (k, low, f) = absurd (omega (arith, low))
-all_there t (p ∷ os) o e (zero, low, f) = sym (ap t f) ∙ (and_parts (t p) (list_all t os) e).0
-all_there t (p ∷ os) o e (suc k, low, f) = all_there t os o (and_parts (t p) (list_all t os) e).1 (k, omega (arith, low), f)
-
 module _ (x : GrowingJob) where
   -- as many sectors of an identifier as it then needs
   abbrev pub count : ℕ → ℕ

@@ -1,4 +1,5 @@
 pub mod AnewLemmas
+pub mod SaidAloneLemmas
 pub mod GiveLemmas
 pub mod BackLemmas
 pub mod FitLemmas

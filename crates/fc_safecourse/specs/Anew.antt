@@ -1,11 +1,11 @@
 -- A change of the safe mode, ready to be written: each directory that says something is written into the new runs of its identifier, and what
 -- else stays in that identifier is copied there. A new object is written into its place.
-use Rattle.std.specs.Prelude.{◌≡◌, ℕ, ◌==◌, ◌&&◌, not, Bool, true, false, List, [], ◌∷◌, ◌++◌, filter, drop, take, Option, Some, None, Contains, IsSome}
+use Rattle.std.specs.Prelude.{◌≡◌, ℕ, ◌==◌, ◌&&◌, ◌||◌, not, Bool, true, false, List, [], ◌∷◌, ◌++◌, filter, drop, take, Option, Some, None, Contains, IsSome}
 use Rattle.std.specs.FinMap.{get}
-use Rattle.std.specs.List.{find, list_any}
+use Rattle.std.specs.List.{count_by, find, list_any}
 use Rattle.std.specs.Option.{option_map_or}
 use Rattle.fc_alloc.specs.declared.owner.Owner.{Owner}
-use Rattle.fc_alloc.specs.Owners.{is_node}
+use Rattle.fc_alloc.specs.Owners.{is_id_owned, is_node, owns}
 use Rattle.fc_device.specs.declared.disk.Extent.{Extent}
 use Rattle.fc_newmap.specs.Map.{Map}
 use Rattle.fc_image.specs.Layout.{Layout, dir_form, sectors_at}
@@ -83,6 +83,15 @@ is_leaving w n = is_one_of (leaving_of w None) n
 
 abbrev pub is_taken_along : List Plan → Wants → Change → Owner → Bool
 is_taken_along plans w c o = has_plan plans o.id && (not (is_said c.says.items o.node) && not (is_leaving w o.node))
+
+-- the identifier holds the object of a node
+abbrev pub holds_node : List Owner → ℕ → ℕ → Bool
+holds_node owners id n = option_map_or (λ (o : Owner). o.id == id) (find (is_node n) owners) false
+
+-- the identifier has no owner, or one alone, a directory that is told what it says
+abbrev pub is_said_alone : List Owner → List Says → ℕ → Bool
+is_said_alone owners says id =
+    not (is_id_owned owners id) || ((count_by (owns id) owners == 1) && list_any (λ (s : Says). holds_node owners id s.node) says)
 
 -- Its sectors are copied one for one.
 pub record IsTakenAlong (m : Map) (h : Parts) (plans : List Plan) (o : Owner) (t : Transfer) : Type 0 where

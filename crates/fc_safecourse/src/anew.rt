@@ -1,15 +1,16 @@
 // A change, made ready to be written into new runs of the identifiers that it touches.
 ghost use Rattle.std.specs.Prelude.{◌≡◌, ◌++◌, Contains, IfOk, IsSome, OnOk, filter};
-ghost use Rattle.std.specs.List.{find};
+ghost use Rattle.std.specs.List.{find, list_all, list_any};
 ghost use Rattle.fc_alloc.specs.Owners.{is_node};
 ghost use Rattle.fc_image.specs.Layout.{Layout};
 ghost use Rattle.fc_objects.specs.Extents.{sectors_in};
 ghost use Rattle.fc_plan.specs.declared.plan.Plan.{Plan};
 ghost use Rattle.fc_space.specs.Space.{layout_of};
+ghost use Rattle.fc_change.specs.declared.change.Says.{Says};
 ghost use Rattle.fc_change.specs.Held.{parts_of};
 ghost use Rattle.fc_change.specs.Prepared.{HasPlace};
 ghost use Rattle.fc_safe.specs.FirstSpace.{LiesInZones};
-ghost use Rattle.fc_safecourse.specs.Anew.{AreEarly, AreTakenAlong, CanWriteAnew, IsEarlyPiece, IsPieceAnew, IsReadyAnew, IsTakenAlong, PiecesAnew, has_plan, is_leaving, is_said, is_taken_along, laid_by, plans_in};
+ghost use Rattle.fc_safecourse.specs.Anew.{AreEarly, AreTakenAlong, CanWriteAnew, IsEarlyPiece, IsPieceAnew, IsReadyAnew, IsTakenAlong, PiecesAnew, has_plan, is_leaving, is_said, is_said_alone, is_taken_along, laid_by, holds_node, plans_in};
 
 use fc_alloc::Owner;
 use fc_change::{
@@ -170,6 +171,47 @@ fn is_taken_along(plans: &[Plan], wants: &Wants, change: &Change, own: &Owner) -
     has_plan(plans, own.id) && !is_said(&change.says, own.node) && !is_leaving(wants, own.node)
 }
 
+// Whether an identifier holds the object of a node.
+fn holds_node(held: &Held, id: u32, n: u64) -> bool
+    ensures { result ≡ holds_node held.now.owners.now id n }
+{
+    match held.owners.of(n) {
+        Some(own) => own.id == id,
+        None => false,
+    }
+}
+
+// Whether an identifier holds a directory that is told what it says.
+fn holds_said(held: &Held, says: &[Says], id: u32) -> bool
+    ensures { result ≡ list_any (λ (s : Says). holds_node held.now.owners.now id s.node) says.now }
+{
+    says.iter().any(|said| holds_node(held, id, said.node))
+}
+
+// Whether an identifier has no owner, or one alone, a directory that is told what it says.
+fn is_said_alone(held: &Held, says: &[Says], id: u32) -> bool
+    ensures { result ≡ is_said_alone held.now.owners.now says.now id }
+{
+    if !held.owners.owned(id) {
+        return true;
+    }
+    held.owners.count(id) == 1 && holds_said(held, says, id)
+}
+
+// Whether that holds of a plan's identifier.
+fn is_plan_alone(held: &Held, change: &Change, plan: &Plan) -> bool
+    ensures { result ≡ is_said_alone held.now.owners.now change.now.says.items plan.now.id }
+{
+    is_said_alone(held, &change.says, plan.id)
+}
+
+// Whether it holds of each plan's, so that nothing is taken along.
+fn are_said_alone(held: &Held, plans: &[Plan], change: &Change) -> bool
+    ensures { result ≡ list_all (λ (p : Plan). is_said_alone held.now.owners.now change.now.says.items p.id) plans.now }
+{
+    plans.iter().all(|plan| is_plan_alone(held, change, plan))
+}
+
 // An owner's sectors, for its new ones.
 fn taken_along(
     alloc: Global,
@@ -188,7 +230,7 @@ fn taken_along(
     Ok(Transfer { from, to })
 }
 
-// Those of all owners that are taken along.
+// Those of all owners that are taken along. The owners are gone over only if an identifier has others than one that is told.
 fn all_taken_along(
     alloc: Global,
     held: &Held,
@@ -203,6 +245,9 @@ fn all_taken_along(
     ensures { IfOk result (λ transfers. AreTakenAlong map.now (parts_of held.now) plans.now (filter (is_taken_along plans.now wants.now change.now) held.now.owners.now) transfers.items) }
 {
     let mut transfers = Vec::new(alloc);
+    if are_said_alone(held, plans, change) {
+        return Ok(transfers);
+    }
     for own in held.owners.list() {
         if is_taken_along(plans, wants, change, own) {
             let transfer = taken_along(alloc, held, map, plans, own)?;

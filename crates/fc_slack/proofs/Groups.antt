@@ -1,32 +1,20 @@
--- The open owners in order, one identifier after the other.
-use Rattle.std.proofs.Common.{◌≡◌, ◌<◌, ◌≤◌, ◌&&◌, ◌⊎◌, ℕ, zero, suc, ◌+◌, ◌-◌, Bool, true, false, cond, List, [], ◌∷◌, length, get_or, take, drop, Option, Some, None, inl, inr, refl, sym, ap, subst, ◌∙◌, arith, eq-eqb}
+-- The owners that a directory holds, in order, one identifier after the other.
+use Rattle.std.proofs.Common.{◌≡◌, ◌<◌, ◌≤◌, ◌&&◌, ◌⊎◌, ℕ, zero, suc, ◌+◌, ◌-◌, Bool, true, false, cond, List, [], ◌∷◌, length, get_or, take, drop, Some, None, inl, inr, refl, sym, ap, subst, ◌∙◌, arith, eq-eqb}
 use Rattle.std.specs.Prelude.{filter, nat_le, slice_get}
 use Rattle.std.specs.List.{find}
-use Rattle.std.specs.List.Sorted.{IsNonDecreasingBy, IsPartitionPoint, IsPermutation, IsSortedByKey}
+use Rattle.std.specs.List.Sorted.{IsNonDecreasingBy, IsPartitionPoint, IsPermutation}
 use Rattle.std.proofs.lemmas.Bool.{cases_eq, leb-false, leb-true, ne_eqb}
 use Rattle.std.proofs.lemmas.List.{get_or-drop, get_or-take, length-drop, length-take-le}
-use Rattle.std.proofs.lemmas.List.Sorted.{IsNonDecreasingBy-drop}
+use Rattle.std.proofs.lemmas.List.Sorted.{IsNonDecreasingBy-drop, length_permutation}
 use Rattle.fc_alloc.specs.declared.owner.Owner.{Owner}
 use Rattle.fc_record.specs.Record.{id_limit}
 use Rattle.fc_newmap.specs.Map.{Map}
 use Rattle.fc_image.proofs.ShuffleLemmas.{IsPermutation-filter}
-use Rattle.fc_plan.proofs.Pairs.{in_order as sorted_by_pair, pair_cmp}
-use Rattle.fc_slack.specs.Slack.{AreInOrder, has_id, has_shares, is_good, is_open, least_low, shares_from}
-use Rattle.fc_slack.proofs.OpenLemmas.{none_found}
+use Rattle.fc_alloc.specs.Owners.{AreHeldBy, AreInOrder, is_held}
+use Rattle.fc_slack.specs.Slack.{has_id, has_shares, is_good, least_low, shares_from}
+use Rattle.fc_slack.proofs.OpenLemmas.{none_held}
 use Rattle.fc_slack.proofs.LowLemmas.{and_false}
 use Rattle.fc_slack.proofs.Searches.{least_closed, least_share, no_share}
-
--- ---- sorting
-
--- by identifier, and then by first sector
-abbrev pub key : Owner → ℕ × ℕ
-key o = (o.id, o.first)
-
-pub in_order : (owners : List Owner) → IsSortedByKey key pair_cmp owners → AreInOrder owners
-in_order owners sorted = record {
-  ids = λ i j d le in'. (sorted_by_pair key owners sorted i j d le in').0;
-  firsts = λ i j d le in' same. (sorted_by_pair key owners sorted i j d le in').1 (sym same);
-}
 
 -- ---- the owners of one identifier
 
@@ -133,41 +121,46 @@ module _ (owners : List Owner) (o : Owner) (n : ℕ) (order : AreInOrder owners)
 -- ---- what is passed
 
 -- all owners of the identifier are ahead, or they are passed and it has no share
-abbrev pub IsAheadOrPassed : Map → List Owner → List Owner → ℕ → List Owner → ℕ → Type 0
-IsAheadOrPassed m owners found need rest id =
-    (filter (has_id id) rest ≡ filter (has_id id) found) ⊎ ((filter (has_id id) rest ≡ []) × ((dir : ℕ) → IsPermutation (filter (is_open dir) owners) found → least_low m owners dir need id ≡ None))
+abbrev pub IsAheadOrPassed : Map → List Owner → List Owner → ℕ → ℕ → List Owner → ℕ → Type 0
+IsAheadOrPassed m owners held dir need rest id =
+    (filter (has_id id) rest ≡ filter (has_id id) held) ⊎ ((filter (has_id id) rest ≡ []) × (least_low m owners dir need id ≡ None))
 
-module _ (m : Map) (owners found : List Owner) (need : ℕ) (rest : List Owner) (each : (id : ℕ) → IsAheadOrPassed m owners found need rest id) where
+module _ (m : Map) (owners held : List Owner) (dir need : ℕ) (is : AreHeldBy dir owners held) (rest : List Owner) (each : (id : ℕ) → IsAheadOrPassed m owners held dir need rest id) where
+  -- those of an identifier are those of it that are held
+  of_id : (id : ℕ) → IsPermutation (filter (has_id id) (filter (is_held dir) owners)) (filter (has_id id) held)
+  of_id id = IsPermutation-filter (has_id id) (filter (is_held dir) owners) held is.same
+
   -- an identifier without owners ahead has no share
-  none_ahead : (id dir : ℕ) → IsPermutation (filter (is_open dir) owners) found → filter (has_id id) rest ≡ [] → least_low m owners dir need id ≡ None
-  none_ahead id dir moved none = elim (each id) [
+  none_ahead : (id : ℕ) → filter (has_id id) rest ≡ [] → least_low m owners dir need id ≡ None
+  none_ahead id none = elim (each id) [
     | inl ahead ↦
         least_closed m owners dir need id
-        (ap (λ (b : Bool). has_shares m id && b) (none_found owners found dir id moved (sym ahead ∙ none)) ∙ and_false (has_shares m id))
-    | inr passed ↦ passed.1 dir moved
+        (ap (λ (b : Bool). has_shares m id && b) (none_held dir id owners (void (filter (has_id id) (filter (is_held dir) owners)) (subst (λ (os : List Owner). IsPermutation (filter (has_id id) (filter (is_held dir) owners)) os) (sym ahead ∙ none) (of_id id))))
+        ∙ and_false (has_shares m id))
+    | inr passed ↦ passed.1
   ]
+    where
+      void : (os : List Owner) → IsPermutation os [] → os ≡ []
+      void [] s = refl
+      void (o ∷ os) s = absurd (let long = length_permutation (o ∷ os) [] s in omega (arith, long))
 
-  pub all_passed : (dir : ℕ) → IsPermutation (filter (is_open dir) owners) found → rest ≡ [] → find (is_good m owners dir need) (shares_from 3 (id_limit m.geometry - 3)) ≡ None
-  all_passed dir moved none = no_share m owners dir need (λ k. none_ahead k dir moved (ap (filter (has_id k)) none))
+  pub all_passed : rest ≡ [] → find (is_good m owners dir need) (shares_from 3 (id_limit m.geometry - 3)) ≡ None
+  all_passed none = no_share m owners dir need (λ k. none_ahead k (ap (filter (has_id k)) none))
 
   module _ (id : ℕ) (group others : List Owner) (first : IsFirstGroup id rest group others) where
-    -- the group is all that was found of the identifier
-    all_found : group ≡ filter (has_id id) found
-    all_found = first.is.whole ∙ elim (each id) [
-      | inl ahead ↦ ahead
-      | inr passed ↦ absurd (let none = ap (λ (os : List Owner). length os) (first.is.whole ∙ passed.0) in let some = first.some in omega (arith, none, some))
-    ]
-
-    group_found : (dir : ℕ) → IsPermutation (filter (is_open dir) owners) found → IsPermutation (filter (has_id id) (filter (is_open dir) owners)) group
-    group_found dir moved =
-        subst (λ (os : List Owner). IsPermutation (filter (has_id id) (filter (is_open dir) owners)) os) (sym all_found) (IsPermutation-filter (has_id id) (filter (is_open dir) owners) found moved)
+    -- the group is all that is held of the identifier
+    pub group_found : IsPermutation (filter (has_id id) (filter (is_held dir) owners)) group
+    group_found =
+        subst (λ (os : List Owner). IsPermutation (filter (has_id id) (filter (is_held dir) owners)) os)
+        (sym (first.is.whole ∙ elim (each id) [
+          | inl ahead ↦ ahead
+          | inr passed ↦ absurd (let none = ap (λ (os : List Owner). length os) (first.is.whole ∙ passed.0) in let some = first.some in omega (arith, none, some))
+        ])) (of_id id)
 
     -- a group without a share is passed
-    pub goes_past : (low : Option ℕ) → low ≡ None → ((dir : ℕ) → IsPermutation (filter (has_id id) (filter (is_open dir) owners)) group → low ≡ least_low m owners dir need id)
-        → (k : ℕ) → IsAheadOrPassed m owners found need others k
-    goes_past low none is k = elim (cases_eq k id) [
-      | inl same ↦
-          subst (λ (j : ℕ). IsAheadOrPassed m owners found need others j) (sym same) (inr (first.is.gone, λ dir moved. sym (is dir (group_found dir moved)) ∙ none))
+    pub goes_past : least_low m owners dir need id ≡ None → (k : ℕ) → IsAheadOrPassed m owners held dir need others k
+    goes_past none k = elim (cases_eq k id) [
+      | inl same ↦ subst (λ (j : ℕ). IsAheadOrPassed m owners held dir need others j) (sym same) (inr (first.is.gone, none))
       | inr other ↦ elim (each k) [
         | inl ahead ↦ inl (first.is.others k other ∙ ahead)
         | inr passed ↦ inr (first.is.others k other ∙ passed.0, passed.1)
@@ -175,8 +168,6 @@ module _ (m : Map) (owners found : List Owner) (need : ℕ) (rest : List Owner) 
     ]
 
     -- and one that has a share has the first
-    pub stops_here : (low : ℕ) (result : Option ℕ) → result ≡ Some low → ((dir : ℕ) → IsPermutation (filter (has_id id) (filter (is_open dir) owners)) group → result ≡ least_low m owners dir need id)
-        → (dir : ℕ) → IsPermutation (filter (is_open dir) owners) found → find (is_good m owners dir need) (shares_from 3 (id_limit m.geometry - 3)) ≡ Some (id, low)
-    stops_here low result found' is dir moved =
-        least_share m owners dir need id low (λ j less. none_ahead j dir moved (none_there j rest (λ k d in'. (let h = first.from k d in' in omega (arith, h, less)))))
-        (sym (is dir (group_found dir moved)) ∙ found')
+    pub stops_here : (low : ℕ) → least_low m owners dir need id ≡ Some low → find (is_good m owners dir need) (shares_from 3 (id_limit m.geometry - 3)) ≡ Some (id, low)
+    stops_here low found =
+        least_share m owners dir need id low (λ j less. none_ahead j (none_there j rest (λ k d in'. (let h = first.from k d in' in omega (arith, h, less))))) found

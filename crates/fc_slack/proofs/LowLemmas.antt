@@ -1,14 +1,19 @@
 -- The least low byte at which no owner is in the way, found by going over the owners in the order of their first sectors.
-use Rattle.std.proofs.Common.{◌≡◌, ◌<◌, ◌≤◌, ◌&&◌, ◌==◌, ℕ, zero, suc, ◌+◌, ◌-◌, ◌/◌, Bool, true, false, List, [], ◌∷◌, length, get_or, take, nat_le, refl, sym, ap, ap₂, subst, ◌∙◌, inl, inr, arith, mul-le-mul_right}
+use Rattle.std.proofs.Common.{◌≡◌, ◌<◌, ◌≤◌, ◌&&◌, ◌==◌, ℕ, zero, suc, ◌+◌, ◌-◌, ◌*◌, ◌/◌, ◌%◌, ◌^◌, min, max, Bool, true, false, List, [], ◌∷◌, length, get_or, take, nat_le, refl, sym, ap, ap₂, subst, ◌∙◌, inl, inr, arith, mul-le-mul_right}
 use Rattle.std.specs.Prelude.{◌||◌}
 use Rattle.std.specs.List.{list_all}
 use Rattle.std.specs.List.Sorted.{IsNonDecreasingBy}
 use Rattle.std.proofs.lemmas.Bool.{cases_lt, le-leb, leb-true}
+use Rattle.std.proofs.lemmas.Grind.{div_ceil_times}
 use Rattle.std.proofs.lemmas.List.Folds.{list_all_more}
+use Rattle.std.proofs.lemmas.Nat.{pow_pos}
+use Rattle.std.proofs.Math.Nat.{add-mul, mul-div_cancel_left}
 use Rattle.fc_alloc.specs.declared.owner.Owner.{Owner}
 use Rattle.fc_image.specs.Layout.{low_start}
 use Rattle.fc_newmap.specs.Map.{Map}
-use Rattle.fc_slack.specs.Lows.{IsLow, IsPast, is_clear}
+use Rattle.fc_newmap.specs.NewMap.{IsNewMap}
+use Rattle.fc_record.specs.declared.Geometry.{Geometry}
+use Rattle.fc_slack.specs.Lows.{IsLow, IsPast, is_clear, start_of}
 
 pub not_le : (a b : ℕ) → b < a → nat_le a b ≡ false
 not_le a b less = by (nat_le a b) refl
@@ -17,8 +22,11 @@ not_le a b less = by (nat_le a b) refl
     by true e = absurd (let h = leb-true a b e in omega arith)
     by false e = refl
 
+pub later : (step low k : ℕ) → low ≤ k → start_of step low ≤ start_of step k
+later step low k le = mul-le-mul_right step (let e : low - 1 ≤ k - 1 = omega arith in e)
+
 pub later_start : (m : Map) (low k : ℕ) → low ≤ k → low_start m low ≤ low_start m k
-later_start m low k le = mul-le-mul_right (m.geometry.share / m.geometry.sector) (let e : low - 1 ≤ k - 1 = omega arith in e)
+later_start m = later (m.geometry.share / m.geometry.sector)
 
 -- ---- one owner
 
@@ -27,36 +35,50 @@ or_true true = refl
 or_true false = refl
 
 -- an owner that is in the way, and what is after it
-pub moves : (m : Map) (need : ℕ) (o : Owner) (low new : ℕ) → is_clear (low_start m low) need o ≡ false → low ≤ new → new ≤ 256 → (new < 256 → o.first + o.sectors ≤ low_start m new)
-    → ((k : ℕ) → low ≤ k → k < new → low_start m k < o.first + o.sectors) → IsPast m need o low new
-moves m need o low new in_way from byte behind before = record {
+pub moves : (step need : ℕ) (o : Owner) (low new : ℕ) → is_clear (start_of step low) need o ≡ false → low ≤ new → new ≤ 256 → (new < 256 → o.first + o.sectors ≤ start_of step new)
+    → ((k : ℕ) → low ≤ k → k < new → start_of step k < o.first + o.sectors) → IsPast step need o low new
+moves step need o low new in_way from byte behind before = record {
   from = from;
   byte = λ b. byte;
   clear = λ b. (
-      ap (λ (t : Bool). nat_le (low_start m new + need) o.first || (t || (o.sectors == 0))) (le-leb (o.first + o.sectors) (low_start m new) (behind b))
-      ∙ or_true (nat_le (low_start m new + need) o.first));
+      ap (λ (t : Bool). nat_le (start_of step new + need) o.first || (t || (o.sectors == 0))) (le-leb (o.first + o.sectors) (start_of step new) (behind b))
+      ∙ or_true (nat_le (start_of step new + need) o.first));
   least = λ k a b. (
-      let later = later_start m low k a in
-      let far : o.first < low_start m k + need = (let h = near_of in omega arith) in
+      let after = later step low k a in
+      let far : o.first < start_of step k + need = (let h = near_of in omega arith) in
       let short = before k a b in
-      ap₂ (λ (s t : Bool). s || (t || (o.sectors == 0))) (not_le (low_start m k + need) o.first far) (not_le (o.first + o.sectors) (low_start m k) short) ∙ some);
+      ap₂ (λ (s t : Bool). s || (t || (o.sectors == 0))) (not_le (start_of step k + need) o.first far) (not_le (o.first + o.sectors) (start_of step k) short) ∙ some);
   near = λ h. near_of;
 }
   where
-    near_of : o.first < low_start m low + need
-    near_of = by (nat_le (low_start m low + need) o.first) refl in_way
+    near_of : o.first < start_of step low + need
+    near_of = by (nat_le (start_of step low + need) o.first) refl in_way
       where
-        by : (t : Bool) → nat_le (low_start m low + need) o.first ≡ t → (t || (nat_le (o.first + o.sectors) (low_start m low) || (o.sectors == 0))) ≡ false → o.first < low_start m low + need
+        by : (t : Bool) → nat_le (start_of step low + need) o.first ≡ t → (t || (nat_le (o.first + o.sectors) (start_of step low) || (o.sectors == 0))) ≡ false → o.first < start_of step low + need
         by true e f = absurd (cc)
-        by false e f = elim (cases_lt o.first (low_start m low + need)) [ inl less ↦ less | inr more ↦ absurd (let h = le-leb (low_start m low + need) o.first more in let k : true ≡ false = sym h ∙ e in cc) ]
+        by false e f = elim (cases_lt o.first (start_of step low + need)) [ inl less ↦ less | inr more ↦ absurd (let h = le-leb (start_of step low + need) o.first more in let k : true ≡ false = sym h ∙ e in cc) ]
 
     some : (o.sectors == 0) ≡ false
-    some = by (nat_le (low_start m low + need) o.first) (nat_le (o.first + o.sectors) (low_start m low)) (o.sectors == 0) in_way
+    some = by (nat_le (start_of step low + need) o.first) (nat_le (o.first + o.sectors) (start_of step low)) (o.sectors == 0) in_way
       where
         by : (a b t : Bool) → (a || (b || t)) ≡ false → t ≡ false
         by true b t f = absurd (cc)
         by false true t f = absurd (cc)
         by false false t f = f
+
+-- the low byte at which so many sectors are behind, by a division
+pub behind : (step low end new : ℕ) → 0 < step → 0 < low → new ≡ max low (min (end / step + min 1 (end % step)) 255 + 1)
+    → (new < 256 → end ≤ start_of step new) × ((k : ℕ) → low ≤ k → k < new → start_of step k < end)
+behind step low end new some from is =
+    let steps : ℕ = end / step + min 1 (end % step) in
+    let times = div_ceil_times end step some in (
+      λ b. (let le : steps ≤ new - 1 = omega arith in let far = mul-le-mul_right step le in let h = times.0 in omega arith),
+      λ k a b. (
+          let le : k - 1 + 1 ≤ steps = omega arith in
+          let near = mul-le-mul_right step le in
+          let one = add-mul (k - 1) 1 step in
+          let h = times.1 in omega arith),
+    )
 
 -- ---- some owners
 
@@ -96,6 +118,15 @@ kept need f f' bound d (x ∷ xs) (suc i) before near le e =
 
 -- ---- an owner more
 
+-- low bytes begin one sector or more after one another
+pub some_step : (m : Map) → IsNewMap m → 0 < m.geometry.share / m.geometry.sector
+some_step m is =
+    let r = is.of_record in
+    subst (λ (g : Geometry). 0 < g.share / g.sector) r.1.1 (by r.0.log2_sector r.0.log2_share)
+  where
+    by : (s k : ℕ) → 0 < 2 ^ s * 2 ^ k / 2 ^ s
+    by s k = subst (λ (n : ℕ). 0 < n) (sym (mul-div_cancel_left (2 ^ k) (pow_pos s))) (pow_pos k)
+
 -- before the first owner
 pub set_off : (m : Map) (need : ℕ) (owners : List Owner) → IsLow m need (take 0 owners) 1
 set_off m need [] = record { from = omega arith; byte = omega arith; clear = λ b. refl; least = λ k a b. absurd (omega arith) }
@@ -108,7 +139,7 @@ module _ (m : Map) (need : ℕ) (xs : List Owner) (i : ℕ) (o : Owner) (in' : i
   more : (k : ℕ) → free k (i + 1) ≡ (free k i && is_clear (low_start m k) need o)
   more k = list_all_more (is_clear (low_start m k) need) xs i o in' ∙ ap (λ (x : Owner). free k i && is_clear (low_start m k) need x) is
 
-  pub goes_on : (low new : ℕ) → IsNonDecreasingBy (λ (x : Owner). x.first) xs → IsPast m need o low new → IsLow m need (take i xs) low → IsLow m need (take (i + 1) xs) new
+  pub goes_on : (low new : ℕ) → IsNonDecreasingBy (λ (x : Owner). x.first) xs → IsPast (m.geometry.share / m.geometry.sector) need o low new → IsLow m need (take i xs) low → IsLow m need (take (i + 1) xs) new
   goes_on low new sorted past is_low = record {
     from = (let f = past.from in let g = is_low.from in omega arith);
     byte = past.byte is_low.byte;

@@ -1,5 +1,5 @@
 -- Low bytes at which owners of an identifier are in nobody's way.
-use Rattle.std.specs.Prelude.{◌≡◌, ◌<◌, ◌≤◌, ℕ, ◌+◌, Bool, true, false, ◌&&◌, ◌||◌, ◌==◌, nat_le, nat_lt, List, length}
+use Rattle.std.specs.Prelude.{◌≡◌, ◌<◌, ◌≤◌, ℕ, ◌+◌, Bool, true, false, ◌&&◌, ◌||◌, ◌==◌, ◌-◌, ◌*◌, nat_le, nat_lt, List, length}
 use Rattle.std.specs.List.{list_all}
 use Rattle.fc_alloc.specs.declared.owner.Owner.{Owner}
 use Rattle.fc_image.specs.Layout.{id_sectors, low_start}
@@ -9,13 +9,17 @@ use Rattle.fc_newmap.specs.Map.{Map}
 abbrev pub is_clear : ℕ → ℕ → Owner → Bool
 is_clear first need o = nat_le (first + need) o.first || (nat_le (o.first + o.sectors) first || (o.sectors == 0))
 
--- From a low byte on, this is the least at which the owner is not in the way.
-pub record IsPast (m : Map) (need : ℕ) (o : Owner) (old new : ℕ) : Type 0 where
+-- how many sectors into an identifier a low byte begins, where each begins so many after the one before
+abbrev pub start_of : ℕ → ℕ → ℕ
+start_of step low = (low - 1) * step
+
+-- From a low byte on, this is the least at which the owner is not in the way, where each begins so many sectors after the one before.
+pub record IsPast (step need : ℕ) (o : Owner) (old new : ℕ) : Type 0 where
   pub from : old ≤ new
   pub byte : old ≤ 256 → new ≤ 256
-  pub clear : new < 256 → is_clear (low_start m new) need o ≡ true
-  pub least : (k : ℕ) → old ≤ k → k < new → is_clear (low_start m k) need o ≡ false
-  pub near : old < new → o.first < low_start m old + need
+  pub clear : new < 256 → is_clear (start_of step new) need o ≡ true
+  pub least : (k : ℕ) → old ≤ k → k < new → is_clear (start_of step k) need o ≡ false
+  pub near : old < new → o.first < start_of step old + need
 
 -- This is the least low byte at which none of the owners is in the way; 256 says that there is none.
 pub record IsLow (m : Map) (need : ℕ) (owners : List Owner) (low : ℕ) : Type 0 where

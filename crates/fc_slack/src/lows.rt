@@ -2,8 +2,7 @@
 
 ghost use Rattle.std.specs.Prelude.{◌≡◌, ◌<◌, ◌≤◌, ◌+◌, ◌^◌, ℕ, nat_le};
 ghost use Rattle.std.specs.List.Sorted.{IsNonDecreasingBy};
-ghost use Rattle.fc_image.specs.Layout.{low_start};
-ghost use Rattle.fc_slack.specs.Lows.{IsLow, IsPast, is_clear};
+ghost use Rattle.fc_slack.specs.Lows.{IsLow, IsPast, is_clear, start_of};
 
 use fc_alloc::Owner;
 use fc_newmap::NewMap;
@@ -27,34 +26,48 @@ fn is_clear(o: &Owner, first: u64, need: u64) -> bool
     first + need <= o.first || ends_by(o, first) || o.sectors == 0
 }
 
+// How many sectors into its identifier a low byte begins, where each begins `step` sectors after the one before.
+fn start_of(step: u64, low: u32) -> u64
+    requires step { step < 2 ^ 34 }
+    requires low { low < 256 }
+    ensures { result ≡ start_of step low }
+{
+    u64::from(low).saturating_sub(1) * step
+}
+
 // The least low byte, from one on, that begins after what an owner has.
-fn low_behind(map: &NewMap, low: u32, o: &Owner) -> u32
-    requires { low < 256 }
+fn low_behind(step: u64, low: u32, o: &Owner) -> u32
+    requires some { 0 < step }
+    requires step { step < 2 ^ 34 }
+    requires first { 0 < low }
+    requires low { low < 256 }
     ensures from { low ≤ result }
     ensures byte { result ≤ 256 }
-    ensures behind { result < 256 → o.now.first + o.now.sectors ≤ low_start map.now result }
-    ensures least { (k : ℕ) → low ≤ k → k < result → low_start map.now k < o.now.first + o.now.sectors }
+    ensures behind { result < 256 → o.now.first + o.now.sectors ≤ start_of step result }
+    ensures least { (k : ℕ) → low ≤ k → k < result → start_of step k < o.now.first + o.now.sectors }
 {
-    for later in low..LOW_LIMIT {
-        if ends_by(o, low_start(map, later)) {
-            return later;
-        }
-    }
-    LOW_LIMIT
+    let Some(end) = o.first.checked_add(o.sectors) else {
+        return LOW_LIMIT;
+    };
+    let steps = end.div_ceil(step).min(u64::from(LOW_LIMIT - 1));
+    low.max(steps as u32 + 1)
 }
 
 // The least low byte, from one on, at which an owner isn't in the way of `need` sectors.
-fn low_past(map: &NewMap, low: u32, o: &Owner, need: u64) -> u32
+fn low_past(step: u64, low: u32, o: &Owner, need: u64) -> u32
+    requires some { 0 < step }
+    requires step { step < 2 ^ 34 }
+    requires first { 0 < low }
     requires few { need < 2 ^ 63 }
-    ensures { IsPast map.now need o.now low result }
+    ensures { IsPast step need o.now low result }
 {
     if low >= LOW_LIMIT {
         return low;
     }
-    if is_clear(o, low_start(map, low), need) {
+    if is_clear(o, start_of(step, low), need) {
         low
     } else {
-        low_behind(map, low, o)
+        low_behind(step, low, o)
     }
 }
 
@@ -65,9 +78,10 @@ pub fn free_low(map: &NewMap, owners: &[Owner], need: u64) -> u32
     requires sorted { IsNonDecreasingBy (λ o. o.first) owners.now }
     ensures { IsLow map.now need owners.now result }
 {
+    let step = low_start(map, 2);
     let mut low = 1;
     for o in owners {
-        low = low_past(map, low, o, need);
+        low = low_past(step, low, o, need);
     }
     low
 }

@@ -7,7 +7,7 @@ use Rattle.std.proofs.lemmas.Bool.{lt-ltb}
 use Rattle.fc_device.specs.declared.disk.Disk.{Ghosts}
 use Rattle.fc_device.proofs.DiskLaws.{Laws}
 use Rattle.fc_device.proofs.StopLemmas.{goes_on_same}
-use Rattle.fc_device.specs.Calls.{StopsAsBefore, OnlyReads}
+use Rattle.fc_device.specs.Calls.{StopsAsBefore, OnlyReads, SameImage}
 use Rattle.fc_device.specs.Stops.{StillLeaves}
 use Rattle.fc_names.specs.declared.name.NameForm.{NameForm}
 use Rattle.fc_names.specs.declared.name.NameForm.TheVariants as forms
@@ -159,14 +159,13 @@ module _ (kind : Kind) (address size : ℕ) (parts : Parts) (told : Option (List
 
 module _ {D : Type 0} {d : Ghosts D} (law : Laws d) where
   -- reads, a change of the size of sectors, and reads
-  pub shapes_then : (old mid new end : D) → OnlyReads d old mid → d.attached new ≡ d.attached mid → d.tells_stops new ≡ d.tells_stops mid → d.gives new ≡ d.gives mid → d.asked new ≡ d.asked mid → d.image_length new ≡ d.image_length mid
-      → d.bytes new ≡ d.bytes mid → d.pending new ≡ d.pending mid → StopsAsBefore d mid new → StillLeaves d.moment d.left_since mid new → d.faults mid ≤ d.faults new → OnlyReads d new end → OnlyShapes d old end
-  shapes_then old mid new end first attached tells gives asked long bytes pending stops still faults last = record {
-    attached_stays = last.form.attached_stays ∙ attached ∙ first.form.attached_stays;
-    tells_stays = last.form.tells_stays ∙ tells ∙ first.form.tells_stays;
-    gives_stays = last.form.gives_stays ∙ gives ∙ first.form.gives_stays;
-    asked_stays = last.form.asked_stays ∙ asked ∙ first.form.asked_stays;
-    length_stays = last.form.length_stays ∙ long ∙ first.form.length_stays;
+  pub shapes_then : (old mid new end : D) → OnlyReads d old mid → SameImage d mid new → d.bytes new ≡ d.bytes mid → d.pending new ≡ d.pending mid → StopsAsBefore d mid new → StillLeaves d.moment d.left_since mid new → d.faults mid ≤ d.faults new → OnlyReads d new end → OnlyShapes d old end
+  shapes_then old mid new end first image bytes pending stops still faults last = record {
+    attached_stays = last.form.attached_stays ∙ image.attached_stays ∙ first.form.attached_stays;
+    tells_stays = last.form.tells_stays ∙ image.tells_stays ∙ first.form.tells_stays;
+    gives_stays = last.form.gives_stays ∙ image.gives_stays ∙ first.form.gives_stays;
+    asked_stays = last.form.asked_stays ∙ image.asked_stays ∙ first.form.asked_stays;
+    length_stays = last.form.length_stays ∙ image.length_stays ∙ first.form.length_stays;
     bytes_stay = last.bytes ∙ bytes ∙ first.bytes;
     pending_stays = last.pending ∙ pending ∙ first.pending;
     stops = goes_on_same law (goes_on_same law first.stops stops) last.stops;

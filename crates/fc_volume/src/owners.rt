@@ -57,5 +57,6 @@ pub fn owners_of(alloc: Global, tree: &Tree, space: &Space) -> Result<Owners, No
     for n in 0..tree.bound() {
         add_node(&mut owners, tree, space, n)?;
     }
+    owners.settle();
     Ok(owners)
 }

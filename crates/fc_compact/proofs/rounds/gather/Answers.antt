@@ -1,4 +1,4 @@
-use Rattle.std.proofs.Common.{◌<◌, ◌≤◌, ◌*◌, ◌+◌, length, ap, sym, subst, ◌∙◌, arith, IsFalse}
+use Rattle.std.proofs.Common.{◌<◌, length, ap, sym, subst, ◌∙◌, arith, IsFalse}
 use Rattle.std.specs.Prelude.{All}
 use Rattle.std.specs.Option.{ForSome}
 use Rattle.std.proofs.lemmas.Bool.{eqb-false, eqb-true}
@@ -7,6 +7,7 @@ use Rattle.fc_device.proofs.DiskLaws.{laws, form_then}
 use Rattle.fc_device.proofs.StopLemmas.{keeps_same, keeps_then, led}
 use Rattle.fc_record.specs.declared.Geometry.{Geometry}
 use Rattle.fc_newmap.specs.Map.{Map, runs_of}
+use Rattle.fc_copies.specs.Committing.{TakesCopies}
 use Rattle.fc_copies.proofs.PassLemmas.{keeps_told}
 use Rattle.fc_compact.specs.Copy.{ChangesHoles}
 use Rattle.fc_compact.specs.Rounds.{Carrying}
@@ -99,16 +100,17 @@ returns-in_err-sync-clause-keeps g c =
     (kept owners a.disk.now c.sync.new.self m c.gather_zones.new.map c.requires.stands _ (kept_preserves (laws g.met.D.Disk) c.laws.ensures m owners c.requires.stands.ready (flushed g synced)) tt tt ok.geometry
     (form g synced) (cause_then g.D.Disk a.disk.now c.gather_zones.new.disk c.sync.new.self _ ok.cause.later c.in_err-sync.ensures.cause))
 
-pub commit-requires-clause-attached : goal.commit-requires-clause-attached
-commit-requires-clause-attached g c = (form g (goal.at.commit-requires-clause-attached g c).After-sync).attached_stays ∙ c.requires.stands.disc.attached
-
-pub commit-requires-clause-size : goal.commit-requires-clause-size
-commit-requires-clause-size g c = (form g (goal.at.commit-requires-clause-size g c).After-sync).size_stays ∙ c.requires.stands.disc.size ∙ ap (λ (h : Geometry). h.sector) (sym c.in_ok-next.ensures.gathers.packs.leads.geometry)
-
-pub commit-requires-clause-on_disk : goal.commit-requires-clause-on_disk
-commit-requires-clause-on_disk g c =
-    subst (λ (h : Geometry). h.map_sector + 2 * h.zones ≤ g.D.Disk.sectors c.sync.new.self) (sym c.in_ok-next.ensures.gathers.packs.leads.geometry)
-    (let same = (form g (goal.at.commit-requires-clause-on_disk g c).After-sync).sectors_stay in omega (arith, c.requires.stands.copies, same))
+pub commit-requires-clause-disk : goal.commit-requires-clause-disk
+commit-requires-clause-disk g c =
+    let same = form g (goal.at.commit-requires-clause-disk g c).After-sync in
+    let room = same.sectors_stay in
+    subst (λ (h : Geometry). TakesCopies g.D.Disk c.sync.new.self h) (sym c.in_ok-next.ensures.gathers.packs.leads.geometry)
+    (record {
+      attached = same.attached_stays ∙ c.requires.stands.disc.attached;
+      settled = c.in_ok-sync.ensures.durable;
+      size = same.size_stays ∙ c.requires.stands.disc.size;
+      on_disk = omega (arith, c.requires.stands.copies, room);
+    })
 
 pub commit-requires-clause-rising : goal.commit-requires-clause-rising
 commit-requires-clause-rising g c = c.in_ok-next.ensures.gathers.rising

@@ -23,7 +23,7 @@ returns-clause-keeps g c =
     let n_is : n ≡ record m { zones = gated changed m.zones } = c.gate_zones.ensures.map ∙ ap (λ (zs : List ℕ). record m { zones = gated zs m.zones }) c.deref.ensures.0 in
     let listed : c.deref-2.result.now ≡ changed = c.deref-2.ensures.0 in
     let map_is = subst IsNewMap n_is c.write_both.ensures.map in
-    let header : 4 ≤ m.geometry.sector = omega (arith, header_fits (d.sector_size start) (law.sector_sizes start), c.requires.size) in
+    let header : 4 ≤ m.geometry.sector = omega (arith, header_fits (d.sector_size start) (law.sector_sizes start), c.requires.disk.size) in
     let few : length changed ≤ 9 = omega (arith, c.deref.ensures.1, ap (λ (zs : List ℕ). length zs) c.deref.ensures.0) in
     keeps_told law c.write_both.ensures.keeps
     (λ was image told passes.
@@ -53,7 +53,7 @@ returns-clause-ends g c =
     let n_is : n ≡ record m { zones = gated changed m.zones } = c.gate_zones.ensures.map ∙ ap (λ (zs : List ℕ). record m { zones = gated zs m.zones }) c.deref.ensures.0 in
     let listed : c.deref-2.result.now ≡ changed = c.deref-2.ensures.0 in
     let map_is = subst IsNewMap n_is c.write_both.ensures.map in
-    let header : 4 ≤ m.geometry.sector = omega (arith, header_fits (d.sector_size start) (law.sector_sizes start), c.requires.size) in
+    let header : 4 ≤ m.geometry.sector = omega (arith, header_fits (d.sector_size start) (law.sector_sizes start), c.requires.disk.size) in
     let few : length changed ≤ 9 = omega (arith, c.deref.ensures.1, ap (λ (zs : List ℕ). length zs) c.deref.ensures.0) in
     on_ok_weaker c.write_both.result
     (λ written was told image is.

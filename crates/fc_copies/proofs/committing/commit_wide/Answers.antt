@@ -20,7 +20,7 @@ returns-clause-frame g c =
     let n_is : n ≡ record m { zones = sealed_zones changed m.zones } = c.seal_zones.ensures.map ∙ ap (λ (zs : List ℕ). record m { zones = sealed_zones zs m.zones }) c.deref.ensures.value in
     let listed : c.deref-2.result.now ≡ changed = c.deref-2.ensures.value in
     let map_is = subst IsNewMap n_is c.write_both.ensures.map in
-    let header : 4 ≤ m.geometry.sector = omega (arith, header_fits (d.sector_size start) (law.sector_sizes start), c.requires.size) in
+    let header : 4 ≤ m.geometry.sector = omega (arith, header_fits (d.sector_size start) (law.sector_sizes start), c.requires.disk.size) in
     keeps_told law c.write_both.ensures.keeps
     (λ was image told passes.
     passes_frame m.geometry was image changed _
@@ -37,7 +37,7 @@ returns-clause-ends g c =
     let n_is : n ≡ record m { zones = sealed_zones changed m.zones } = c.seal_zones.ensures.map ∙ ap (λ (zs : List ℕ). record m { zones = sealed_zones zs m.zones }) c.deref.ensures.value in
     let listed : c.deref-2.result.now ≡ changed = c.deref-2.ensures.value in
     let map_is = subst IsNewMap n_is c.write_both.ensures.map in
-    let header : 4 ≤ m.geometry.sector = omega (arith, header_fits (d.sector_size start) (law.sector_sizes start), c.requires.size) in
+    let header : 4 ≤ m.geometry.sector = omega (arith, header_fits (d.sector_size start) (law.sector_sizes start), c.requires.disk.size) in
     on_ok_weaker c.write_both.result
     (λ written was told image is.
     subst (λ (zs : List (List ℕ)). CommitEnds m.geometry was zs image) (sym (ap (λ (n : Map). n.zones) n_is))

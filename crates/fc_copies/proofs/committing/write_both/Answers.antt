@@ -24,7 +24,7 @@ returns-in_err-write_zones-clause-keeps g c =
     let one = c.start_of-one.result in
     let one_is : one ≡ copy_start geometry One = c.start_of-one.ensures.value ∙ ap (λ (g : Geometry). copy_start g One) c.geometry.ensures.value in
     let part_one : (was image : List ℕ) → IsPartWritten (d.sector_size start) one 0 geometry.zones (sector_of m) was image → IsPartWritten geometry.sector (copy_start geometry One) 0 geometry.zones (sector_of m) was image =
-    part_as (d.sector_size start) geometry.sector one (copy_start geometry One) 0 geometry.zones (sector_of m) (sector_of m) c.requires.size one_is (λ z. refl) in
+    part_as (d.sector_size start) geometry.sector one (copy_start geometry One) 0 geometry.zones (sector_of m) (sector_of m) c.requires.disk.size one_is (λ z. refl) in
     keeps_told law c.write_zones.ensures.keeps (λ was image told part. inl (part_one was image part))
 
 pub returns-clause-keeps : goal.returns-clause-keeps
@@ -39,17 +39,17 @@ returns-clause-keeps g c =
     let one = c.start_of-one.result in
     let one_is : one ≡ copy_start geometry One = c.start_of-one.ensures.value ∙ ap (λ (g : Geometry). copy_start g One) c.geometry.ensures.value in
     let part_one : (was image : List ℕ) → IsPartWritten (d.sector_size start) one 0 geometry.zones (sector_of m) was image → IsPartWritten geometry.sector (copy_start geometry One) 0 geometry.zones (sector_of m) was image =
-    part_as (d.sector_size start) geometry.sector one (copy_start geometry One) 0 geometry.zones (sector_of m) (sector_of m) c.requires.size one_is (λ z. refl) in
+    part_as (d.sector_size start) geometry.sector one (copy_start geometry One) 0 geometry.zones (sector_of m) (sector_of m) c.requires.disk.size one_is (λ z. refl) in
     let new = c.write_zones-2.new.disk in
     let two = c.start_of-two.result in
     let two_is : two ≡ copy_start geometry Two = c.start_of-two.ensures.value ∙ ap (λ (g : Geometry). copy_start g Two) c.geometry-2.ensures.value in
-    let size = c.write_zones.ensures.form.size_stays ∙ c.requires.size in
+    let size = c.write_zones.ensures.form.size_stays ∙ c.requires.disk.size in
     let part_two : (was image : List ℕ) → IsPartWritten (d.sector_size mid) two 0 geometry.zones (sector_of m) was image → IsPartWritten geometry.sector (copy_start geometry Two) 0 geometry.zones (sector_of m) was image =
     part_as (d.sector_size mid) geometry.sector two (copy_start geometry Two) 0 geometry.zones (sector_of m) (sector_of m) size two_is (λ z. refl) in
     let first_passed : (was there : List ℕ) → d.bytes start ≡ Some was → d.bytes mid ≡ Some there → IsPartWritten (d.sector_size start) one 0 geometry.zones (sector_of m) was there → HasPassed geometry One zones (sector_of m) was there =
     λ was there told told_mid part. record {
       part = part_one was there part;
-      each = each_as (d.sector_size start) geometry.sector one (copy_start geometry One) zones (sector_of m) there c.requires.size one_is (c.in_ok-write_zones.ensures.written was told there told_mid);
+      each = each_as (d.sector_size start) geometry.sector one (copy_start geometry One) zones (sector_of m) there c.requires.disk.size one_is (c.in_ok-write_zones.ensures.written was told there told_mid);
     } in
     keeps_on law c.write_zones.ensures.keeps c.write_zones-2.ensures.keeps (λ was image told part. inl (part_one was image part))
     (λ was there image told told_mid part then. inr (there, first_passed was there told told_mid part, part_two there image then))
@@ -66,17 +66,17 @@ returns-clause-written g c =
     let one = c.start_of-one.result in
     let one_is : one ≡ copy_start geometry One = c.start_of-one.ensures.value ∙ ap (λ (g : Geometry). copy_start g One) c.geometry.ensures.value in
     let part_one : (was image : List ℕ) → IsPartWritten (d.sector_size start) one 0 geometry.zones (sector_of m) was image → IsPartWritten geometry.sector (copy_start geometry One) 0 geometry.zones (sector_of m) was image =
-    part_as (d.sector_size start) geometry.sector one (copy_start geometry One) 0 geometry.zones (sector_of m) (sector_of m) c.requires.size one_is (λ z. refl) in
+    part_as (d.sector_size start) geometry.sector one (copy_start geometry One) 0 geometry.zones (sector_of m) (sector_of m) c.requires.disk.size one_is (λ z. refl) in
     let new = c.write_zones-2.new.disk in
     let two = c.start_of-two.result in
     let two_is : two ≡ copy_start geometry Two = c.start_of-two.ensures.value ∙ ap (λ (g : Geometry). copy_start g Two) c.geometry-2.ensures.value in
-    let size = c.write_zones.ensures.form.size_stays ∙ c.requires.size in
+    let size = c.write_zones.ensures.form.size_stays ∙ c.requires.disk.size in
     let part_two : (was image : List ℕ) → IsPartWritten (d.sector_size mid) two 0 geometry.zones (sector_of m) was image → IsPartWritten geometry.sector (copy_start geometry Two) 0 geometry.zones (sector_of m) was image =
     part_as (d.sector_size mid) geometry.sector two (copy_start geometry Two) 0 geometry.zones (sector_of m) (sector_of m) size two_is (λ z. refl) in
     let first_passed : (was there : List ℕ) → d.bytes start ≡ Some was → d.bytes mid ≡ Some there → IsPartWritten (d.sector_size start) one 0 geometry.zones (sector_of m) was there → HasPassed geometry One zones (sector_of m) was there =
     λ was there told told_mid part. record {
       part = part_one was there part;
-      each = each_as (d.sector_size start) geometry.sector one (copy_start geometry One) zones (sector_of m) there c.requires.size one_is (c.in_ok-write_zones.ensures.written was told there told_mid);
+      each = each_as (d.sector_size start) geometry.sector one (copy_start geometry One) zones (sector_of m) there c.requires.disk.size one_is (c.in_ok-write_zones.ensures.written was told there told_mid);
     } in
     on_ok_weaker c.write_zones-2.result
     (λ written was told image is.
@@ -101,7 +101,7 @@ returns-then-is_empty-clause-written g c = λ was told image is.
 
 pub write_zones-requires-2-clause-fits : goal.write_zones-requires-2-clause-fits
 write_zones-requires-2-clause-fits g c =
-    let fits = sectors_fit (laws g.met.D.Disk) c.args.disk.now _ c.requires.on_disk in
+    let fits = sectors_fit (laws g.met.D.Disk) c.args.disk.now _ c.requires.disk.on_disk in
     let zones : c.geometry-2.result.now.zones ≡ c.args.map.now.geometry.zones = ap (λ (g : Geometry). g.zones) c.geometry-2.ensures.value in
     let place : c.geometry-2.result.now.map_sector ≡ c.args.map.now.geometry.map_sector = ap (λ (g : Geometry). g.map_sector) c.geometry-2.ensures.value in
     omega (arith, fits, c.start_of-two.ensures.within, zones, place)

@@ -1,5 +1,4 @@
 use Rattle.std.proofs.Common.{◌≡◌, ◌<◌, ◌+◌, ◌∙◌, ap, inl, ℕ, List, length, Some, true, false, Bool, arith, Ok, refl, sym}
-use Rattle.std.specs.Prelude.{◌||◌}
 use Rattle.fc_device.specs.Sectors.{sector_at}
 use Rattle.fc_device.proofs.DiskLaws.{laws, form_same, form_then}
 use Rattle.fc_copies.specs.Passes.{zone_from}

@@ -8,7 +8,7 @@ use Rattle.fc_format.proofs.volume.make.Goals as goal
 pub write_volume-requires-clause-on_disk : goal.write_volume-requires-clause-on_disk
 write_volume-requires-clause-on_disk g c =
     sectors_reach c.args.f _ _ _ c.shape.ensures.size (g.met.D.Disk.whole_sectors c.shape.new.self)
-    (omega (arith, c.shape.ensures.length, c.if-have-need.false, c.length-have.ensures, c.size-need.ensures))
+    (omega (arith, c.shape.ensures.image.length_stays, c.if-have-need.false, c.length-have.ensures, c.size-need.ensures))
 
 pub returns-clause-keeps : goal.returns-clause-keeps
 returns-clause-keeps g c =

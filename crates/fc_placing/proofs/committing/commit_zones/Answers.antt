@@ -13,7 +13,7 @@ returns-then-is_empty-clause-whole g c = λ few.
     let m = c.args.map.now in
     let long : length c.args.changed.now.items ≡ vec_len c.args.changed.now = omega arith in
     let none : c.args.changed.now.items ≡ [] = no_zones c.args.changed.now.items (ap (λ (n : ℕ). n == 0) long ∙ sym c.is_empty.ensures ∙ c.if-is_empty.true) in
-    keeps_at_once (laws g.met.D.Disk) (λ start image. CommitLeaves m.geometry start (copy_of m.geometry One start) m.zones image) c.args.disk.now c.requires.settled
+    keeps_at_once (laws g.met.D.Disk) (λ start image. CommitLeaves m.geometry start (copy_of m.geometry One start) m.zones image) c.args.disk.now c.requires.disk.settled
     (λ was told. leaves_at_once m c.is_map.ensures was (subst (λ (zs : List ℕ). CanWrite m zs was) none (c.requires.ready was told)))
 
 pub returns-then-is_empty-clause-ends : goal.returns-then-is_empty-clause-ends

@@ -1,9 +1,13 @@
-use Rattle.std.proofs.Common.{◌≡◌, ◌%◌, ◌≤◌, ℕ, List, Option, Some, map, ap, subst, sym, ◌∙◌}
+use Rattle.std.proofs.Common.{◌≡◌, ◌%◌, ◌++◌, ◌≤◌, ℕ, List, Option, Some, map, ap, subst, sym, ◌∙◌}
 use Rattle.std.specs.Option.{option_map}
 use Rattle.fc_newmap.specs.Map.{ZoneRun}
 use Rattle.fc_image.specs.safe.FirstFit.{first_fit}
 use Rattle.fc_plan.specs.declared.plan.Part.{Part}
 use Rattle.fc_plan.specs.Parts.{part_of}
+use Rattle.std.proofs.lemmas.List.Elements.{All-from_recursion}
+use Rattle.fc_image.specs.effects.Placed.{HasRunLength}
+use Rattle.fc_plan.specs.Plan.{AreFreeRuns, IsFrontOfOne}
+use Rattle.fc_plan.proofs.MetHoles.{free_behind}
 use Rattle.fc_plan.proofs.Fronts.{left_of_fronts}
 use Rattle.fc_plan.proofs.FirstFit.{Fits, first_fits, parts_cut, units_least}
 use Rattle.fc_plan.proofs.Plans.{min_some, min_whole}
@@ -40,3 +44,12 @@ returns-clause-cut c =
 pub returns-clause-left : goal.returns-clause-left
 returns-clause-left c =
     rw c.in-Some.is at c.in_ok-taking.ensures.left ∙ sym (left_of_fronts c.args.holes.now c.in-Some.taking.parts.items c.in_ok-parts.parts.items (c.in_ok-parts.ensures ∙ ap (map part_of) c.deref.ensures.value))
+
+pub returns-clause-free : goal.returns-clause-free
+returns-clause-free c = λ ahead free.
+    (let g = c.args.g.now in
+    let holes : List ZoneRun = c.args.holes.now in
+    let parts : List ZoneRun = c.in-Some.taking.parts.items in
+    let fits = parts_fit (goal.at.returns-clause-free c).In-Some in
+    subst (λ (left : List ZoneRun). AreFreeRuns g (left ++ ahead)) (sym (rw c.in-Some.is at c.in_ok-taking.ensures.left))
+    (free_behind g holes ahead parts (min_some g c.requires.record) free (All-from_recursion (IsFrontOfOne g holes) parts fits.0) (All-from_recursion (HasRunLength g) parts fits.1) fits.2))

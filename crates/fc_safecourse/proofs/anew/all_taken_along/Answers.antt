@@ -5,6 +5,7 @@ use Rattle.fc_change.specs.Held.{parts_of}
 use Rattle.fc_writing.specs.declared.ready.Transfer.{Transfer}
 use Rattle.fc_safecourse.specs.Anew.{AreTakenAlong, is_taken_along}
 use Rattle.fc_safecourse.proofs.AnewLemmas.{along_more, along_next}
+use Rattle.fc_safecourse.proofs.SaidAloneLemmas.{none_along}
 use Rattle.fc_safecourse.proofs.anew.all_taken_along.Goals.{then-is_taken_along+in_ok-transfer+in_ok-push, else-is_taken_along}
 use Rattle.fc_safecourse.proofs.anew.all_taken_along.Goals as goal
 
@@ -40,3 +41,14 @@ loop-own-preserved c =
           (subst (λ (ts : List Transfer). AreTakenAlong m h plans (filter test (take i owners) ++ []) ts) (sym (ap (λ (ts : Vec Transfer Global). ts.items) w.transfers-is))
           (subst (λ (os : List Owner). AreTakenAlong m h plans os c.loop-own.transfers.items) (sym (append-nil (filter test (take i owners)))) before)))
     ])
+
+pub returns-then-are_said_alone : goal.returns-then-are_said_alone
+returns-then-are_said_alone c =
+    let m = c.args.map.now in
+    let h = parts_of c.args.held.now in
+    let plans = c.args.plans.now in
+    let test = is_taken_along plans c.args.wants.now c.args.change.now in
+    let owners : List Owner = c.args.held.now.owners.now in
+    let nobody : filter test owners ≡ [] = none_along owners plans c.args.wants.now c.args.change.now (sym c.are_said_alone.ensures ∙ c.if-are_said_alone.true) in
+    let nothing : c.new-transfers.result.items ≡ [] = c.new-transfers.ensures.items in
+    subst (λ (os : List Owner). AreTakenAlong m h plans os c.new-transfers.result.items) (sym nobody) (subst (λ (ts : List Transfer). AreTakenAlong m h plans [] ts) (sym nothing) tt)

@@ -20,5 +20,5 @@ loop-n-preserved c =
 pub returns : goal.returns
 returns c = λ reserved address size listings walked order.
     let whole : c.loop-n.n ≡ bound_of c.args.tree.now = omega (arith, c.loop-n-test.false, c.bound-n-end.ensures.bound) in
-    let last = c.loop-n.invariant ∙ ap (owners_below (layout_of c.args.space.now) (nodes_of c.args.tree.now)) whole in
-    owners_are c.args.tree.now (layout_of c.args.space.now) c.loop-n.owners reserved address size listings c.bound-n-end.ensures.above last walked order
+    let last = c.settle.ensures ∙ c.loop-n.invariant ∙ ap (owners_below (layout_of c.args.space.now) (nodes_of c.args.tree.now)) whole in
+    owners_are c.args.tree.now (layout_of c.args.space.now) c.settle.new.self reserved address size listings c.bound-n-end.ensures.above last walked order

@@ -1,4 +1,4 @@
-use Rattle.std.proofs.Common.{◌≡◌, ◌≤◌, inl, inr, ◌+◌, ◌*◌, Bool, true, false, length, refl, sym, ap, subst, ◌∙◌}
+use Rattle.std.proofs.Common.{◌≡◌, inl, inr, Bool, true, false, length, refl, sym, subst}
 use Rattle.std.specs.Prelude.{nat_lt}
 use Rattle.std.proofs.lemmas.Result.{on_ok_weaker}
 use Rattle.fc_device.proofs.DiskLaws.{laws}
@@ -6,6 +6,7 @@ use Rattle.fc_device.proofs.StopLemmas.{keeps_start, keeps_weaker, led}
 use Rattle.fc_device.specs.Calls.{StopsAndExitsLeave}
 use Rattle.fc_record.specs.declared.Geometry.{Geometry}
 use Rattle.fc_copies.proofs.PassLemmas.{keeps_told}
+use Rattle.fc_copies.specs.Committing.{TakesCopies}
 use Rattle.fc_copies.specs.Copies.{ChangesCopies, HoldsCopies}
 use Rattle.fc_placing.proofs.CommitLemmas.{keeps_at_once}
 use Rattle.fc_writing.specs.declared.ready.MapStep.{MapStep}
@@ -38,14 +39,11 @@ edit-requires-clause-can g c = subst (λ (s : MapStep). CanStep c.args.map.now s
 pub commit_zones-requires-clause-rising : goal.commit_zones-requires-clause-rising
 commit_zones-requires-clause-rising g c = (can g (goal.at.commit_zones-requires-clause-rising g c).After-edit).rising
 
-pub commit_zones-requires-clause-size : goal.commit_zones-requires-clause-size
-commit_zones-requires-clause-size g c =
-    c.requires.size ∙ ap (λ (h : Geometry). h.sector) (sym (geometry_is c.args.map.now c.edit.new.map c.in-New.space c.is_map.ensures (can g (goal.at.commit_zones-requires-clause-size g c).After-edit) c.edit.ensures.edits c.edit.ensures.zones))
-
-pub commit_zones-requires-clause-on_disk : goal.commit_zones-requires-clause-on_disk
-commit_zones-requires-clause-on_disk g c =
-    subst (λ (h : Geometry). h.map_sector + 2 * h.zones ≤ g.D.Disk.sectors c.args.disk.now)
-    (sym (geometry_is c.args.map.now c.edit.new.map c.in-New.space c.is_map.ensures (can g (goal.at.commit_zones-requires-clause-on_disk g c).After-edit) c.edit.ensures.edits c.edit.ensures.zones)) c.requires.on_disk
+pub commit_zones-requires-clause-disk : goal.commit_zones-requires-clause-disk
+commit_zones-requires-clause-disk g c =
+    subst (λ (h : Geometry). TakesCopies g.D.Disk c.args.disk.now h)
+    (sym (geometry_is c.args.map.now c.edit.new.map c.in-New.space c.is_map.ensures (can g (goal.at.commit_zones-requires-clause-disk g c).After-edit) c.edit.ensures.edits c.edit.ensures.zones))
+    (record { attached = c.requires.attached; settled = c.requires.settled; size = c.requires.size; on_disk = c.requires.on_disk })
 
 pub commit_zones-requires-clause-zones : goal.commit_zones-requires-clause-zones
 commit_zones-requires-clause-zones g c =

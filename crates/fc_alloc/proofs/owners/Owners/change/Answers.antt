@@ -1,7 +1,6 @@
 use Rattle.std.proofs.Common.{◌∙◌, ap, set, arith}
 use Rattle.std.specs.List.{remove}
 use Rattle.std.proofs.lemmas.List.Sorted.{IsPermutation-remove}
-use Rattle.fc_alloc.specs.declared.owner.Owner.{Owner}
 use Rattle.fc_alloc.specs.Owners.{with_changed}
 use Rattle.fc_alloc.proofs.PlaceLemmas.{found_place, at_place, places_changed, changed}
 use Rattle.fc_alloc.proofs.CountLemmas.{count_fits, count_some, counts_changed, top_changed}
@@ -28,11 +27,6 @@ count_up-requires c room =
     let at = at_place c.self.inside.list.items c.self.inside.places.items c.args.o.node c.index-place.result.now c.self.invariant.placed (rw (← c.self.view_is) at c.requires) c.index-place.ensures in
     let fits = count_fits c.self.inside.list.items c.self.inside.counts.items c.count_down.new.counts.items c.index-place.result.now c.index-was.result.now c.args.o.id c.self.invariant.counted at.0 c.index-was.ensures c.count_down.ensures (omega (arith, room)) in
     omega (arith, fits, c.self.inside.list.ok.0)
-
-pub change-requires : goal.change-requires
-change-requires c =
-    let at = at_place c.self.inside.list.items c.self.inside.places.items c.args.o.node c.index-place.result.now c.self.invariant.placed (rw (← c.self.view_is) at c.requires) c.index-place.ensures in
-    ap (λ (p : Owner). p.node) c.index-was.ensures ∙ at.1 c.index-was.result.now
 
 pub index_mut-requires : goal.index_mut-requires
 index_mut-requires c =

@@ -11,10 +11,11 @@ invariant_of-result c =
     let m = c.args.map.now in
     record {
       of_record = c.is_map.ensures.of_record;
-      free = subst (λ (hs : List ZoneRun). AreFreeRuns m.geometry hs) (sym c.in_ok-holes.ensures) (map_holes-free m c.is_map.ensures);
+      free = subst (λ (hs : List ZoneRun). AreFreeRuns m.geometry hs) (sym c.all.ensures.all) (map_holes-free m c.is_map.ensures);
+      walked = c.all.ensures.walked;
     }
 
 pub returns : goal.returns
 returns c =
     let m = c.args.map.now in
-    ap (λ (hs : List ZoneRun). let s : Stock = record { geometry = m.geometry; holes = hs; ids = new_ids m } in s) c.in_ok-holes.ensures
+    ap (λ (hs : List ZoneRun). let s : Stock = record { geometry = m.geometry; holes = hs; ids = new_ids m } in s) c.all.ensures.all

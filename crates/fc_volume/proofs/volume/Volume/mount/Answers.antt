@@ -26,12 +26,12 @@ returns-in_err-found-clause-fault g c = λ image told.
 pub returns-in_err-found-clause-shapes : goal.returns-in_err-found-clause-shapes
 returns-in_err-found-clause-shapes g c =
     let s = c.shape.ensures in
-    shapes_then (laws g.met.D.Disk) c.args.disk.now c.find_kind.new.disk c.shape.new.self c.read_map.new.disk c.find_kind.ensures.reads s.attached s.tells_stops s.gives s.asked s.length s.bytes s.pending s.stops s.still s.faults c.read_map.ensures.reads
+    shapes_then (laws g.met.D.Disk) c.args.disk.now c.find_kind.new.disk c.shape.new.self c.read_map.new.disk c.find_kind.ensures.reads s.image s.bytes s.pending s.stops s.still s.faults c.read_map.ensures.reads
 
 pub returns-clause-shapes : goal.returns-clause-shapes
 returns-clause-shapes g c =
     let s = c.shape.ensures in
-    shapes_then (laws g.met.D.Disk) c.args.disk.now c.find_kind.new.disk c.shape.new.self c.volume_of.new.disk c.find_kind.ensures.reads s.attached s.tells_stops s.gives s.asked s.length s.bytes s.pending s.stops s.still s.faults
+    shapes_then (laws g.met.D.Disk) c.args.disk.now c.find_kind.new.disk c.shape.new.self c.volume_of.new.disk c.find_kind.ensures.reads s.image s.bytes s.pending s.stops s.still s.faults
     (reads_then (laws g.met.D.Disk) c.read_map.ensures.reads c.volume_of.ensures.reads)
 
 pub returns-clause-fault : goal.returns-clause-fault
