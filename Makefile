@@ -54,8 +54,9 @@ demo: kit
 # as there are processors, and 4 GB of memory for each. (Left alone, rt plans with 12 GB for fc_volume, whose checks take 3.)
 LANES = $(shell awk -v most=$$(nproc) '/MemAvailable/ {n = int($$2 / 4000000); print n < 1 ? 1 : n < most ? n : most}' /proc/meminfo)
 
+# The last line that `times` prints says what the gate took of processors, as docs/ARCHITECTURE.md has it.
 test: kit
-	RT_JOBS=$(LANES) rt ci
+	RT_JOBS=$(LANES) rt ci && times
 	tools/run checks/run --gate --program $(PROGRAM) --fconvert $(CONVERTER)
 
 # All that needs no kit, below two minutes; suites over the program if there is one. Some of it by names, as by

@@ -67,7 +67,8 @@ def order() -> List[str]:
 
 
 def crate_comment(crate: str) -> str:
-    path = os.path.join(TOP, "crates", crate, "src", "lib.rt")
+    folder = os.path.join(TOP, "crates", crate, "src")
+    path = next((os.path.join(folder, name) for name in ("lib.rt", "main.rt") if os.path.exists(os.path.join(folder, name))), "")
     if not os.path.exists(path):
         return ""
     with open(path) as file:
