@@ -10,7 +10,7 @@
 use crate::timing::{micros_since, rate};
 use crate::visits::{enter_all, look};
 use fc_bigdir::BigDir;
-use fc_checks::big_dir_check;
+use fc_bytes::big_dir_check;
 use fc_names::{Name, read_name};
 use std::alloc::Global;
 use std::io;

@@ -1,6 +1,6 @@
 // Bytes a second of each check of a disc structure.
 use crate::timing::print_rate;
-use fc_checks::{big_dir_check, boot_check, cross_total, old_check, small_dir_check, zone_check};
+use fc_bytes::{big_dir_check, boot_check, cross_total, old_check, small_dir_check, zone_check};
 use std::alloc::Global;
 use std::io;
 use std::io::Print;

@@ -1,6 +1,6 @@
 // Directories of 2048 bytes, with each place taken, read and written.
 use crate::timing::print_rate;
-use fc_checks::small_dir_check;
+use fc_bytes::small_dir_check;
 use fc_smalldir::{SmallDir, SmallForm};
 use std::alloc::Global;
 use std::io;

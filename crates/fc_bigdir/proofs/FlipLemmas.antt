@@ -6,7 +6,7 @@ use Rattle.std.proofs.lemmas.Bool.{cases_lt}
 use Rattle.std.proofs.lemmas.Nat.{or_lt, xor_lt, shr-shr}
 use Rattle.std.proofs.lemmas.Nat.Bits.{bit_at_or, bit_at_xor, bit_at_above, bit_at_cat_low, bit_at_cat_high, bit_at-zero, bit_at-pow_other}
 use Rattle.std.proofs.lemmas.List.Sums.{fold-append}
-use Rattle.fc_checks.specs.Checks.{accumulate, accumulated, byte_xor}
+use Rattle.fc_bytes.specs.Checks.{accumulate, accumulated, byte_xor}
 
 -- the two parts of a word that is turned right by 13
 turned_high : (s k : ℕ) → s < 2 ^ 32 → k < 19 → bit_at ((s * 2 ^ 19) % 2 ^ 32) k ≡ 0

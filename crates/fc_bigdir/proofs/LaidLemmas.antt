@@ -5,7 +5,7 @@ use Rattle.std.proofs.lemmas.Bool.Decides.{nat_tests}
 use Rattle.byteorder.specs.Endian.{little_bytes}
 use Rattle.byteorder.specs.Numbers.{length-bytes_low_first}
 use Rattle.fc_bytes.specs.Words.{bytes_at, u32_at}
-use Rattle.fc_checks.specs.Checks.{is_big_size}
+use Rattle.fc_bytes.specs.Checks.{is_big_size}
 use Rattle.fc_smalldir.proofs.NameLemmas.{length-padded}
 use Rattle.fc_dirs.specs.Entries.{padded_name}
 use Rattle.fc_dirs.specs.Big.{BigDir, IsBig, head_space, head_space_of, bytes_taken}

@@ -4,7 +4,7 @@ use Rattle.std.specs.List.{range_with_len}
 use Rattle.std.proofs.lemmas.Bool.Decides.{nat_tests}
 use Rattle.std.proofs.lemmas.List.{length-replicate}
 use Rattle.fc_bytes.specs.Words.{bytes_at, u32_at}
-use Rattle.fc_checks.specs.Checks.{is_big_size, big_dir_check}
+use Rattle.fc_bytes.specs.Checks.{is_big_size, big_dir_check}
 use Rattle.fc_dirs.specs.declared.Entry.{Entry}
 use Rattle.fc_dirs.specs.Entries.{first_twin}
 use Rattle.fc_dirs.specs.Big.{BigDir, IsBig, IsBigDir, head_space, head_space_of, bytes_taken, name_len, entry_count, heap_len, entries_start, heap_start, heap_end, does_fit, is_check_right, has_second_form, heap_of, entry_bytes, big_entry, big_entries, name_place, is_entry_right, first_bad_entry, is_magic_right, is_sequence_right, is_size_right, frame_fault, big_fault, big_dir}

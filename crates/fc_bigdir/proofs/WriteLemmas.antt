@@ -1,7 +1,7 @@
 -- A directory that was written part after part.
 use Rattle.std.proofs.Common.{◌≡◌, ℕ, ◌-◌, ◌&&◌, true, false, List, [], ◌∷◌, ◌++◌, length, set, sym, ap, ap₂, ◌∙◌, arith, length-append}
 use Rattle.std.proofs.lemmas.List.{set_at}
-use Rattle.fc_checks.specs.Checks.{big_dir_check}
+use Rattle.fc_bytes.specs.Checks.{big_dir_check}
 use Rattle.fc_dirs.specs.Big.{BigDir, is_check_right}
 use Rattle.fc_dirs.specs.BigBytes.{parts_bytes, parts_end, tail_bytes, laid, free_bytes, checked_bytes, big_bytes}
 

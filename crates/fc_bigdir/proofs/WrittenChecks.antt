@@ -5,7 +5,7 @@ use Rattle.std.proofs.lemmas.List.{take_at, set_at}
 use Rattle.std.proofs.lemmas.Bool.Decides.{nat_tests}
 use Rattle.byteorder.specs.Endian.{little_bytes, little_number}
 use Rattle.fc_bytes.specs.Words.{bytes_at, u32_at, words}
-use Rattle.fc_checks.specs.Checks.{big_dir_check, byte_xor, accumulated}
+use Rattle.fc_bytes.specs.Checks.{big_dir_check, byte_xor, accumulated}
 use Rattle.fc_dirs.specs.declared.Entry.{Entry}
 use Rattle.fc_dirs.specs.Entries.{padded_name}
 use Rattle.fc_dirs.specs.Big.{BigDir, IsBig, head_space, head_space_of, bytes_taken, heap_end, does_fit, is_check_right}

@@ -9,7 +9,7 @@ ghost use Rattle.fc_bigdir.specs.Entered.{AreSmall, IsRoomFor, entered_heap, ent
 use crate::needed::Parts;
 use crate::put::put_name;
 use crate::space::{bytes_for, name_space};
-use fc_checks::BIG_LIMIT;
+use fc_bytes::BIG_LIMIT;
 use fc_dirs::{Entry, place_of};
 use fc_names::Name;
 use std::alloc::{AllocError, Global};

@@ -4,7 +4,7 @@ ghost use Rattle.fc_dirs.specs.Big.{does_fit, entries_start, frame_fault, has_se
 
 use crate::bytes::word_at;
 use crate::space::{ENTRY, HEAD, TAIL, head_space};
-use fc_checks::{big_dir_check, is_big_size};
+use fc_bytes::{big_dir_check, is_big_size};
 use fc_dirs::DirFault;
 
 // Whether the version bytes are 0 and both words stand.

@@ -8,8 +8,7 @@ use crate::BigDir;
 use crate::frame::is_check_right;
 use crate::put::{put_entries, put_name, put_word};
 use crate::space::TAIL;
-use fc_bytes::{put, put_zeros};
-use fc_checks::big_dir_check;
+use fc_bytes::{big_dir_check, put, put_zeros};
 
 impl BigDir {
     // Writes the head with its name, and answers the place after it.

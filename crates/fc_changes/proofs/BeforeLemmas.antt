@@ -14,8 +14,8 @@ use Rattle.fc_newmap.specs.Map.{Map, IsMap, map_sectors, sector_of}
 use Rattle.fc_newmap.specs.NewMap.{IsNewMap}
 use Rattle.fc_newmap.proofs.MapLemmas.{map_of_no_fault, no_fault_of_zones}
 use Rattle.fc_newmap.proofs.PlaceLemmas.{in_back}
-use Rattle.fc_copies.specs.declared.Which.TheVariants.{One}
-use Rattle.fc_copies.specs.Copies.{Chooses, HoldsCopies, chosen, copy_of, is_sound}
+use Rattle.fc_newmap.specs.declared.copies.Which.TheVariants.{One}
+use Rattle.fc_newmap.specs.Copies.{Chooses, HoldsCopies, chosen, copy_of, is_sound}
 use Rattle.fc_model.specs.Tree.{holder}
 use Rattle.fc_image.specs.Layout.{Layout, first_part, id_of, id_sectors, is_among, is_apart, low_of, low_start, map_place, sectors_at}
 use Rattle.fc_image.specs.Report.{holder_address}

@@ -18,8 +18,8 @@ use Rattle.fc_newmap.specs.Edits.{AreEdits, KeepsRuns}
 use Rattle.fc_newmap.proofs.GeometryLemmas.{geometry_of_valid, header_high}
 use Rattle.fc_newmap.proofs.HeldLemmas.{geometry_facts}
 use Rattle.fc_newmap.specs.RunsLaw.{IsGeometry, placed}
-use Rattle.fc_copies.specs.Copies.{CommitEnds}
-use Rattle.fc_copies.specs.Committing.{KeepsContents}
+use Rattle.fc_newmap.specs.Copies.{CommitEnds}
+use Rattle.fc_newmap.specs.Committing.{KeepsContents}
 use Rattle.fc_image.specs.effects.Steady.{KeepsOrWritesLinks, ZoneSteady}
 use Rattle.fc_changes.specs.Owed.{IsMapAfter}
 use Rattle.fc_changes.specs.Laws.{CommittedLaw}

@@ -4,7 +4,7 @@ use Rattle.fc_names.specs.Names.{Path, folded_path, is_same_path}
 use Rattle.fc_record.specs.declared.DiscRecord.{DiscRecord}
 use Rattle.fc_record.specs.declared.Kind.{Kind}
 use Rattle.fc_newmap.specs.Map.{Map, ZoneRun, bits_in, hole_runs, map_sectors}
-use Rattle.fc_copies.specs.Copies.{HoldsCopies}
+use Rattle.fc_newmap.specs.Copies.{HoldsCopies}
 use Rattle.fc_model.specs.Tree.{is_prefix, last_name}
 use Rattle.fc_model.specs.Command.{Command}
 use Rattle.fc_dirs.specs.Entries.{has_name, with_entry, without_entry}

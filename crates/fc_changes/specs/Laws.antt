@@ -2,8 +2,8 @@
 use Rattle.std.specs.Prelude.{ℕ, List}
 use Rattle.fc_newmap.specs.Map.{Map}
 use Rattle.fc_newmap.specs.Edits.{AreEdits, KeepsRuns}
-use Rattle.fc_copies.specs.Copies.{CommitEnds}
-use Rattle.fc_copies.specs.Committing.{KeepsContents}
+use Rattle.fc_newmap.specs.Copies.{CommitEnds}
+use Rattle.fc_newmap.specs.Committing.{KeepsContents}
 use Rattle.fc_changes.specs.Owed.{IsMapAfter}
 
 -- ---- maps

@@ -17,9 +17,9 @@ use Rattle.fc_newmap.proofs.CoverLemmas.{id_Distinct}
 use Rattle.fc_newmap.proofs.HeldLemmas.{geometry_facts}
 use Rattle.fc_newmap.proofs.PlaceLemmas.{held_in, holder_of, id_run_in, in_filter, in_range, range_in}
 use Rattle.fc_alloc.specs.declared.owner.Owner.{Owner}
-use Rattle.fc_copies.specs.declared.Which.TheVariants.{One}
-use Rattle.fc_copies.specs.Copies.{Chooses, CommitEnds, CommitLeaves, HoldsCopies, copy_of, is_sound}
-use Rattle.fc_copies.proofs.ReadingLemmas.{chooses_one}
+use Rattle.fc_newmap.specs.declared.copies.Which.TheVariants.{One}
+use Rattle.fc_newmap.specs.Copies.{Chooses, CommitEnds, CommitLeaves, HoldsCopies, copy_of, is_sound}
+use Rattle.fc_newmap.proofs.ReadingLemmas.{chooses_one}
 use Rattle.fc_image.specs.Layout.{Layout, hole_sectors, id_sectors, is_among}
 use Rattle.fc_image.specs.Objects.{objects_of}
 use Rattle.fc_image.specs.Opening.{Opened, is_hole_or_movable}

@@ -19,9 +19,9 @@ use Rattle.fc_newmap.proofs.ComposeLemmas.{edit_all, edit_none, edit_then, edits
 use Rattle.fc_newmap.proofs.HeldLemmas.{geometry_facts}
 use Rattle.fc_newmap.proofs.PlaceLemmas.{in_range}
 use Rattle.fc_alloc.specs.declared.owner.Owner.{Owner}
-use Rattle.fc_copies.specs.declared.Which.TheVariants.{One}
-use Rattle.fc_copies.specs.Committing.{CanWrite, KeepsContents}
-use Rattle.fc_copies.specs.Copies.{CommitEnds, CommitLeaves, copy_of}
+use Rattle.fc_newmap.specs.declared.copies.Which.TheVariants.{One}
+use Rattle.fc_newmap.specs.Committing.{CanWrite, KeepsContents}
+use Rattle.fc_newmap.specs.Copies.{CommitEnds, CommitLeaves, copy_of}
 use Rattle.fc_image.specs.Layout.{id_sectors}
 use Rattle.fc_image.specs.effects.Moves.{with_holes_joined}
 use Rattle.fc_compact.specs.Rounds.{Carrying, FallsIn, Gathers, GathersZones, HasDrawn, Spares, all_weight}

@@ -18,9 +18,9 @@ use Rattle.fc_newmap.proofs.ComposeLemmas.{edits_join, edits_then, runs_other, z
 use Rattle.fc_newmap.proofs.HeldLemmas.{geometry_facts}
 use Rattle.fc_newmap.proofs.PlaceLemmas.{held_in, in_filter, in_range, in_zone}
 use Rattle.fc_alloc.specs.declared.owner.Owner.{Owner}
-use Rattle.fc_copies.specs.Committing.{KeepsContents}
-use Rattle.fc_copies.specs.declared.Which.TheVariants.{One}
-use Rattle.fc_copies.specs.Copies.{CommitEnds, CommitLeaves, copy_of}
+use Rattle.fc_newmap.specs.Committing.{KeepsContents}
+use Rattle.fc_newmap.specs.declared.copies.Which.TheVariants.{One}
+use Rattle.fc_newmap.specs.Copies.{CommitEnds, CommitLeaves, copy_of}
 use Rattle.fc_record.specs.declared.Geometry.{Geometry}
 use Rattle.fc_image.specs.effects.Moves.{with_holes_joined}
 use Rattle.fc_image.specs.Layout.{Layout, disc_sectors, hole_sectors, id_sectors, is_among}

@@ -20,8 +20,8 @@ use Rattle.fc_newmap.specs.Edits.{AreEdits, KeepsRuns}
 use Rattle.fc_newmap.specs.Map.{Map, runs_of, sector_of, shape}
 use Rattle.fc_newmap.proofs.GeometryLemmas.{header_high}
 use Rattle.fc_newmap.proofs.HeldLemmas.{shape_fits}
-use Rattle.fc_copies.specs.Committing.{CanWrite, KeepsContents}
-use Rattle.fc_copies.specs.Copies.{HoldsCopies}
+use Rattle.fc_newmap.specs.Committing.{CanWrite, KeepsContents}
+use Rattle.fc_newmap.specs.Copies.{HoldsCopies}
 use Rattle.fc_compact.specs.Compaction.{ZoneStays}
 use Rattle.fc_bytes.proofs.ByteLemmas.{first_bits}
 

@@ -5,10 +5,10 @@ use Rattle.fc_device.specs.Sectors.{sector_at}
 use Rattle.fc_newmap.specs.Map.{Map, map_sectors}
 use Rattle.fc_newmap.proofs.PlaceLemmas.{in_range}
 use Rattle.fc_alloc.specs.declared.owner.Owner.{Owner}
-use Rattle.fc_copies.specs.declared.Which.{Which}
-use Rattle.fc_copies.specs.declared.Which.TheVariants.{One, Two}
-use Rattle.fc_copies.specs.Copies.{copy_start}
-use Rattle.fc_copies.proofs.RepairLemmas.{same_copy}
+use Rattle.fc_newmap.specs.declared.copies.Which.{Which}
+use Rattle.fc_newmap.specs.declared.copies.Which.TheVariants.{One, Two}
+use Rattle.fc_newmap.specs.Copies.{copy_start}
+use Rattle.fc_newmap.proofs.RepairLemmas.{same_copy}
 use Rattle.fc_image.specs.Layout.{Layout, hole_sectors, is_among, is_apart, map_place}
 use Rattle.fc_image.specs.Stays.{OpensAs, SameOutsideHoles}
 use Rattle.fc_image.proofs.HolesLemmas.{apart_at}

@@ -13,7 +13,7 @@ use Rattle.fc_device.proofs.StopLemmas.{goes_on, left_now, led, started, weaker,
 use Rattle.fc_newmap.specs.Map.{Map}
 use Rattle.fc_image.specs.Layout.{Layout, hole_sectors, is_among}
 use Rattle.fc_alloc.specs.declared.owner.Owner.{Owner}
-use Rattle.fc_copies.proofs.PassLemmas.{keeps_told, some_is}
+use Rattle.fc_newmap.proofs.PassLemmas.{keeps_told, some_is}
 use Rattle.fc_compact.specs.Laws.{Laws}
 use Rattle.fc_compact.specs.Ready.{IsReady}
 use Rattle.fc_compact.specs.Steps.{Preserves}

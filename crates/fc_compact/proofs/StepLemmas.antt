@@ -16,10 +16,10 @@ use Rattle.fc_newmap.proofs.HeldLemmas.{geometry_facts}
 use Rattle.fc_newmap.proofs.PlaceLemmas.{in_range}
 use Rattle.fc_newmap.proofs.RunsLemmas.{place_sector}
 use Rattle.fc_alloc.specs.declared.owner.Owner.{Owner}
-use Rattle.fc_copies.specs.declared.Which.TheVariants.{One}
-use Rattle.fc_copies.specs.Committing.{KeepsContents}
-use Rattle.fc_copies.specs.Copies.{Chooses, CommitEnds, CommitLeaves, HoldsCopies, copy_of, is_sound}
-use Rattle.fc_copies.proofs.ReadingLemmas.{chooses_one}
+use Rattle.fc_newmap.specs.declared.copies.Which.TheVariants.{One}
+use Rattle.fc_newmap.specs.Committing.{KeepsContents}
+use Rattle.fc_newmap.specs.Copies.{Chooses, CommitEnds, CommitLeaves, HoldsCopies, copy_of, is_sound}
+use Rattle.fc_newmap.proofs.ReadingLemmas.{chooses_one}
 use Rattle.fc_image.specs.Layout.{Layout, hole_sectors, id_sectors, is_among}
 use Rattle.fc_image.specs.Objects.{objects_of, is_movable}
 use Rattle.fc_image.specs.Moves.{CanCommit, Carried, StaysBy, with_map}

@@ -8,9 +8,9 @@ ghost use Rattle.fc_newmap.specs.Edits.{KeepsRuns};
 ghost use Rattle.fc_newmap.specs.NewMap.{IsNewMap};
 ghost use Rattle.fc_newmap.specs.Map.{extent_of, runs_of};
 ghost use Rattle.fc_newmap.specs.Walk.{IsInZone};
-ghost use Rattle.fc_copies.specs.declared.Which.TheVariants.{One};
-ghost use Rattle.fc_copies.specs.Committing.{CanWrite, KeepsContents};
-ghost use Rattle.fc_copies.specs.Copies.{CommitEnds, CommitLeaves, copy_of};
+ghost use Rattle.fc_newmap.specs.declared.copies.Which.TheVariants.{One};
+ghost use Rattle.fc_newmap.specs.Committing.{CanWrite, KeepsContents};
+ghost use Rattle.fc_newmap.specs.Copies.{CommitEnds, CommitLeaves, copy_of};
 ghost use Rattle.fc_image.specs.effects.Moves.{Slid};
 ghost use Rattle.fc_compact.specs.Ready.{Stands, is_movable_by};
 ghost use Rattle.fc_compact.specs.Slides.{CanShift, CanSlide, HasShifted, IsPart, IsSlide, run_at};
@@ -21,9 +21,8 @@ use crate::laws;
 use crate::shift::{Slide, shift};
 use arrayvec::ArrayVec;
 use fc_alloc::Owners;
-use fc_copies::commit;
+use fc_newmap::{NewMap, commit, extent_of};
 use fc_device::{Disk, DiskFault, Extent};
-use fc_newmap::{NewMap, extent_of};
 use fc_zone::{Run, RunKind};
 
 // Commits one zone of a map.

@@ -2,7 +2,7 @@
 use Rattle.std.proofs.Common.{◌≡◌, ◌<◌, ℕ, List, [], ◌++◌, All, refl, ap, subst}
 use Rattle.std.specs.List.{flat_map}
 use Rattle.fc_newmap.specs.Map.{map_sectors}
-use Rattle.fc_copies.specs.Copies.{Chooses}
+use Rattle.fc_newmap.specs.Copies.{Chooses}
 use Rattle.fc_image.specs.Layout.{Layout, map_place, sector_bytes}
 use Rattle.fc_objects.specs.Extents.{sectors_in}
 use Rattle.fc_objects.specs.Written.{AreApart}

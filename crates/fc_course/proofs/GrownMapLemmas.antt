@@ -22,7 +22,7 @@ use Rattle.fc_newmap.specs.Map.{Map, runs_of, sector_of, shape, with_root, with_
 use Rattle.fc_newmap.specs.NewMap.{IsNewMap}
 use Rattle.fc_newmap.proofs.HeldLemmas.{geometry_facts}
 use Rattle.fc_newmap.proofs.RootLemmas.{root_back, root_front, root_kept, root_long}
-use Rattle.fc_copies.specs.Copies.{HoldsCopies}
+use Rattle.fc_newmap.specs.Copies.{HoldsCopies}
 use Rattle.fc_image.specs.Opening.{Opened}
 use Rattle.fc_image.specs.Walk.{Object}
 use Rattle.fc_image.specs.effects.Steady.{KeepsOrWritesLinks, ZoneSteady}

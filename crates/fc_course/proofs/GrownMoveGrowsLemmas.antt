@@ -2,7 +2,7 @@
 use Rattle.fc_change.specs.GrownSpace.{root_of}
 use Rattle.fc_change.specs.Places.{plan_in}
 use Rattle.fc_changes.proofs.BasicLemmas.{clash}
-use Rattle.fc_checks.specs.Checks.{is_big_size}
+use Rattle.fc_bytes.specs.Checks.{is_big_size}
 use Rattle.fc_course.proofs.GrownAskedLemmas.{view_with}
 use Rattle.fc_course.proofs.GrownAskedLemmas as asked
 use Rattle.fc_course.proofs.GrownChangeLemmas.{taking_of}

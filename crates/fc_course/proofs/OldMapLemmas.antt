@@ -5,7 +5,7 @@ use Rattle.std.proofs.lemmas.List.{drop-take, length-drop, length-replicate, len
 use Rattle.std.proofs.Math.Seq.{drop-append_seam, take-append_seam}
 use Rattle.byteorder.specs.Endian.{little_bytes}
 use Rattle.fc_bytes.specs.Words.{bytes_at}
-use Rattle.fc_checks.specs.Checks.{old_check}
+use Rattle.fc_bytes.specs.Checks.{old_check}
 use Rattle.fc_oldmap.specs.declared.Hole.{Hole}
 use Rattle.fc_oldmap.specs.Holes.{hole_limit}
 use Rattle.fc_oldmap.specs.OldMap.{OldMapContent, IsOldMap, checked_half, map_units, triples, with_holes}

@@ -8,7 +8,7 @@ use Rattle.fc_device.specs.Calls.{SameForm}
 use Rattle.fc_device.specs.Faults.{Rose}
 use Rattle.fc_record.specs.declared.Kind.{Kind}
 use Rattle.fc_newmap.specs.Map.{Map}
-use Rattle.fc_copies.specs.Copies.{Chooses}
+use Rattle.fc_newmap.specs.Copies.{Chooses}
 use Rattle.fc_oldmap.specs.OldMap.{OldMapContent}
 use Rattle.fc_objects.specs.Extents.{sectors_in}
 use Rattle.fc_model.specs.Answer.{changed}

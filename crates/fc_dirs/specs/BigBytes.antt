@@ -1,7 +1,7 @@
 -- Big directories: which bytes are written of them.
 use Rattle.std.specs.Prelude.{◌≡◌, ℕ, ◌-◌, ◌&&◌, false, List, [], ◌∷◌, ◌++◌, length, replicate, slice_set, if◌then◌else◌}
 use Rattle.byteorder.specs.Endian.{little_bytes}
-use Rattle.fc_checks.specs.Checks.{big_dir_check}
+use Rattle.fc_bytes.specs.Checks.{big_dir_check}
 use Rattle.fc_dirs.specs.declared.Entry.{Entry}
 use Rattle.fc_dirs.specs.Entries.{padded_name}
 use Rattle.fc_dirs.specs.Big.{BigDir, IsBigDir, bytes_taken, head_space_of, is_check_right}

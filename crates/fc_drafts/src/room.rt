@@ -9,7 +9,7 @@ ghost use Rattle.fc_drafts.specs.Rewriting.{IsAt};
 
 use crate::Draft;
 use fc_bigdir::BigDir;
-use fc_checks::BIG_LIMIT;
+use fc_bytes::BIG_LIMIT;
 use fc_names::Name;
 use fc_smalldir::SmallDir;
 

@@ -2,7 +2,7 @@
 use Rattle.std.proofs.Common.{◌≡◌, ℕ, ◌+◌, ◌%◌, List, [], ◌∷◌, ◌++◌, length, drop, slice_set, sym, ap, ◌∙◌, arith, append_assoc, length-append}
 use Rattle.std.proofs.lemmas.List.{set_at, take-append-le}
 use Rattle.fc_bytes.specs.Bits.{overwritten}
-use Rattle.fc_checks.specs.Checks.{boot_check, carry_sum}
+use Rattle.fc_bytes.specs.Checks.{boot_check, carry_sum}
 use Rattle.fc_format.specs.Fresh.{boot_block, zeros}
 
 -- the boot block of a record, with this as its last byte

@@ -4,13 +4,13 @@ use Rattle.std.proofs.lemmas.List.{length-replicate, take-append-drop}
 use Rattle.fc_bytes.specs.Bits.{bits, num, low_bits}
 use Rattle.fc_bytes.specs.Words.{bytes_at}
 use Rattle.fc_device.specs.Sectors.{sector_at}
-use Rattle.fc_checks.specs.Checks.{accumulated, boot_check, carry_sum}
+use Rattle.fc_bytes.specs.Checks.{accumulated, boot_check, carry_sum}
 use Rattle.fc_record.specs.declared.DiscRecord.{DiscRecord}
 use Rattle.fc_record.specs.declared.Kind.TheVariants.{Boot}
 use Rattle.fc_record.specs.Record.{geometry, is_valid, record_fault, record_of}
 use Rattle.fc_zone.specs.Reading.{runs_from, runs_of}
-use Rattle.fc_copies.specs.declared.Which.TheVariants.{One}
-use Rattle.fc_copies.specs.Copies.{copy_of, is_sound}
+use Rattle.fc_newmap.specs.declared.copies.Which.TheVariants.{One}
+use Rattle.fc_newmap.specs.Copies.{copy_of, is_sound}
 use Rattle.fc_dirs.specs.declared.SmallForm.TheVariants.{Bytes2048}
 use Rattle.fc_dirs.specs.Directory.{Directory, directory_of}
 use Rattle.fc_names.specs.declared.name.NameForm.TheVariants.{Ten, Long}

@@ -2,7 +2,7 @@
 use Rattle.std.proofs.Common.{◌≡◌, ◌≤◌, ℕ, true, false, List, [], ◌∷◌, ◌++◌, length, Ok, refl, arith}
 use Rattle.fc_bytes.specs.Words.{bytes_at}
 use Rattle.fc_device.specs.Sectors.{sector_at}
-use Rattle.fc_checks.specs.Checks.{accumulated, carry_sum, is_half_right}
+use Rattle.fc_bytes.specs.Checks.{accumulated, carry_sum, is_half_right}
 use Rattle.fc_record.specs.declared.Kind.TheVariants.{DiscD, DiscL}
 use Rattle.fc_record.specs.Record.{is_valid, record_fault}
 use Rattle.fc_record.specs.Kinds.{boot_record, is_whole_map, old_units}

@@ -3,13 +3,13 @@ use Rattle.std.proofs.Common.{◌≡◌, ◌≤◌, ℕ, true, false, ◌&&◌, 
 use Rattle.fc_bytes.specs.Bits.{bits, num, low_bits}
 use Rattle.fc_bytes.specs.Words.{bytes_at}
 use Rattle.fc_device.specs.Sectors.{sector_at}
-use Rattle.fc_checks.specs.Checks.{carry_sum, accumulated}
+use Rattle.fc_bytes.specs.Checks.{carry_sum, accumulated}
 use Rattle.fc_record.specs.declared.Kind.{Kind}
 use Rattle.fc_record.specs.declared.Kind.TheVariants.{OneZone}
 use Rattle.fc_record.specs.Record.{geometry, is_valid, record_fault}
 use Rattle.fc_record.specs.Kinds.{boot_record, is_whole_map, map_record}
 use Rattle.fc_zone.specs.Reading.{runs_from, runs_of}
-use Rattle.fc_copies.specs.Copies.{is_sound, chosen}
+use Rattle.fc_newmap.specs.Copies.{is_sound, chosen}
 use Rattle.fc_dirs.specs.declared.SmallForm.TheVariants.{Bytes2048}
 use Rattle.fc_dirs.specs.Directory.{Directory}
 use Rattle.fc_dirs.specs.Small.{small_fault, small_dir}

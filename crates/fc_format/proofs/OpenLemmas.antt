@@ -6,7 +6,7 @@ use Rattle.std.proofs.lemmas.List.{drop_at, take_at}
 use Rattle.std.specs.List.{zip}
 use Rattle.std.specs.Str.{bytes_eq}
 use Rattle.fc_device.specs.Sectors.{sector_at}
-use Rattle.fc_checks.specs.Checks.{boot_check, is_half_right}
+use Rattle.fc_bytes.specs.Checks.{boot_check, is_half_right}
 use Rattle.fc_record.specs.declared.DiscRecord.{DiscRecord}
 use Rattle.fc_record.specs.declared.Kind.{Kind}
 use Rattle.fc_record.specs.declared.Kind.TheVariants.{Boot, OneZone, DiscD, DiscL}
@@ -15,8 +15,8 @@ use Rattle.fc_record.specs.Record.{geometry, is_valid, record_of}
 use Rattle.fc_record.specs.Kinds.{boot_record, disc_size, fits_kind, is_boot, is_old_map, is_whole_map, kind_of, map_record, old_units}
 use Rattle.fc_dirs.specs.Directory.{entries_of}
 use Rattle.fc_newmap.specs.Map.{first_fault, zone_numbers}
-use Rattle.fc_copies.specs.declared.Which.TheVariants.{One}
-use Rattle.fc_copies.specs.Copies.{chosen, copy_of, is_sound}
+use Rattle.fc_newmap.specs.declared.copies.Which.TheVariants.{One}
+use Rattle.fc_newmap.specs.Copies.{chosen, copy_of, is_sound}
 use Rattle.fc_image.specs.declared.ImageFault.{ImageFault}
 use Rattle.fc_names.specs.declared.name.NameForm.{NameForm}
 use Rattle.fc_image.specs.Layout.{Layout, dir_form}

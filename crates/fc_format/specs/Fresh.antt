@@ -5,7 +5,7 @@ use Rattle.std.specs.Option.{option_map}
 use Rattle.std.specs.Str.{bytes_eq}
 use Rattle.byteorder.specs.Endian.{little_bytes}
 use Rattle.fc_bytes.specs.Bits.{overwritten}
-use Rattle.fc_checks.specs.Checks.{boot_check, small_dir_check, big_dir_check}
+use Rattle.fc_bytes.specs.Checks.{boot_check, small_dir_check, big_dir_check}
 use Rattle.fc_zone.specs.Edits.{sealed}
 use Rattle.fc_oldmap.specs.Holes.{hole}
 use Rattle.fc_oldmap.specs.OldMap.{with_holes}

@@ -5,8 +5,7 @@ ghost use Rattle.fc_format.specs.Zones.{IsRecordOfF};
 ghost use Rattle.fc_format.specs.Fresh.{boot_block, e_map, e_plus_map, e_record, f_plus_zone2, f_record, f_zone0, f_zone1, f_zone2, f_zone3, old_map_with, plus_record, zeros};
 
 use crate::zones::lay_out;
-use fc_bytes::{put, put_le24};
-use fc_checks::boot_check;
+use fc_bytes::{boot_check, put, put_le24};
 use fc_oldmap::seal_half;
 use fc_zone::{ZoneShape, seal};
 

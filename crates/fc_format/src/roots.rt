@@ -2,8 +2,7 @@
 ghost use Rattle.std.specs.Prelude.{◌≡◌, ◌<◌, ◌^◌};
 ghost use Rattle.fc_format.specs.Fresh.{big_root, new_root, old_root};
 
-use fc_bytes::{put, put_le24};
-use fc_checks::{big_dir_check, small_dir_check};
+use fc_bytes::{big_dir_check, put, put_le24, small_dir_check};
 
 /// A root's name and its end, as they stand in a field.
 const ROOT_NAME: &[u8] = b"$\r";

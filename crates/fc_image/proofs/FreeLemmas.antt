@@ -3,7 +3,7 @@ use Rattle.std.proofs.Common.{◌≡◌, ◌<◌, ◌≤◌, ℕ, zero, suc, ◌
 use Rattle.std.specs.Prelude.{Result, Ok, Err, Contains, nat_lt, nat_le, not, ◌==◌, ◌||◌, ◌&&◌, slice_index, slice_index_or}
 use Rattle.std.specs.Str.{bytes_eq}
 use Rattle.fc_bytes.specs.Words.{bytes_at}
-use Rattle.fc_checks.specs.Checks.{boot_check}
+use Rattle.fc_bytes.specs.Checks.{boot_check}
 use Rattle.std.specs.List.{flat_map, range_with_len, zip}
 use Rattle.std.proofs.lemmas.Bool.{eq-eqb, eqb-true, eqb-false, ltb-false}
 use Rattle.fc_device.specs.Sectors.{sector_at}
@@ -15,9 +15,9 @@ use Rattle.fc_record.specs.Record.{geometry, record_of, is_valid}
 use Rattle.fc_record.specs.Kinds.{disc_size, map_record, fits_kind, boot_block, is_whole_map}
 use Rattle.fc_zone.specs.declared.ZoneFault.{ZoneFault}
 use Rattle.fc_newmap.specs.Map.{Map, first_fault, zone_numbers, map_sectors}
-use Rattle.fc_copies.specs.declared.Which.{Which}
-use Rattle.fc_copies.specs.declared.Which.TheVariants.{One, Two}
-use Rattle.fc_copies.specs.Copies.{copy_start, copy_of, chosen}
+use Rattle.fc_newmap.specs.declared.copies.Which.{Which}
+use Rattle.fc_newmap.specs.declared.copies.Which.TheVariants.{One, Two}
+use Rattle.fc_newmap.specs.Copies.{copy_start, copy_of, chosen}
 use Rattle.fc_dirs.specs.Directory.{directory_of}
 use Rattle.fc_image.specs.declared.ImageFault.{ImageFault}
 use Rattle.fc_image.specs.declared.ImageFault.TheVariants as faults

@@ -23,9 +23,9 @@ use Rattle.fc_newmap.proofs.RunsLemmas.{runs_apart}
 use Rattle.fc_newmap.proofs.GeometryLemmas.{ValidFacts, facts_of_valid, geometry_of_valid, zone_within}
 use Rattle.fc_newmap.proofs.PlaceLemmas.{in_front, in_back, holder_of, held_in, filter_in, in_filter, id_run_in}
 use Rattle.fc_newmap.proofs.MapLemmas.{zones_of_map, map_of_no_fault}
-use Rattle.fc_copies.specs.declared.Which.{Which}
-use Rattle.fc_copies.specs.declared.Which.TheVariants.{One, Two}
-use Rattle.fc_copies.specs.Copies.{chosen, copy_of, copy_start}
+use Rattle.fc_newmap.specs.declared.copies.Which.{Which}
+use Rattle.fc_newmap.specs.declared.copies.Which.TheVariants.{One, Two}
+use Rattle.fc_newmap.specs.Copies.{chosen, copy_of, copy_start}
 use Rattle.fc_names.specs.Names.{Path}
 use Rattle.fc_dirs.specs.declared.Entry.{Entry}
 use Rattle.fc_dirs.specs.Directory.{entries_of, directory_size}

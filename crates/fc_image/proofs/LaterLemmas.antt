@@ -8,7 +8,7 @@ use Rattle.std.proofs.lemmas.Bool.{eqb-true, leb-true}
 use Rattle.std.proofs.lemmas.Slice.Eq.{bytes_eq-Decides}
 use Rattle.fc_bytes.specs.Words.{bytes_at}
 use Rattle.fc_device.specs.Sectors.{sector_at}
-use Rattle.fc_checks.specs.Checks.{boot_check}
+use Rattle.fc_bytes.specs.Checks.{boot_check}
 use Rattle.fc_record.specs.declared.DiscRecord.{DiscRecord}
 use Rattle.fc_record.specs.declared.Geometry.{Geometry}
 use Rattle.fc_record.specs.declared.RecordFault.{RecordFault}
@@ -17,9 +17,9 @@ use Rattle.fc_record.specs.declared.Kind.TheVariants.{Boot, OneZone, DiscD, Disc
 use Rattle.fc_record.specs.Record.{record_of, geometry, record_fault, is_valid, IsRecord}
 use Rattle.fc_record.specs.Kinds.{IsKind, boot_block, boot_record, map_record, is_boot, is_whole_map, is_old_map, old_units, kind_of, looks_earlier}
 use Rattle.fc_newmap.specs.Map.{first_fault, zone_numbers}
-use Rattle.fc_copies.specs.declared.Which.{Which}
-use Rattle.fc_copies.specs.declared.Which.TheVariants.{One, Two}
-use Rattle.fc_copies.specs.Copies.{copy_of, is_check_right, is_sound, chosen}
+use Rattle.fc_newmap.specs.declared.copies.Which.{Which}
+use Rattle.fc_newmap.specs.declared.copies.Which.TheVariants.{One, Two}
+use Rattle.fc_newmap.specs.Copies.{copy_of, is_check_right, is_sound, chosen}
 use Rattle.fc_newmap.proofs.GeometryLemmas.{facts_of_valid}
 use Rattle.fc_image.specs.declared.ImageFault.{ImageFault}
 use Rattle.fc_image.specs.Layout.{Layout}

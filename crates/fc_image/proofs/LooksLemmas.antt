@@ -4,7 +4,7 @@ use Rattle.std.specs.Prelude.{◌&&◌, ◌||◌, ◌==◌, nat_le, not, slice_i
 use Rattle.std.specs.List.{range_with_len, list_any}
 use Rattle.fc_bytes.specs.Words.{bytes_at}
 use Rattle.fc_device.specs.Sectors.{sector_at}
-use Rattle.fc_checks.specs.Checks.{boot_check}
+use Rattle.fc_bytes.specs.Checks.{boot_check}
 use Rattle.fc_record.specs.declared.Geometry.{Geometry}
 use Rattle.fc_record.specs.declared.Kind.TheVariants.{OneZone}
 use Rattle.fc_record.specs.Record.{record_of, is_valid}

@@ -11,9 +11,9 @@ use Rattle.fc_record.specs.declared.Geometry.{Geometry}
 use Rattle.fc_record.specs.declared.Kind.TheVariants.{OneZone}
 use Rattle.fc_record.specs.Record.{geometry, record_fault, is_valid}
 use Rattle.fc_record.specs.Kinds.{IsKind, map_record, is_whole_map, is_one_zone, fits_kind}
-use Rattle.fc_copies.specs.declared.Which.{Which}
-use Rattle.fc_copies.specs.declared.Which.TheVariants.{One, Two}
-use Rattle.fc_copies.specs.Copies.{copy_of, is_check_right, is_sound, chosen, unsound_zone}
+use Rattle.fc_newmap.specs.declared.copies.Which.{Which}
+use Rattle.fc_newmap.specs.declared.copies.Which.TheVariants.{One, Two}
+use Rattle.fc_newmap.specs.Copies.{copy_of, is_check_right, is_sound, chosen, unsound_zone}
 use Rattle.fc_newmap.proofs.GeometryLemmas.{ValidFacts, facts_of_valid}
 use Rattle.fc_image.specs.Opening.{MapAndRoot, map_and_root, agreement, difference}
 use Rattle.fc_image.proofs.KindLemmas.{first_place, second_place, map_at_front}

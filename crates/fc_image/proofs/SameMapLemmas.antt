@@ -10,8 +10,8 @@ use Rattle.fc_record.specs.declared.Geometry.{Geometry}
 use Rattle.fc_record.specs.Record.{geometry}
 use Rattle.fc_record.specs.Kinds.{map_record}
 use Rattle.fc_newmap.specs.Map.{Map}
-use Rattle.fc_copies.specs.declared.Which.{Which}
-use Rattle.fc_copies.specs.Copies.{chosen, copy_of, CommitLeaves}
+use Rattle.fc_newmap.specs.declared.copies.Which.{Which}
+use Rattle.fc_newmap.specs.Copies.{chosen, copy_of, CommitLeaves}
 use Rattle.fc_image.specs.Layout.{Layout}
 use Rattle.fc_image.specs.Walk.{Object, Listing, Reader, reader_of, is_directory_object}
 use Rattle.fc_image.specs.Objects.{objects_of}

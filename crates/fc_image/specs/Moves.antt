@@ -8,7 +8,7 @@ use Rattle.fc_record.specs.declared.Kind.TheVariants.{Boot, OneZone}
 use Rattle.fc_record.specs.declared.Geometry.{Geometry}
 use Rattle.fc_record.specs.Kinds.{IsKind, map_record, fits_kind, looks_earlier}
 use Rattle.fc_newmap.specs.Map.{Map, IsMap, sector_of, id_runs, all_runs, sectors_of, map_sectors}
-use Rattle.fc_copies.specs.Copies.{Chooses, CommitLeaves}
+use Rattle.fc_newmap.specs.Copies.{Chooses, CommitLeaves}
 use Rattle.fc_image.specs.Layout.{Layout, dir_form, sectors_at, id_sectors, hole_sectors, is_among, is_apart}
 use Rattle.fc_image.specs.Walk.{Object, Listing, object_size}
 use Rattle.fc_image.specs.Objects.{objects_of, tree_of, is_movable, is_owned}

@@ -13,8 +13,8 @@ use Rattle.fc_zone.specs.declared.RunKind.{RunKind}
 use Rattle.fc_zone.specs.declared.RunKind.TheVariants as kinds
 use Rattle.fc_oldmap.specs.OldMap.{free_space, hole_fault}
 use Rattle.fc_newmap.specs.Map.{Map, first_fault, zone_numbers, all_runs, sectors_of, map_sectors}
-use Rattle.fc_copies.specs.declared.Which.{Which}
-use Rattle.fc_copies.specs.Copies.{chosen, copy_of}
+use Rattle.fc_newmap.specs.declared.copies.Which.{Which}
+use Rattle.fc_newmap.specs.Copies.{chosen, copy_of}
 use Rattle.std.specs.List.{zip}
 use Rattle.fc_image.specs.declared.ImageFault.{ImageFault}
 use Rattle.fc_image.specs.declared.ImageFault.TheVariants as faults

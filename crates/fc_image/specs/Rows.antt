@@ -1,10 +1,10 @@
 -- Whole images, worked out.
 use Rattle.std.specs.Prelude.{◌≡◌, ℕ, List, [], ◌∷◌, ◌++◌, take, drop, replicate, Option, Some, None, Result, Ok, Err}
-use Rattle.fc_checks.specs.Rows.{e_root, e_sector}
+use Rattle.fc_bytes.specs.Rows.{e_root, e_sector}
 use Rattle.fc_record.specs.Rows.{e}
 use Rattle.fc_record.specs.Record.{record_of}
 use Rattle.fc_image.specs.Layout.{Layout}
-use Rattle.fc_checks.specs.Checks.{small_dir_check}
+use Rattle.fc_bytes.specs.Checks.{small_dir_check}
 use Rattle.fc_zone.specs.Edits.{sealed}
 use Rattle.fc_oldmap.specs.OldMap.{with_holes}
 use Rattle.fc_dirs.specs.declared.DirFault.TheVariants as dirs

@@ -12,7 +12,7 @@ use Rattle.fc_dirs.specs.declared.Entry.{Entry}
 use Rattle.fc_zone.specs.declared.RunKind.{RunKind}
 use Rattle.fc_zone.specs.declared.RunKind.TheVariants as kinds
 use Rattle.fc_newmap.specs.Map.{Map, all_runs, id_runs, sectors_of, map_sectors}
-use Rattle.fc_copies.specs.Copies.{HoldsCopies}
+use Rattle.fc_newmap.specs.Copies.{HoldsCopies}
 use Rattle.fc_image.specs.Layout.{Layout, hole_sectors, map_place, is_among, is_apart}
 use Rattle.fc_image.specs.Walk.{Listing, Object, object_bytes}
 use Rattle.fc_image.specs.Objects.{objects_of, tree_of, is_lost}

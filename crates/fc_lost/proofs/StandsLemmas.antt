@@ -16,7 +16,7 @@ use Rattle.fc_newmap.specs.Map.{Map}
 use Rattle.fc_image.specs.Layout.{Layout, disc_sectors, sector_bytes}
 use Rattle.fc_image.specs.Objects.{objects_of}
 use Rattle.fc_image.specs.Opening.{Opened}
-use Rattle.fc_copies.specs.Copies.{ChangesCopies}
+use Rattle.fc_newmap.specs.Copies.{ChangesCopies}
 use Rattle.fc_image.specs.Stays.{IsNewLayout, OpensAs}
 use Rattle.fc_image.specs.safe.Reclaim.{OwnedStay, Reclaims, StaysOwned, is_owned_run, reclaimed_bytes, sectors_that}
 use Rattle.fc_compact.specs.Ready.{AreOwnersOf}

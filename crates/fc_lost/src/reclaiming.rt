@@ -3,7 +3,7 @@ ghost use Rattle.std.specs.Prelude.{◌≡◌, ◌⊎◌, ◌↔◌, ◌≤◌, 
 ghost use Rattle.std.specs.Option.{ForSome};
 ghost use Rattle.fc_device.specs.Calls.{FailsByFault, SameForm, StopsAndExitsLeave};
 ghost use Rattle.fc_newmap.specs.Map.{Map};
-ghost use Rattle.fc_copies.specs.Copies.{ChangesCopies};
+ghost use Rattle.fc_newmap.specs.Copies.{ChangesCopies};
 ghost use Rattle.fc_image.specs.Layout.{Layout, sector_bytes};
 ghost use Rattle.fc_image.specs.Stays.{IsNewLayout};
 ghost use Rattle.fc_reclaim.specs.Reclaiming.{CanReclaim, LeavesOwned};
@@ -14,10 +14,9 @@ ghost use Rattle.fc_lost.specs.Reclaiming.{HasGeometryOf, HasGivenBack, HasRecla
 
 use fc_alloc::Owners;
 use fc_bytes::are_bytes;
-use fc_copies::Which;
+use fc_newmap::{NewMap, Which};
 use fc_device::{Disk, DiskFault};
 use fc_names::Refusal;
-use fc_newmap::NewMap;
 use fc_reclaim::reclaim_map;
 use fc_space::{Places, Space};
 use fc_volume::{CommandError, Copies, Volume};

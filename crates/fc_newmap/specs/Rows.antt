@@ -1,6 +1,6 @@
 -- Maps, worked out.
 use Rattle.std.specs.Prelude.{◌≡◌, ℕ, ◌*◌, [], ◌∷◌, Some, None}
-use Rattle.fc_checks.specs.Rows.{e_sector}
+use Rattle.fc_bytes.specs.Rows.{e_sector}
 use Rattle.fc_record.specs.Rows.{e, f}
 use Rattle.fc_zone.specs.declared.RunKind.TheVariants.{Hole, Id}
 use Rattle.fc_zone.specs.declared.Run.{Run}

@@ -1,9 +1,10 @@
 //! What a new map is: its zones, the runs in them, the order of an identifier's runs, and the sectors of the disc that
-//! runs stand for.
+//! runs stand for; and its two copies on the disc.
 //!
 //! Source: the RISC OS PRM, chapter FileCore, "New maps".
 #![tactic(auto)]
 
+mod copies;
 mod extents;
 mod map;
 mod places;
@@ -17,6 +18,7 @@ mod walk;
 ghost use Rattle.fc_newmap.specs.Rows.{MapRows};
 ghost use Rattle.fc_newmap.specs.RunsLaw.{GeometryLaw, IdsLaw, RunsLaw, ShapeLaw, ZoneSectorsLaw};
 
+pub use copies::{CopyError, Which, commit, commit_wide, copies_fit, fetch, gate, mix, repair};
 pub use extents::extent_of;
 use fc_zone::ZoneFault;
 pub use map::NewMap;

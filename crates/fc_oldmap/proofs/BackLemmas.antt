@@ -7,7 +7,7 @@ use Rattle.std.proofs.Math.Nat.{div-one, mod-eq_of_lt}
 use Rattle.byteorder.specs.Endian.{little_bytes, little_number}
 use Rattle.byteorder.specs.Numbers.{little_from-bytes, little_from-take}
 use Rattle.fc_bytes.specs.Words.{u24_at}
-use Rattle.fc_checks.specs.Checks.{carry_sum, is_half_right, old_check}
+use Rattle.fc_bytes.specs.Checks.{carry_sum, is_half_right, old_check}
 use Rattle.fc_oldmap.specs.declared.Hole.{Hole}
 use Rattle.fc_oldmap.specs.Holes.{hole, hole_end}
 use Rattle.fc_oldmap.specs.OldMap.{OldMapContent, checked_half, triples, with_holes, stored_hole, holes_of, is_free_end, map_units, old_map, wrong_hole}

@@ -12,7 +12,7 @@ use Rattle.fc_oldmap.specs.OldMap.{OldMapContent, stored_hole, holes_of, is_free
 use Rattle.fc_oldmap.specs.declared.OldMapFault.{OldMapFault}
 use Rattle.fc_oldmap.specs.declared.OldMapFault.TheVariants.{Check, Bad}
 use Rattle.fc_bytes.specs.Words.{u24_at}
-use Rattle.fc_checks.specs.Checks.{is_half_right}
+use Rattle.fc_bytes.specs.Checks.{is_half_right}
 
 -- n stored holes from a number on
 unfoldable pub holes_from : List ℕ → ℕ → ℕ → List Hole

@@ -7,7 +7,7 @@ use Rattle.std.proofs.Math.Seq.{take-append_seam, drop-append-add, take-append-a
 use Rattle.byteorder.specs.Endian.{little_bytes}
 use Rattle.fc_bytes.specs.Bits.{overwritten}
 use Rattle.fc_oldmap.specs.OldMap.{triples, checked_half}
-use Rattle.fc_checks.specs.Checks.{carry_sum}
+use Rattle.fc_bytes.specs.Checks.{carry_sum}
 
 -- the numbers, and bytes 0 after them
 unfoldable pub padded : List ℕ → List ℕ

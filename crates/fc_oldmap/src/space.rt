@@ -8,8 +8,7 @@ use crate::holes::{Holes, give_to, shift_at, shortage, take_from, tidy_all};
 use crate::read::{is_free_end, read_holes};
 use crate::write::write_map;
 use crate::{Hole, MapFull, OldMapFault, TakeError};
-use fc_bytes::le24;
-use fc_checks::is_half_right;
+use fc_bytes::{is_half_right, le24};
 use std::marker::Model;
 
 /// The free space of a disc with an old map: at most 82 holes, rising and without units in common.

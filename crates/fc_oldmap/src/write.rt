@@ -6,8 +6,7 @@ ghost use Rattle.fc_oldmap.specs.OldMap.{checked_half, triples, with_holes};
 
 use crate::Hole;
 use crate::holes::PLACES;
-use fc_bytes::put_le24;
-use fc_checks::old_check;
+use fc_bytes::{old_check, put_le24};
 
 // Clears the places of 82 numbers in half a map of 256 bytes.
 fn clear(half: &mut [u8])

@@ -12,9 +12,9 @@ use Rattle.fc_device.proofs.DiskLaws.{Laws}
 use Rattle.fc_device.proofs.StopLemmas.{started}
 use Rattle.fc_newmap.specs.Map.{Map}
 use Rattle.fc_newmap.specs.NewMap.{IsNewMap}
-use Rattle.fc_copies.specs.declared.Which.TheVariants.{One}
-use Rattle.fc_copies.specs.Committing.{CanWrite}
-use Rattle.fc_copies.specs.Copies.{ChangesCopies, CommitEnds, CommitLeaves, HoldsCopies, chosen, copy_of, copy_start, is_sound}
+use Rattle.fc_newmap.specs.declared.copies.Which.TheVariants.{One}
+use Rattle.fc_newmap.specs.Committing.{CanWrite}
+use Rattle.fc_newmap.specs.Copies.{ChangesCopies, CommitEnds, CommitLeaves, HoldsCopies, chosen, copy_of, copy_start, is_sound}
 
 pub same_sectors : (xs ys : List (List ℕ)) → length xs ≡ length ys → ((k : ℕ) → k < length xs → get_or xs k [] ≡ get_or ys k []) → xs ≡ ys
 same_sectors [] [] long same = refl

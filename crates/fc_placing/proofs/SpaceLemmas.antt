@@ -20,8 +20,8 @@ use Rattle.fc_newmap.specs.Edits.{AreEdits, KeepsRuns}
 use Rattle.fc_newmap.specs.RunsLaw.{placed}
 use Rattle.fc_newmap.proofs.HeldLemmas.{geometry_facts}
 use Rattle.fc_newmap.proofs.PlaceLemmas.{id_runs_by_zones}
-use Rattle.fc_copies.specs.Committing.{KeepsContents}
-use Rattle.fc_copies.specs.Copies.{HoldsCopies}
+use Rattle.fc_newmap.specs.Committing.{KeepsContents}
+use Rattle.fc_newmap.specs.Copies.{HoldsCopies}
 use Rattle.fc_image.proofs.EntriesLemmas.{from_filter}
 use Rattle.fc_image.specs.effects.Placed.{holes_left, stands_at}
 use Rattle.fc_image.specs.effects.Steady.{ZoneSteady, holes_with, has_id_that, runs_that, zone_holes}

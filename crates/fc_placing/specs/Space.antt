@@ -3,7 +3,7 @@ use Rattle.std.specs.Prelude.{◌≡◌, ◌<◌, ℕ, ◌++◌, false, List, []
 use Rattle.fc_record.specs.Kinds.{map_record}
 use Rattle.fc_newmap.specs.Map.{Map, ZoneRun, hole_runs, id_runs, runs_of, sector_of, zone_numbers}
 use Rattle.fc_newmap.specs.NewMap.{IsNewMap}
-use Rattle.fc_copies.specs.Copies.{HoldsCopies}
+use Rattle.fc_newmap.specs.Copies.{HoldsCopies}
 use Rattle.fc_image.specs.effects.Placed.{holes_left}
 use Rattle.fc_image.specs.effects.Steady.{KeepsOrWritesLinks, ZoneSteady}
 use Rattle.fc_plan.specs.declared.plan.Plan.{Plan}

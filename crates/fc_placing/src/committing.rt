@@ -5,14 +5,13 @@ ghost use Rattle.std.specs.List.Sorted.{IsStrictlyIncreasing};
 ghost use Rattle.std.specs.Option.{ForSome};
 ghost use Rattle.fc_device.specs.Calls.{FailsByFault, SameForm, StopsAndExitsLeave};
 ghost use Rattle.fc_newmap.specs.Edits.{KeepsRuns};
-ghost use Rattle.fc_copies.specs.declared.Which.TheVariants.{One};
-ghost use Rattle.fc_copies.specs.Committing.{CanWrite, KeepsContents, TakesCopies};
-ghost use Rattle.fc_copies.specs.Copies.{ChangesCopies, CommitEnds, CommitLeaves, copy_of};
+ghost use Rattle.fc_newmap.specs.declared.copies.Which.TheVariants.{One};
+ghost use Rattle.fc_newmap.specs.Committing.{CanWrite, KeepsContents, TakesCopies};
+ghost use Rattle.fc_newmap.specs.Copies.{ChangesCopies, CommitEnds, CommitLeaves, copy_of};
 
 use arrayvec::ArrayVec;
-use fc_copies::{commit, commit_wide};
+use fc_newmap::{NewMap, commit, commit_wide};
 use fc_device::{Disk, DiskFault};
-use fc_newmap::NewMap;
 
 // So many zones can be written so that a crash leaves the old map or the new one.
 const GATED_ZONES: usize = 9;

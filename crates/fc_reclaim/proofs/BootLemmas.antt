@@ -2,7 +2,7 @@
 use Rattle.std.proofs.Common.{◌≡◌, ◌<◌, ◌≤◌, ℕ, Bool, false, List, length, sym, ap, ◌∙◌}
 use Rattle.std.specs.Prelude.{slice_index, ◌==◌, ◌&&◌}
 use Rattle.std.proofs.lemmas.Bool.{le-leb, lt-leb}
-use Rattle.fc_checks.specs.Checks.{boot_check}
+use Rattle.fc_bytes.specs.Checks.{boot_check}
 use Rattle.fc_record.specs.Kinds.{boot_block, boot_record, is_boot}
 use Rattle.fc_record.specs.Record.{is_valid}
 use Rattle.fc_reclaim.specs.Boot.{is_boot_block}

@@ -12,10 +12,10 @@ use Rattle.fc_record.specs.Kinds.{is_boot}
 use Rattle.fc_newmap.specs.Map.{Map}
 use Rattle.fc_newmap.specs.NewMap.{IsNewMap}
 use Rattle.fc_alloc.specs.declared.owner.Owner.{Owner}
-use Rattle.fc_copies.specs.declared.Which.{Which}
-use Rattle.fc_copies.specs.declared.Which.TheVariants.{One}
-use Rattle.fc_copies.specs.Copies.{ChangesCopies, Chooses, HoldsCopies, RepairLeaves, copy_of, is_sound}
-use Rattle.fc_copies.proofs.ReadingLemmas.{chooses_one}
+use Rattle.fc_newmap.specs.declared.copies.Which.{Which}
+use Rattle.fc_newmap.specs.declared.copies.Which.TheVariants.{One}
+use Rattle.fc_newmap.specs.Copies.{ChangesCopies, Chooses, HoldsCopies, RepairLeaves, copy_of, is_sound}
+use Rattle.fc_newmap.proofs.ReadingLemmas.{chooses_one}
 use Rattle.fc_oldmap.specs.OldMap.{OldMapContent, free_space, hole_fault}
 use Rattle.fc_image.specs.declared.ImageFault.{ImageFault}
 use Rattle.fc_image.specs.Layout.{Layout}
@@ -32,7 +32,7 @@ use Rattle.fc_reclaim.proofs.KeptLemmas.{commit_keeps, commit_ready, kept_same}
 use Rattle.fc_reclaim.proofs.OwnedLemmas.{HasPassed}
 use Rattle.fc_reclaim.proofs.ReclaimsLemmas.{covers_kind, given_bytes, reclaims, stays_owned}
 use Rattle.std.proofs.Common.{◌*◌}
-use Rattle.fc_copies.proofs.CommitLemmas.{same_frame as frame_same}
+use Rattle.fc_newmap.proofs.CommitLemmas.{same_frame as frame_same}
 
 -- what an exit has led to is what is told
 pub told_keeps : {D : Type 0} {d : Ghosts D} (law : Laws d) {R : List ℕ → List ℕ → Type 0} {old new : D} → StopsAndExitsLeave d old new R → (was image : List ℕ) → d.bytes old ≡ Some was → d.bytes new ≡ Some image → R was image

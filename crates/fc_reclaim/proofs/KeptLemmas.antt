@@ -8,9 +8,9 @@ use Rattle.fc_zone.proofs.ReadingLemmas.{Zone-zone_of}
 use Rattle.fc_newmap.specs.Map.{IsMap, Map, id_runs, map_sectors, runs_of, sector_of, shape}
 use Rattle.fc_newmap.specs.NewMap.{IsNewMap}
 use Rattle.fc_alloc.specs.declared.owner.Owner.{Owner}
-use Rattle.fc_copies.specs.declared.Which.TheVariants.{One}
-use Rattle.fc_copies.specs.Copies.{ChangesCopies, Chooses, HoldsCopies, is_sound}
-use Rattle.fc_copies.proofs.ReadingLemmas.{chooses_one}
+use Rattle.fc_newmap.specs.declared.copies.Which.TheVariants.{One}
+use Rattle.fc_newmap.specs.Copies.{ChangesCopies, Chooses, HoldsCopies, is_sound}
+use Rattle.fc_newmap.proofs.ReadingLemmas.{chooses_one}
 use Rattle.std.specs.Prelude.{filter}
 use Rattle.fc_image.specs.Layout.{Layout, is_among}
 use Rattle.fc_image.specs.Objects.{is_lost, objects_of, tree_of}
@@ -27,7 +27,7 @@ use Rattle.fc_reclaim.specs.Settled.{by_map}
 use Rattle.fc_reclaim.proofs.OwnedLemmas.{HasPassed, lost_same, owned_kept, placed_after}
 use Rattle.fc_reclaim.proofs.SettledLemmas.{settled_law}
 use Rattle.fc_compact.proofs.StepLemmas.{map_is}
-use Rattle.fc_copies.proofs.CommitLemmas.{same_frame as frame_same}
+use Rattle.fc_newmap.proofs.CommitLemmas.{same_frame as frame_same}
 
 -- ---- one image, and one after another
 

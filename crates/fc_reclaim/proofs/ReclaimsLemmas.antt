@@ -16,7 +16,7 @@ use Rattle.fc_newmap.specs.Map.{Map, ZoneRun, all_runs, bits_in, has_id, hole_ru
 use Rattle.fc_newmap.specs.RunsLaw.{placed}
 use Rattle.fc_newmap.proofs.PlaceLemmas.{in_back, range_in}
 use Rattle.fc_alloc.specs.declared.owner.Owner.{Owner}
-use Rattle.fc_copies.specs.Copies.{ChangesCopies}
+use Rattle.fc_newmap.specs.Copies.{ChangesCopies}
 use Rattle.fc_image.specs.Layout.{Layout, is_among, is_apart}
 use Rattle.fc_image.specs.Walk.{Object}
 use Rattle.fc_image.specs.Objects.{objects_of}

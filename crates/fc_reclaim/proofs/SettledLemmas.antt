@@ -16,7 +16,7 @@ use Rattle.fc_record.specs.Kinds.{disc_size, fits_kind}
 use Rattle.fc_newmap.specs.Map.{Map, first_fault, id_runs, map_sectors, zone_numbers}
 use Rattle.fc_newmap.proofs.MapLemmas.{no_fault_of_map}
 use Rattle.fc_newmap.proofs.PlaceLemmas.{in_back, in_either, in_front, in_range}
-use Rattle.fc_copies.specs.Copies.{ChangesCopies, Chooses}
+use Rattle.fc_newmap.specs.Copies.{ChangesCopies, Chooses}
 use Rattle.fc_names.specs.Names.{Path}
 use Rattle.fc_dirs.specs.declared.Entry.{Entry}
 use Rattle.fc_dirs.specs.Directory.{directory_of, directory_size, entries_of}

@@ -22,9 +22,9 @@ use Rattle.fc_newmap.proofs.CoverLemmas.{range_cut}
 use Rattle.fc_newmap.proofs.GeometryLemmas.{header_high}
 use Rattle.fc_newmap.proofs.HeldLemmas.{on_disc}
 use Rattle.fc_alloc.specs.declared.owner.Owner.{Owner}
-use Rattle.fc_copies.specs.declared.Which.TheVariants.{One}
-use Rattle.fc_copies.specs.Committing.{CanWrite, KeepsContents}
-use Rattle.fc_copies.specs.Copies.{CommitEnds, CommitLeaves, HoldsCopies, copy_of}
+use Rattle.fc_newmap.specs.declared.copies.Which.TheVariants.{One}
+use Rattle.fc_newmap.specs.Committing.{CanWrite, KeepsContents}
+use Rattle.fc_newmap.specs.Copies.{CommitEnds, CommitLeaves, HoldsCopies, copy_of}
 use Rattle.fc_image.specs.safe.Reclaim.{all_absorbed}
 use Rattle.fc_changes.proofs.CommittedLemmas.{kept_links, record_same, steady_zone}
 use Rattle.fc_plan.specs.Giving.{as_spaces, spaces_in}

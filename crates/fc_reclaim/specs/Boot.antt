@@ -1,7 +1,7 @@
 -- The block of 512 bytes in which a boot block may fit.
 use Rattle.std.specs.Prelude.{ℕ, Bool, ◌&&◌, ◌==◌, List, slice_index}
 use Rattle.fc_bytes.specs.Words.{bytes_at}
-use Rattle.fc_checks.specs.Checks.{boot_check}
+use Rattle.fc_bytes.specs.Checks.{boot_check}
 use Rattle.fc_record.specs.Record.{is_valid, record_of}
 
 -- its check is right, and its disc record is valid

@@ -6,7 +6,7 @@ use Rattle.fc_record.specs.declared.Kind.{Kind}
 use Rattle.fc_record.specs.Kinds.{is_boot}
 use Rattle.fc_newmap.specs.Map.{Map}
 use Rattle.fc_alloc.specs.declared.owner.Owner.{Owner}
-use Rattle.fc_copies.specs.Copies.{ChangesCopies}
+use Rattle.fc_newmap.specs.Copies.{ChangesCopies}
 use Rattle.fc_image.specs.Layout.{Layout}
 use Rattle.fc_image.specs.Objects.{is_lost, objects_of, tree_of}
 use Rattle.fc_image.specs.Opening.{Opened}

@@ -4,7 +4,7 @@ use Rattle.fc_record.specs.declared.DiscRecord.{DiscRecord}
 use Rattle.fc_record.specs.declared.Kind.{Kind}
 use Rattle.fc_record.specs.Kinds.{map_record}
 use Rattle.fc_newmap.specs.Map.{IsMap, Map, sector_of}
-use Rattle.fc_copies.specs.Copies.{ChangesCopies, Chooses}
+use Rattle.fc_newmap.specs.Copies.{ChangesCopies, Chooses}
 use Rattle.fc_image.specs.Layout.{Layout}
 use Rattle.fc_image.specs.Objects.{is_lost, objects_of}
 use Rattle.fc_image.specs.Opening.{Opened, misplaced_sector}

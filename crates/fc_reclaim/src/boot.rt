@@ -6,7 +6,7 @@ ghost use Rattle.fc_device.specs.Sectors.{IsSectorSize};
 ghost use Rattle.fc_record.specs.Kinds.{is_boot};
 ghost use Rattle.fc_reclaim.specs.Boot.{is_boot_block};
 
-use fc_checks::boot_check;
+use fc_bytes::boot_check;
 use fc_device::{Disk, DiskFault, Extent};
 use fc_record::read_record;
 

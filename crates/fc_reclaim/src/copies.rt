@@ -3,7 +3,7 @@ ghost use Rattle.std.specs.Prelude.{◌≡◌, ◌≤◌, ◌+◌, ◌*◌, IfOk
 ghost use Rattle.std.specs.Option.{ForSome};
 ghost use Rattle.fc_device.specs.Calls.{FailsByFault, SameForm, StopsAndExitsLeave};
 ghost use Rattle.fc_record.specs.Kinds.{is_boot};
-ghost use Rattle.fc_copies.specs.Copies.{ChangesCopies, HoldsCopies};
+ghost use Rattle.fc_newmap.specs.Copies.{ChangesCopies, HoldsCopies};
 ghost use Rattle.fc_reclaim.specs.Kept.{IsReadyBy, KeepsOwned, KeepsOwnedAll};
 ghost use Rattle.fc_reclaim.specs.Map.{IsReclaimed, bits_back};
 ghost use Rattle.fc_reclaim.specs.Reclaiming.{CanReclaim, CountsIn, HasReclaimed, KeepsContent, LeavesOwned, ReclaimsMap};
@@ -11,9 +11,8 @@ ghost use Rattle.fc_reclaim.specs.Reclaiming.{CanReclaim, CountsIn, HasReclaimed
 use crate::boot::find_boot;
 use crate::map::reclaim_zones;
 use fc_alloc::Owners;
-use fc_copies::{Which, repair};
+use fc_newmap::{NewMap, Which, repair};
 use fc_device::{Disk, DiskFault};
-use fc_newmap::NewMap;
 
 // Makes the copies of a map equal, if one counts from which the other may differ.
 fn match_copies<D: Disk>(disk: &mut D, map: &NewMap, which: Option<Which>) -> Result<(), DiskFault>

@@ -5,9 +5,9 @@ ghost use Rattle.fc_device.specs.Calls.{FailsByFault, SameForm, StopsAndExitsLea
 ghost use Rattle.fc_record.specs.Record.{end_bit, first_bit};
 ghost use Rattle.fc_newmap.specs.Edits.{KeepsRuns};
 ghost use Rattle.fc_newmap.specs.Map.{bits_in, runs_of};
-ghost use Rattle.fc_copies.specs.declared.Which.TheVariants.{One};
-ghost use Rattle.fc_copies.specs.Committing.{CanWrite, KeepsContents};
-ghost use Rattle.fc_copies.specs.Copies.{CommitEnds, CommitLeaves, copy_of};
+ghost use Rattle.fc_newmap.specs.declared.copies.Which.TheVariants.{One};
+ghost use Rattle.fc_newmap.specs.Committing.{CanWrite, KeepsContents};
+ghost use Rattle.fc_newmap.specs.Copies.{CommitEnds, CommitLeaves, copy_of};
 ghost use Rattle.fc_reclaim.specs.Kept.{IsReadyBy, KeepsOwned};
 ghost use Rattle.fc_reclaim.specs.Lost.{goes_back};
 ghost use Rattle.fc_reclaim.specs.Map.{IsReclaimed, IsReclaimedAt, bits_back};
@@ -16,9 +16,8 @@ ghost use Rattle.fc_reclaim.specs.Zone.{going};
 use crate::zone::reclaim_in;
 use arrayvec::ArrayVec;
 use fc_alloc::Owners;
-use fc_copies::commit;
+use fc_newmap::{NewMap, commit};
 use fc_device::{Disk, DiskFault};
-use fc_newmap::NewMap;
 
 // Commits one zone of a map.
 fn commit_zone<D: Disk>(disk: &mut D, map: &mut NewMap, z: u16) -> Result<(), DiskFault>

@@ -6,7 +6,7 @@ use Rattle.std.proofs.lemmas.List.{take-take, drop-take, get_or-take}
 use Rattle.std.proofs.lemmas.Bool.{ne_eqb}
 use Rattle.byteorder.specs.Endian.{little_number}
 use Rattle.fc_bytes.specs.Words.{bytes_at, u24_at}
-use Rattle.fc_checks.specs.Checks.{boot_check, zone_check, is_half_right}
+use Rattle.fc_bytes.specs.Checks.{boot_check, zone_check, is_half_right}
 use Rattle.fc_record.specs.declared.DiscRecord.{DiscRecord}
 use Rattle.fc_record.specs.declared.Kind.{Kind}
 use Rattle.fc_record.specs.declared.Kind.TheVariants.{Boot, OneZone, DiscD, DiscL}

@@ -2,7 +2,7 @@
 use Rattle.std.specs.Prelude.{ℕ, ◌&&◌, ◌==◌, List, slice_index, if◌then◌else◌, Option, Some, None}
 use Rattle.std.specs.Int.{is_in_range}
 use Rattle.fc_bytes.specs.Words.{bytes_at}
-use Rattle.fc_checks.specs.Checks.{boot_check}
+use Rattle.fc_bytes.specs.Checks.{boot_check}
 use Rattle.fc_record.specs.declared.DiscRecord.{DiscRecord}
 use Rattle.fc_record.specs.declared.Kind.{Kind}
 use Rattle.fc_record.specs.declared.Kind.TheVariants.{DiscD, DiscL}

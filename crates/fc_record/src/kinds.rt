@@ -12,8 +12,7 @@ ghost use Rattle.fc_record.specs.Record.{IsRecord};
 
 use crate::reads::fetch;
 use crate::{DiscRecord, Front, Kind, KindError, read_record};
-use fc_bytes::le24;
-use fc_checks::{boot_check, is_half_right, zone_check};
+use fc_bytes::{boot_check, is_half_right, le24, zone_check};
 use fc_device::{Disk, DiskFault};
 
 /// The units of a D disc.

@@ -5,7 +5,7 @@ ghost use Rattle.fc_record.specs.Record.{record_of, geometry, is_sector_right, i
 use crate::measures::{measured, zone_start};
 use crate::{DiscRecord, Geometry, RecordFault};
 use byteorder::{ByteOrder, LittleEndian};
-use fc_checks::is_big_size;
+use fc_bytes::is_big_size;
 
 /// The most bytes of a disc.
 const LONGEST_DISC: u64 = 1 << 40;

@@ -7,7 +7,7 @@ use Rattle.fc_record.specs.Record.{geometry}
 use Rattle.fc_oldmap.specs.OldMap.{OldMapContent, free_space, hole_fault}
 use Rattle.fc_newmap.specs.Map.{Map, ZoneRun, hole_runs}
 use Rattle.fc_newmap.specs.RunsLaw.{HasZones}
-use Rattle.fc_copies.specs.Copies.{Chooses, copy_of}
+use Rattle.fc_newmap.specs.Copies.{Chooses, copy_of}
 use Rattle.fc_model.specs.Command.{Command}
 use Rattle.fc_image.specs.declared.ImageFault.{ImageFault}
 use Rattle.fc_image.specs.Layout.{Layout}

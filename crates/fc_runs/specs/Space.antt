@@ -10,7 +10,7 @@ use Rattle.fc_oldmap.specs.OldMap.{OldMapContent, map_units}
 use Rattle.fc_zone.specs.declared.RunKind.TheVariants.{Id}
 use Rattle.fc_newmap.specs.Map.{Map, ZoneRun, hole_runs, id_runs, is_used, runs_of, sector_of, sectors_of, with_root, zone_numbers}
 use Rattle.fc_newmap.specs.RunsLaw.{HasZones}
-use Rattle.fc_copies.specs.Copies.{Chooses}
+use Rattle.fc_newmap.specs.Copies.{Chooses}
 use Rattle.fc_model.specs.Command.{Command}
 use Rattle.fc_image.specs.Layout.{Layout, hole_sectors, is_among, map_place, sectors_at}
 use Rattle.fc_image.specs.Walk.{Object}

@@ -7,10 +7,10 @@ use Rattle.fc_device.specs.Sectors.{sector_at}
 use Rattle.fc_record.specs.declared.Geometry.{Geometry}
 use Rattle.fc_newmap.specs.Map.{Map}
 use Rattle.fc_newmap.specs.NewMap.{IsNewMap}
-use Rattle.fc_copies.specs.declared.Which.{Which}
-use Rattle.fc_copies.specs.declared.Which.TheVariants.{One, Two}
-use Rattle.fc_copies.specs.Copies.{Chooses, HoldsCopies, chosen, copy_of, is_sound}
-use Rattle.fc_copies.proofs.ReadingLemmas.{one_was, two_was}
+use Rattle.fc_newmap.specs.declared.copies.Which.{Which}
+use Rattle.fc_newmap.specs.declared.copies.Which.TheVariants.{One, Two}
+use Rattle.fc_newmap.specs.Copies.{Chooses, HoldsCopies, chosen, copy_of, is_sound}
+use Rattle.fc_newmap.proofs.ReadingLemmas.{one_was, two_was}
 
 -- zones one after another
 joined : List (List ℕ) → List ℕ

@@ -10,7 +10,7 @@ use Rattle.fc_record.specs.declared.Kind.{Kind}
 use Rattle.fc_newmap.specs.Map.{Map}
 use Rattle.fc_record.specs.declared.Geometry.{Geometry}
 use Rattle.fc_names.specs.declared.refusal.Refusal.{Refusal}
-use Rattle.fc_copies.specs.Copies.{HoldsCopies}
+use Rattle.fc_newmap.specs.Copies.{HoldsCopies}
 use Rattle.fc_model.specs.Answer.{changed}
 use Rattle.fc_model.specs.Command.{Command}
 use Rattle.fc_image.specs.Layout.{Layout, disc_sectors, sector_bytes}

@@ -12,7 +12,7 @@ use Rattle.fc_record.specs.declared.Kind.{Kind}
 use Rattle.fc_newmap.specs.Map.{Map}
 use Rattle.fc_model.specs.Command.{Command}
 use Rattle.fc_model.specs.Tree.{last_name}
-use Rattle.fc_checks.specs.Checks.{is_big_size}
+use Rattle.fc_bytes.specs.Checks.{is_big_size}
 use Rattle.fc_dirs.specs.Big.{head_space_of, name_space, needed_size, size_for}
 use Rattle.fc_dirs.specs.Directory.{Directory}
 use Rattle.fc_drafts.specs.Draft.{names_of}

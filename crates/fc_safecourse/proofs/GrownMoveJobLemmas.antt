@@ -9,7 +9,7 @@ use Rattle.fc_alloc.specs.declared.owner.Owner.{Owner}
 use Rattle.fc_record.specs.declared.Kind.{Kind}
 use Rattle.fc_newmap.specs.Map.{Map}
 use Rattle.fc_model.specs.Command.{Command}
-use Rattle.fc_checks.specs.Checks.{is_big_size}
+use Rattle.fc_bytes.specs.Checks.{is_big_size}
 use Rattle.fc_drafts.specs.Draft.{names_of}
 use Rattle.fc_drafts.specs.Gains.{HasRoom}
 use Rattle.fc_drafts.specs.declared.room.Room.TheVariants as rooms

@@ -9,7 +9,7 @@ use Rattle.fc_names.specs.declared.name.NameForm.TheVariants as forms
 use Rattle.fc_record.specs.declared.DiscRecord.{DiscRecord}
 use Rattle.fc_record.specs.Kinds.{map_record}
 use Rattle.fc_record.specs.Record.{id_limit}
-use Rattle.fc_checks.specs.Checks.{is_big_size}
+use Rattle.fc_bytes.specs.Checks.{is_big_size}
 use Rattle.fc_newmap.specs.Map.{Map, sector_of}
 use Rattle.fc_image.specs.Layout.{Layout, dir_form, id_of, is_object_id}
 use Rattle.fc_image.specs.Objects.{objects_of}
@@ -23,7 +23,7 @@ use Rattle.fc_laws.specs.nodes.Edits.{Nodes}
 use Rattle.fc_laws.proofs.lemmas.nodes.FitsLemmas.{kid_lower}
 use Rattle.fc_laws.proofs.lemmas.nodes.MovingLemmas.{some_long}
 use Rattle.fc_edits.specs.Growing.{Growing}
-use Rattle.fc_copies.specs.Copies.{Chooses, HoldsCopies}
+use Rattle.fc_newmap.specs.Copies.{Chooses, HoldsCopies}
 use Rattle.fc_outcomes.specs.Growth.{GrowsRoot, MapGrows}
 use Rattle.fc_outcomes.specs.NewImage.{rooted_zone}
 use Rattle.fc_placing.specs.Space.{IsMapEdited}

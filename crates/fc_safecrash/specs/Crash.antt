@@ -1,7 +1,7 @@
 -- What a crash inside a command of the safe mode leaves: the tree before it or the tree after it.
 use Rattle.std.specs.Prelude.{◌≡◌, ◌++◌, ℕ, true, false, List, []}
 use Rattle.fc_newmap.specs.Map.{Map, map_sectors}
-use Rattle.fc_copies.specs.Copies.{Chooses}
+use Rattle.fc_newmap.specs.Copies.{Chooses}
 use Rattle.fc_model.specs.Tree.{Tree}
 use Rattle.fc_image.specs.Layout.{is_among}
 use Rattle.fc_image.specs.Objects.{objects_of}

@@ -5,7 +5,7 @@ use Rattle.fc_record.specs.declared.Kind.{Kind}
 use Rattle.fc_record.specs.Kinds.{map_record}
 use Rattle.fc_newmap.specs.Map.{Map, ZoneRun, is_used, sector_of}
 use Rattle.fc_newmap.specs.NewMap.{IsNewMap}
-use Rattle.fc_copies.specs.Copies.{Chooses, HoldsCopies}
+use Rattle.fc_newmap.specs.Copies.{Chooses, HoldsCopies}
 use Rattle.fc_model.specs.Command.{Command}
 use Rattle.fc_alloc.specs.declared.owner.Owner.{Owner}
 use Rattle.fc_image.specs.Layout.{Layout, is_among}

@@ -4,7 +4,7 @@ use Rattle.fc_names.specs.Names.{Path, is_same_path}
 use Rattle.fc_record.specs.declared.DiscRecord.{DiscRecord}
 use Rattle.fc_record.specs.Kinds.{map_record}
 use Rattle.fc_newmap.specs.Map.{sector_of}
-use Rattle.fc_copies.specs.Copies.{Chooses}
+use Rattle.fc_newmap.specs.Copies.{Chooses}
 use Rattle.fc_dirs.specs.Directory.{directory_size}
 use Rattle.fc_image.specs.Layout.{Layout, dir_form, is_among}
 use Rattle.fc_image.specs.Walk.{Listing, Object, is_directory_object, object_bytes, object_size, reader_of, root_entry}

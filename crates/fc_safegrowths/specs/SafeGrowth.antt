@@ -4,7 +4,7 @@ use Rattle.std.specs.Option.{option_map_or}
 use Rattle.fc_record.specs.declared.DiscRecord.{DiscRecord}
 use Rattle.fc_record.specs.Kinds.{map_record}
 use Rattle.fc_newmap.specs.Map.{Map, is_used, sector_of}
-use Rattle.fc_copies.specs.Copies.{HoldsCopies}
+use Rattle.fc_newmap.specs.Copies.{HoldsCopies}
 use Rattle.fc_model.specs.Command.{Command}
 use Rattle.fc_image.specs.Layout.{Layout, id_of, low_of}
 use Rattle.fc_image.specs.Objects.{objects_of}

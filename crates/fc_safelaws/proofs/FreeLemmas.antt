@@ -6,7 +6,7 @@ use Rattle.fc_record.specs.declared.DiscRecord.{DiscRecord}
 use Rattle.fc_record.specs.declared.Kind.{Kind}
 use Rattle.fc_newmap.specs.Map.{Map, map_sectors}
 use Rattle.fc_newmap.proofs.PlaceLemmas.{in_back, in_front}
-use Rattle.fc_copies.specs.Copies.{Chooses}
+use Rattle.fc_newmap.specs.Copies.{Chooses}
 use Rattle.fc_names.specs.Names.{Path}
 use Rattle.fc_dirs.specs.declared.Entry.{Entry}
 use Rattle.fc_dirs.specs.Directory.{directory_of}

@@ -2,7 +2,7 @@
 use Rattle.std.proofs.Common.{◌≡◌, ◌≤◌, ◌<◌, ℕ, ◌+◌, ◌*◌, ◌==◌, Bool, List, length, take, slice_index, arith, refl, ap}
 use Rattle.std.specs.Str.{bytes_eq}
 use Rattle.fc_bytes.specs.Words.{bytes_at, u24_at}
-use Rattle.fc_checks.specs.Checks.{small_dir_check}
+use Rattle.fc_bytes.specs.Checks.{small_dir_check}
 use Rattle.fc_dirs.specs.declared.SmallForm.{SmallForm}
 use Rattle.fc_dirs.specs.declared.SmallForm.TheVariants.{Bytes1280, Bytes2048}
 use Rattle.fc_dirs.specs.Small.{tail_of, small_dir, small_entries, hugo_word, is_small_check_right}

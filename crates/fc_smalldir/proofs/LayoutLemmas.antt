@@ -5,7 +5,7 @@ use Rattle.std.proofs.lemmas.List.{take_at, drop_at, drop-drop, get_or-drop, len
 use Rattle.byteorder.specs.Endian.{little_bytes, little_number}
 use Rattle.byteorder.specs.Numbers.{little_number-reads_back, length-bytes_low_first}
 use Rattle.fc_bytes.specs.Words.{bytes_at, words}
-use Rattle.fc_checks.specs.Checks.{small_dir_check, byte_xor, accumulated}
+use Rattle.fc_bytes.specs.Checks.{small_dir_check, byte_xor, accumulated}
 use Rattle.fc_dirs.specs.Small.{SmallDir, IsSmall, tail_of, small_entries}
 use Rattle.fc_dirs.specs.SmallBytes.{bytes_before_check, head_bytes, free_bytes, tail_bytes, magic_word, entry_bytes}
 use Rattle.fc_smalldir.proofs.EntryLemmas.{entries-read_back, length-entries}

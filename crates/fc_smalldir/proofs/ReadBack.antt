@@ -9,7 +9,7 @@ use Rattle.fc_dirs.proofs.SearchLemmas.{blank, position-none}
 use Rattle.byteorder.specs.Endian.{little_bytes}
 use Rattle.byteorder.specs.Numbers.{length-bytes_low_first}
 use Rattle.fc_bytes.specs.Words.{bytes_at, u24_at}
-use Rattle.fc_checks.specs.Checks.{small_dir_check}
+use Rattle.fc_bytes.specs.Checks.{small_dir_check}
 use Rattle.fc_dirs.specs.declared.Entry.{Entry}
 use Rattle.fc_dirs.specs.declared.SmallForm.{SmallForm}
 use Rattle.fc_dirs.specs.declared.SmallForm.TheVariants.{Bytes1280, Bytes2048}

@@ -6,8 +6,7 @@ ghost use Rattle.fc_dirs.specs.Small.{has_old_word, hugo_word, is_magic_right, i
 ghost use Rattle.fc_smalldir.specs.Fields.{dir_of, first_len, last_len};
 ghost use Rattle.fc_dirs.specs.SmallBytes.{check_of, first_field, last_field, magic_word, tail_bytes};
 
-use fc_bytes::{array_at, le24, put};
-use fc_checks::small_dir_check;
+use fc_bytes::{array_at, le24, put, small_dir_check};
 use fc_dirs::SmallForm;
 
 // The bytes of the head.

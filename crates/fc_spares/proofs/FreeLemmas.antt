@@ -11,7 +11,7 @@ use Rattle.fc_record.specs.declared.Kind.{Kind}
 use Rattle.fc_newmap.specs.Map.{Map, ZoneRun, hole_runs, sectors_of}
 use Rattle.fc_newmap.specs.RunsLaw.{HasZones, IsGeometry}
 use Rattle.fc_newmap.proofs.PlaceLemmas.{filter_in, held_in, holder_of, in_either}
-use Rattle.fc_copies.specs.Copies.{Chooses}
+use Rattle.fc_newmap.specs.Copies.{Chooses}
 use Rattle.fc_model.specs.Command.{Command}
 use Rattle.fc_alloc.specs.declared.owner.Owner.{Owner}
 use Rattle.fc_image.specs.Layout.{Layout, dir_form, hole_sectors, id_of, is_among, is_apart, map_place, sectors_at}

@@ -15,7 +15,7 @@ use Rattle.fc_newmap.specs.Map.{Map, ZoneRun, all_runs, has_id, is_used, runs_of
 use Rattle.fc_newmap.specs.NewMap.{IsNewMap}
 use Rattle.fc_newmap.proofs.HeldLemmas.{geometry_facts}
 use Rattle.fc_newmap.proofs.PlaceLemmas.{in_zone}
-use Rattle.fc_copies.specs.Copies.{Chooses}
+use Rattle.fc_newmap.specs.Copies.{Chooses}
 use Rattle.fc_model.specs.Command.{Command}
 use Rattle.fc_image.specs.Layout.{Layout, id_of, is_among}
 use Rattle.fc_image.specs.Objects.{has_sectors}

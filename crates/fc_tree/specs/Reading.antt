@@ -1,6 +1,6 @@
 -- Which directories are read at all.
 use Rattle.std.specs.Prelude.{ℕ, Bool, true}
-use Rattle.fc_checks.specs.Checks.{is_big_size}
+use Rattle.fc_bytes.specs.Checks.{is_big_size}
 use Rattle.fc_names.specs.declared.name.NameForm.{NameForm}
 use Rattle.fc_names.specs.declared.name.NameForm.TheVariants as forms
 

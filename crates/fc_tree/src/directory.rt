@@ -22,7 +22,7 @@ use crate::paths::path_of;
 use crate::reading::read_object;
 use crate::taken::Taken;
 use fc_bigdir::BigDir;
-use fc_checks::is_big_size;
+use fc_bytes::is_big_size;
 use fc_device::Disk;
 use fc_dirs::{DirError, DirFault, Entry, SmallForm};
 use fc_image::ImageFault;

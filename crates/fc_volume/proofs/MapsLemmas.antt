@@ -24,8 +24,8 @@ use Rattle.fc_image.specs.declared.ImageFault.{ImageFault}
 use Rattle.fc_image.specs.Layout.{Layout, disc_sectors, sector_bytes}
 use Rattle.fc_image.specs.Walk.{◌>>=◌}
 use Rattle.fc_image.specs.Opening.{MapAndRoot, agreement, copy_or, difference, new_layout, zones_or}
-use Rattle.fc_copies.specs.declared.Which.{Which}
-use Rattle.fc_copies.specs.Copies.{chosen, copy_of}
+use Rattle.fc_newmap.specs.declared.copies.Which.{Which}
+use Rattle.fc_newmap.specs.Copies.{chosen, copy_of}
 use Rattle.fc_space.specs.Space.{layout_of}
 use Rattle.fc_volume.specs.declared.lines.MountError.{MountError}
 use Rattle.fc_volume.specs.declared.maps.MapFound.{MapFound}

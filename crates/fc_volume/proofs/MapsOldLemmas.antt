@@ -5,7 +5,7 @@ use Rattle.byteorder.specs.Endian.{little_number}
 use Rattle.std.proofs.lemmas.List.{get_or-take, drop-take, take-take, length-take-le}
 use Rattle.std.proofs.lemmas.Bool.{and_from, leb-true, and_parts}
 use Rattle.fc_bytes.specs.Words.{bytes_at, u24_at}
-use Rattle.fc_checks.specs.Checks.{is_half_right}
+use Rattle.fc_bytes.specs.Checks.{is_half_right}
 use Rattle.std.specs.Int.{is_in_range}
 use Rattle.fc_record.specs.declared.Kind.TheVariants.{DiscL}
 use Rattle.fc_record.specs.Kinds.{fits_kind, is_old_map, old_units}

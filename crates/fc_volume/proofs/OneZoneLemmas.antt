@@ -13,9 +13,9 @@ use Rattle.fc_record.specs.Front.{HasMapOf}
 use Rattle.fc_record.specs.Kinds.{IsKind, is_whole_map, map_record}
 use Rattle.fc_record.specs.Record.{geometry, is_valid, zone_start}
 use Rattle.fc_newmap.specs.Map.{zones_in}
-use Rattle.fc_copies.specs.declared.Which.{Which}
-use Rattle.fc_copies.specs.declared.Which.TheVariants.{One, Two}
-use Rattle.fc_copies.specs.Copies.{chosen, copy_of, is_check_right, is_sound}
+use Rattle.fc_newmap.specs.declared.copies.Which.{Which}
+use Rattle.fc_newmap.specs.declared.copies.Which.TheVariants.{One, Two}
+use Rattle.fc_newmap.specs.Copies.{chosen, copy_of, is_check_right, is_sound}
 use Rattle.fc_volume.specs.declared.maps.CopyRead.{CopyRead}
 use Rattle.fc_record.proofs.KindLemmas.{and_first}
 

@@ -3,8 +3,8 @@ use Rattle.std.proofs.Common.{◌≡◌, ◌≤◌, ℕ, ◌+◌, ◌*◌, List,
 use Rattle.std.specs.Prelude.{Some, Result, Ok, Err}
 use Rattle.fc_record.specs.declared.Kind.{Kind}
 use Rattle.fc_record.specs.Kinds.{disc_size, front_reads, kind_of}
-use Rattle.fc_copies.specs.declared.Which.{Which}
-use Rattle.fc_copies.specs.declared.Which.TheVariants.{One, Two}
+use Rattle.fc_newmap.specs.declared.copies.Which.{Which}
+use Rattle.fc_newmap.specs.declared.copies.Which.TheVariants.{One, Two}
 use Rattle.fc_image.specs.declared.ImageFault.{ImageFault}
 use Rattle.fc_image.specs.Layout.{Layout}
 use Rattle.fc_image.specs.Opening.{MapAndRoot, map_and_root, reserved_in}

@@ -10,7 +10,7 @@ use Rattle.fc_device.proofs.DiskLaws.{Laws}
 use Rattle.fc_device.proofs.StopLemmas.{keeps_then, weaker}
 use Rattle.fc_newmap.specs.Map.{Map, map_sectors}
 use Rattle.fc_newmap.proofs.PlaceLemmas.{in_range}
-use Rattle.fc_copies.specs.Copies.{ChangesCopies, CommitLeaves, HoldsCopies}
+use Rattle.fc_newmap.specs.Copies.{ChangesCopies, CommitLeaves, HoldsCopies}
 use Rattle.fc_alloc.specs.declared.owner.Owner.{Owner}
 use Rattle.fc_image.specs.Layout.{is_among}
 use Rattle.fc_image.specs.Objects.{objects_of}

@@ -11,7 +11,7 @@ ghost use Rattle.fc_oldmap.specs.OldMap.{free_space, hole_fault, map_units};
 ghost use Rattle.fc_record.specs.Kinds.{IsKind, disc_size, fits_kind, is_old_map, map_record, old_units, sector_size};
 ghost use Rattle.fc_newmap.specs.Map.{zones_in};
 ghost use Rattle.fc_newmap.specs.NewMap.{IsOfRecord};
-ghost use Rattle.fc_copies.specs.Copies.{chosen, copy_of, is_check_right};
+ghost use Rattle.fc_newmap.specs.Copies.{chosen, copy_of, is_check_right};
 ghost use Rattle.fc_newmap.specs.NewMap.{map_in as held_map};
 ghost use Rattle.fc_image.specs.Layout.{Layout, disc_sectors, sector_bytes};
 ghost use Rattle.fc_image.specs.Opening.{agreement, byte_compared, copy_or, difference, map_and_root, new_layout, old_layout};
@@ -22,11 +22,10 @@ ghost use Rattle.fc_volume.specs.Maps.{Finds, FitsDisk, HasOldMap, found_of, zon
 ghost use Rattle.fc_holdings.specs.Holdings.{CopiesAre, HoldsMap, TellsVersion};
 
 use crate::{Copies, MountError};
-use fc_checks::zone_check;
-use fc_copies::{CopyError, Which, fetch};
+use fc_bytes::zone_check;
+use fc_newmap::{CopyError, MapError, NewMap, Which, fetch};
 use fc_device::{Disk, DiskFault, NoMemory};
 use fc_image::ImageFault;
-use fc_newmap::{MapError, NewMap};
 use fc_oldmap::{OldMap, OldMapFault};
 use fc_record::measures::geometry;
 use fc_record::{

@@ -7,10 +7,10 @@ use Rattle.fc_device.specs.Sectors.{sector_at}
 use Rattle.fc_record.specs.declared.Geometry.{Geometry}
 use Rattle.fc_newmap.specs.Map.{Map, map_sectors}
 use Rattle.fc_newmap.proofs.PlaceLemmas.{in_back, in_range, range_in}
-use Rattle.fc_copies.specs.declared.Which.{Which}
-use Rattle.fc_copies.specs.declared.Which.TheVariants.{One, Two}
-use Rattle.fc_copies.specs.Copies.{ChangesCopies, Chooses, HoldsCopies, RepairLeaves, chosen, copy_of, is_sound}
-use Rattle.fc_copies.proofs.ReadingLemmas.{chooses_one}
+use Rattle.fc_newmap.specs.declared.copies.Which.{Which}
+use Rattle.fc_newmap.specs.declared.copies.Which.TheVariants.{One, Two}
+use Rattle.fc_newmap.specs.Copies.{ChangesCopies, Chooses, HoldsCopies, RepairLeaves, chosen, copy_of, is_sound}
+use Rattle.fc_newmap.proofs.ReadingLemmas.{chooses_one}
 use Rattle.fc_image.specs.Layout.{is_among}
 use Rattle.fc_writing.specs.Content.{IsPart}
 use Rattle.fc_writing.specs.Copies.{CountsAs, KeepsMap}

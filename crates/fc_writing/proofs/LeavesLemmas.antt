@@ -3,7 +3,7 @@ use Rattle.std.proofs.Common.{◌≡◌, ◌⊎◌, inl, inr, ⊎_elim, ℕ, fal
 use Rattle.std.specs.List.{flat_map}
 use Rattle.std.proofs.lemmas.List.{append-nil}
 use Rattle.fc_newmap.specs.Map.{Map, map_sectors}
-use Rattle.fc_copies.specs.Copies.{Chooses}
+use Rattle.fc_newmap.specs.Copies.{Chooses}
 use Rattle.fc_oldmap.specs.OldMap.{OldMapContent}
 use Rattle.fc_image.specs.Layout.{Layout, is_among, map_place}
 use Rattle.fc_writing.specs.declared.ready.MapStep.{MapStep}

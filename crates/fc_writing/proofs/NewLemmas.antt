@@ -5,7 +5,7 @@ use Rattle.fc_newmap.specs.Map.{Map, map_sectors}
 use Rattle.fc_device.specs.Sectors.{sector_at}
 use Rattle.fc_newmap.proofs.PlaceLemmas.{contains_none}
 use Rattle.fc_image.specs.Layout.{is_among}
-use Rattle.fc_copies.specs.Copies.{ChangesCopies, Chooses, HoldsCopies}
+use Rattle.fc_newmap.specs.Copies.{ChangesCopies, Chooses, HoldsCopies}
 use Rattle.fc_writing.specs.declared.ready.MapStep.{MapStep}
 use Rattle.fc_writing.specs.declared.ready.MapStep.TheVariants as steps
 use Rattle.std.specs.List.{flat_map}

@@ -15,9 +15,9 @@ use Rattle.fc_newmap.specs.Edits.{AreEdits, KeepsRuns}
 use Rattle.fc_newmap.proofs.GeometryLemmas.{header_high}
 use Rattle.fc_newmap.proofs.HeldLemmas.{geometry_facts}
 use Rattle.fc_newmap.proofs.RootLemmas.{root_front}
-use Rattle.fc_copies.specs.Committing.{CanWrite, KeepsContents}
-use Rattle.fc_copies.specs.Copies.{Chooses, CommitLeaves, HoldsCopies, copy_of}
-use Rattle.fc_copies.specs.declared.Which.TheVariants.{One}
+use Rattle.fc_newmap.specs.Committing.{CanWrite, KeepsContents}
+use Rattle.fc_newmap.specs.Copies.{Chooses, CommitLeaves, HoldsCopies, copy_of}
+use Rattle.fc_newmap.specs.declared.copies.Which.TheVariants.{One}
 use Rattle.fc_image.specs.effects.Placed.{holes_left}
 use Rattle.fc_image.specs.effects.Steady.{holes_with, zone_holes}
 use Rattle.fc_plan.specs.declared.plan.Part.{Part}

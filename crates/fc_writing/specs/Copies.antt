@@ -1,8 +1,8 @@
 -- What is known of the copies of a map, and what making them equal leaves.
 use Rattle.std.specs.Prelude.{◌≡◌, ℕ, List, Ok}
 use Rattle.fc_newmap.specs.Map.{Map}
-use Rattle.fc_copies.specs.declared.Which.{Which}
-use Rattle.fc_copies.specs.Copies.{ChangesCopies, Chooses, HoldsCopies, chosen, copy_of}
+use Rattle.fc_newmap.specs.declared.copies.Which.{Which}
+use Rattle.fc_newmap.specs.Copies.{ChangesCopies, Chooses, HoldsCopies, chosen, copy_of}
 use Rattle.fc_writing.specs.declared.copies.Copies.{Copies}
 use Rattle.fc_writing.specs.declared.copies.Copies.TheVariants.{Equal, Chosen}
 

@@ -2,7 +2,7 @@
 use Rattle.std.specs.Prelude.{◌≡◌, ◌⊎◌, ℕ, true, List}
 use Rattle.fc_record.specs.declared.Geometry.{Geometry}
 use Rattle.fc_newmap.specs.Map.{Map, map_sectors}
-use Rattle.fc_copies.specs.Copies.{Chooses, HoldsCopies}
+use Rattle.fc_newmap.specs.Copies.{Chooses, HoldsCopies}
 use Rattle.fc_writing.specs.declared.ready.MapStep.{MapStep}
 use Rattle.fc_writing.specs.declared.ready.Ready.{Ready}
 use Rattle.fc_writing.specs.Content.{Content, HasContent, IsPart}

@@ -2,7 +2,7 @@
 
 ghost use Rattle.std.specs.Prelude.{◌≡◌, ◌⊎◌, ◌≤◌, ◌+◌, ◌*◌, [], IsTrue, IsFalse, OnOk};
 ghost use Rattle.std.specs.Option.{ForSome};
-ghost use Rattle.fc_copies.specs.Copies.{Chooses, HoldsCopies};
+ghost use Rattle.fc_newmap.specs.Copies.{Chooses, HoldsCopies};
 ghost use Rattle.fc_device.specs.Calls.{FailsByFault, SameForm, StopsAndExitsLeave};
 ghost use Rattle.fc_newmap.specs.Map.{map_sectors};
 ghost use Rattle.fc_writing.specs.Copies.{HasCopies};

@@ -3,7 +3,7 @@
 ghost use Rattle.std.specs.Prelude.{◌≡◌, ◌≤◌, ◌+◌, ◌*◌, IsTrue, IsFalse, OnOk, IfSome};
 ghost use Rattle.std.specs.List.{list_any};
 ghost use Rattle.std.specs.Option.{ForSome};
-ghost use Rattle.fc_copies.specs.Copies.{ChangesCopies, HoldsCopies};
+ghost use Rattle.fc_newmap.specs.Copies.{ChangesCopies, HoldsCopies};
 ghost use Rattle.fc_device.specs.Calls.{FailsByFault, SameForm, StopsAndExitsLeave};
 ghost use Rattle.fc_newmap.specs.Edits.{AreEdits, KeepsRuns};
 ghost use Rattle.fc_newmap.specs.Map.{hole_runs};

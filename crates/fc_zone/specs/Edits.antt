@@ -2,7 +2,7 @@
 use Rattle.std.specs.Prelude.{◌≡◌, ◌<◌, ◌≤◌, ◌⊎◌, ℕ, ◌+◌, ◌-◌, ◌*◌, ◌%◌, ◌^◌, List, ◌∷◌, ◌++◌, length, slice_set, slice_index, slice_range, Contains}
 use Rattle.std.specs.List.{AllByRecursion}
 use Rattle.fc_bytes.specs.Bits.{bits}
-use Rattle.fc_checks.specs.Checks.{zone_check}
+use Rattle.fc_bytes.specs.Checks.{zone_check}
 use Rattle.fc_zone.specs.declared.ZoneShape.{ZoneShape}
 use Rattle.fc_zone.specs.declared.Run.{Run}
 use Rattle.fc_zone.specs.declared.RunKind.{RunKind}

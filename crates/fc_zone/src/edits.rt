@@ -11,8 +11,7 @@ ghost use Rattle.fc_zone.specs.Zone.{IsShapeOf, Zone};
 use crate::links::{holder_before, hole_from, next_hole, set_link};
 use crate::reading::{end_of, kind_at};
 use crate::{RunKind, ZoneShape};
-use fc_bytes::{are_bytes, put_bits};
-use fc_checks::zone_check;
+use fc_bytes::{are_bytes, put_bits, zone_check};
 
 /// Turns the hole that begins at `start` into a run of an identifier.
 ///

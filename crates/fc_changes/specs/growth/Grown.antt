@@ -5,7 +5,7 @@ use Rattle.fc_record.specs.declared.DiscRecord.{DiscRecord}
 use Rattle.fc_record.specs.Kinds.{map_record}
 use Rattle.fc_newmap.specs.Map.{Map, ZoneRun, hole_runs, id_runs, sector_of, with_root}
 use Rattle.fc_newmap.specs.NewMap.{IsNewMap}
-use Rattle.fc_copies.specs.Copies.{HoldsCopies}
+use Rattle.fc_newmap.specs.Copies.{HoldsCopies}
 use Rattle.fc_image.specs.Walk.{Object}
 use Rattle.fc_image.specs.Opening.{agreement, difference}
 use Rattle.fc_image.specs.effects.Placed.{holes_left}

@@ -6,8 +6,8 @@ use Rattle.fc_record.specs.Record.{is_root_right, is_root_size_right}
 use Rattle.fc_newmap.specs.Map.{Map, hole_runs, id_runs, sector_of, with_root, with_zone}
 use Rattle.fc_newmap.specs.NewMap.{rooted}
 use Rattle.fc_newmap.specs.Edits.{AreEdits, KeepsRuns}
-use Rattle.fc_copies.specs.Copies.{CommitEnds}
-use Rattle.fc_copies.specs.Committing.{KeepsContents}
+use Rattle.fc_newmap.specs.Copies.{CommitEnds}
+use Rattle.fc_newmap.specs.Committing.{KeepsContents}
 use Rattle.fc_image.specs.Walk.{Object}
 use Rattle.fc_image.specs.Opening.{Opened}
 use Rattle.fc_image.specs.effects.Placed.{holes_left}

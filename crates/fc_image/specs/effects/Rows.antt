@@ -1,6 +1,6 @@
 -- Space on whole images, worked out.
 use Rattle.std.specs.Prelude.{◌≡◌, ℕ, Bool, true, false, List, [], ◌∷◌, Option, Some, None, Result, Ok, Err, codes}
-use Rattle.fc_checks.specs.Rows.{e_root}
+use Rattle.fc_bytes.specs.Rows.{e_root}
 use Rattle.fc_names.specs.declared.refusal.Refusal.{Refusal}
 use Rattle.fc_names.specs.declared.refusal.Refusal.TheVariants as refusals
 use Rattle.fc_record.specs.Rows.{f}

@@ -1,6 +1,6 @@
 -- What writing owes in bytes that reading ignores, worked out: maps and directories that read alike, of which some aren't written right.
 use Rattle.std.specs.Prelude.{◌≡◌, ℕ, List, [], ◌∷◌, ◌++◌, take, drop, replicate, codes}
-use Rattle.fc_checks.specs.Rows.{e_root, e_plus_root}
+use Rattle.fc_bytes.specs.Rows.{e_root, e_plus_root}
 use Rattle.fc_record.specs.Record.{geometry}
 use Rattle.fc_record.specs.Kinds.{map_record}
 use Rattle.fc_zone.specs.declared.RunKind.TheVariants.{Hole, Id}

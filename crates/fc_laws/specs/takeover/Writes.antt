@@ -2,7 +2,7 @@
 use Rattle.std.specs.Prelude.{◌≡◌, ◌≤◌, ℕ, ◌*◌, true, List, [], length}
 use Rattle.fc_newmap.specs.Map.{Map, map_sectors}
 use Rattle.fc_newmap.specs.NewMap.{IsNewMap}
-use Rattle.fc_copies.specs.Copies.{ChangesCopies, HoldsCopies}
+use Rattle.fc_newmap.specs.Copies.{ChangesCopies, HoldsCopies}
 use Rattle.fc_dirs.specs.Directory.{Directory}
 use Rattle.fc_image.specs.Layout.{Layout, bytes_in, dir_form, is_among, is_apart}
 use Rattle.fc_image.specs.Walk.{Object, object_bytes, object_size}

@@ -33,7 +33,7 @@ use Rattle.fc_edits.proofs.lemmas.NewAgreeLemmas as na
 use Rattle.fc_edits.proofs.lemmas.NewPlaceLemmas as np_
 use Rattle.fc_outcomes.specs.Puts.{put_sectors}
 use Rattle.fc_outcomes.specs.Written.{WritesForEdit}
-use Rattle.fc_copies.specs.Copies.{HoldsCopies}
+use Rattle.fc_newmap.specs.Copies.{HoldsCopies}
 use Rattle.fc_outcomes.specs.NewImage.{IsBelowRoot, IsRootAsked, NewImageEdit, RootLeft, is_now, was}
 use Rattle.fc_outcomes.proofs.lemmas.KeptLemmas.{whose_now, written_free}
 use Rattle.fc_outcomes.proofs.lemmas.PutLemmas.{written_for}

@@ -8,7 +8,7 @@ use Rattle.std.proofs.lemmas.List.Elements.{Contains-append_cases, Contains-appe
 use Rattle.fc_names.specs.Names.{is_same_path}
 use Rattle.fc_record.specs.Kinds.{disc_size}
 use Rattle.fc_newmap.specs.Map.{Map, ZoneRun, hole_runs, is_used}
-use Rattle.fc_copies.specs.Copies.{HoldsCopies}
+use Rattle.fc_newmap.specs.Copies.{HoldsCopies}
 use Rattle.fc_record.specs.declared.Geometry.{Geometry}
 use Rattle.fc_model.specs.Answer.{changed}
 use Rattle.fc_model.specs.Command.{Command}

@@ -4,7 +4,7 @@ use Rattle.std.specs.List.{range_with_len}
 use Rattle.std.proofs.lemmas.Bool.{eqb-true}
 use Rattle.fc_image.proofs.ShuffleLemmas.{same_lists}
 use Rattle.fc_bytes.specs.Bits.{bits, num, low_bits}
-use Rattle.fc_checks.specs.Checks.{carry_sum, accumulated}
+use Rattle.fc_bytes.specs.Checks.{carry_sum, accumulated}
 use Rattle.fc_record.specs.Record.{record_fault}
 use Rattle.fc_zone.specs.Reading.{runs_from, runs_of}
 use Rattle.fc_oldmap.specs.Holes.{after_give}

@@ -18,8 +18,8 @@ use Rattle.fc_newmap.specs.Edits.{AreEdits, KeepsRuns}
 use Rattle.fc_newmap.specs.NewMap.{IsNewMap}
 use Rattle.fc_newmap.proofs.HeldLemmas.{geometry_facts}
 use Rattle.fc_newmap.proofs.RootLemmas.{root_back, root_front, root_long}
-use Rattle.fc_copies.specs.Copies.{CommitEnds, HoldsCopies}
-use Rattle.fc_copies.specs.Committing.{KeepsContents}
+use Rattle.fc_newmap.specs.Copies.{CommitEnds, HoldsCopies}
+use Rattle.fc_newmap.specs.Committing.{KeepsContents}
 use Rattle.fc_image.specs.Walk.{Object}
 use Rattle.fc_image.specs.effects.Placed.{holes_left}
 use Rattle.fc_image.specs.effects.Steady.{KeepsOrWritesLinks, ZoneSteady, has_id_that, holes_with, runs_that, zone_holes}

@@ -12,7 +12,7 @@ use Rattle.fc_record.specs.declared.Kind.{Kind}
 use Rattle.fc_record.specs.declared.Kind.TheVariants.{Boot, OneZone, DiscD, DiscL}
 use Rattle.fc_record.specs.Record.{is_root_right, is_root_size_right, record_of}
 use Rattle.fc_record.specs.Kinds.{IsKind, map_record}
-use Rattle.fc_checks.specs.Checks.{is_big_size}
+use Rattle.fc_bytes.specs.Checks.{is_big_size}
 use Rattle.fc_newmap.specs.Map.{Map, sector_of, with_root}
 use Rattle.fc_newmap.specs.NewMap.{rooted}
 use Rattle.fc_newmap.proofs.RootLemmas.{root_front}

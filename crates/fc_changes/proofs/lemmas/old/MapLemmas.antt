@@ -9,7 +9,7 @@ use Rattle.std.specs.List.{range_with_len}
 use Rattle.std.specs.Int.{is_in_range}
 use Rattle.std.proofs.Math.Seq.{take-add}
 use Rattle.fc_bytes.specs.Words.{bytes_at, u24_at}
-use Rattle.fc_checks.specs.Checks.{is_half_right}
+use Rattle.fc_bytes.specs.Checks.{is_half_right}
 use Rattle.fc_device.specs.Sectors.{sector_at}
 use Rattle.fc_record.specs.declared.Kind.{Kind}
 use Rattle.fc_record.specs.declared.Kind.TheVariants.{Boot, OneZone, DiscD, DiscL}

@@ -8,7 +8,7 @@ use Rattle.fc_newmap.specs.Walk.{IsInZone}
 use Rattle.fc_newmap.proofs.ComposeLemmas.{edits_join, edits_then}
 use Rattle.fc_device.proofs.DiskLaws.{form_then, laws}
 use Rattle.fc_device.proofs.StopLemmas.{keeps_then, led}
-use Rattle.fc_copies.proofs.PassLemmas.{keeps_told}
+use Rattle.fc_newmap.proofs.PassLemmas.{keeps_told}
 use Rattle.fc_image.specs.effects.Moves.{with_holes_joined}
 use Rattle.fc_image.specs.Layout.{Layout, hole_sectors, id_sectors, is_among}
 use Rattle.fc_compact.specs.Joins.{ArePut, all_freed, changed_runs, has_run_in, is_listed}

@@ -7,8 +7,8 @@ use Rattle.fc_device.proofs.DiskLaws.{laws, form_then}
 use Rattle.fc_device.proofs.StopLemmas.{keeps_same, keeps_then, led}
 use Rattle.fc_record.specs.declared.Geometry.{Geometry}
 use Rattle.fc_newmap.specs.Map.{Map, runs_of}
-use Rattle.fc_copies.specs.Committing.{TakesCopies}
-use Rattle.fc_copies.proofs.PassLemmas.{keeps_told}
+use Rattle.fc_newmap.specs.Committing.{TakesCopies}
+use Rattle.fc_newmap.proofs.PassLemmas.{keeps_told}
 use Rattle.fc_compact.specs.Copy.{ChangesHoles}
 use Rattle.fc_compact.specs.Rounds.{Carrying}
 use Rattle.fc_compact.specs.Steps.{Packs, Preserves}

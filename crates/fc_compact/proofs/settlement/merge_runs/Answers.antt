@@ -2,7 +2,7 @@ use Rattle.std.proofs.Common.{◌∷◌, [], sym, arith}
 use Rattle.std.proofs.lemmas.Result.{on_ok_weaker}
 use Rattle.fc_device.proofs.DiskLaws.{laws}
 use Rattle.fc_device.proofs.StopLemmas.{led}
-use Rattle.fc_copies.proofs.PassLemmas.{keeps_told}
+use Rattle.fc_newmap.proofs.PassLemmas.{keeps_told}
 use Rattle.fc_newmap.proofs.ComposeLemmas.{edit_all}
 use Rattle.fc_compact.proofs.GoneLemmas.{kept}
 use Rattle.fc_compact.proofs.KeptLemmas.{can_write, committed_geometry}

@@ -2,7 +2,7 @@ use Rattle.std.proofs.Common.{◌≡◌, inr, ℕ, ◌+◌, ◌∷◌, [], List,
 use Rattle.std.proofs.lemmas.Result.{on_ok_weaker}
 use Rattle.fc_device.proofs.DiskLaws.{form_then, laws}
 use Rattle.fc_device.proofs.StopLemmas.{keeps_then, led}
-use Rattle.fc_copies.proofs.PassLemmas.{keeps_told}
+use Rattle.fc_newmap.proofs.PassLemmas.{keeps_told}
 use Rattle.fc_newmap.proofs.ComposeLemmas.{edit_all}
 use Rattle.fc_image.specs.Layout.{Layout, hole_sectors, is_among}
 use Rattle.fc_compact.specs.Copy.{IsCopied}

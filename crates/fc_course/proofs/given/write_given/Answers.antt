@@ -3,7 +3,7 @@ use Rattle.std.proofs.lemmas.Result.{err_from_is_err_and}
 use Rattle.fc_device.proofs.DiskLaws.{laws}
 use Rattle.fc_device.proofs.StopLemmas.{keeps_weaker, led}
 use Rattle.fc_device.specs.Calls.{StopsAndExitsLeave}
-use Rattle.fc_copies.proofs.PassLemmas.{keeps_on, keeps_told}
+use Rattle.fc_newmap.proofs.PassLemmas.{keeps_on, keeps_told}
 use Rattle.fc_image.specs.Layout.{Layout, sector_bytes}
 use Rattle.fc_import.specs.declared.place.ImportFault.{ImportFault}
 use Rattle.fc_import.specs.Imports.{HasCauses}

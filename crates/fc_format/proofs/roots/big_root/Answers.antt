@@ -1,5 +1,5 @@
 use Rattle.std.proofs.Common.{◌≡◌, ◌∷◌, ◌++◌, [], List, ℕ, slice_set, refl, ap, ◌∙◌}
-use Rattle.fc_checks.specs.Checks.{big_dir_check}
+use Rattle.fc_bytes.specs.Checks.{big_dir_check}
 use Rattle.fc_format.specs.Fresh.{zeros}
 use Rattle.fc_format.proofs.roots.big_root.Goals as goal
 

@@ -1,7 +1,7 @@
 use Rattle.std.proofs.Common.{◌≡◌, ◌∷◌, ◌++◌, [], List, ℕ, slice_set, refl, ap, ◌∙◌}
 use Rattle.byteorder.specs.Endian.{little_bytes}
 use Rattle.fc_bytes.specs.Bits.{overwritten}
-use Rattle.fc_checks.specs.Checks.{small_dir_check}
+use Rattle.fc_bytes.specs.Checks.{small_dir_check}
 use Rattle.fc_dirs.specs.Entries.{padded_name}
 use Rattle.fc_dirs.specs.Small.{nick_word}
 use Rattle.fc_format.specs.Fresh.{zeros}

@@ -1,13 +1,13 @@
 use Rattle.std.proofs.Common.{refl}
 use Rattle.fc_bytes.specs.Bits.{bits, num, low_bits}
 use Rattle.fc_device.specs.Sectors.{sector_at}
-use Rattle.fc_checks.specs.Checks.{carry_sum, accumulated}
+use Rattle.fc_bytes.specs.Checks.{carry_sum, accumulated}
 use Rattle.fc_record.specs.Record.{record_fault}
 use Rattle.fc_record.specs.Kinds.{kind_of}
 use Rattle.fc_oldmap.specs.OldMap.{with_holes, old_map, wrong_hole, holes_of, is_hole_right}
 use Rattle.fc_zone.specs.Reading.{runs_from}
 use Rattle.fc_zone.specs.Reading.{runs_of}
-use Rattle.fc_copies.specs.Copies.{is_sound, chosen}
+use Rattle.fc_newmap.specs.Copies.{is_sound, chosen}
 use Rattle.fc_dirs.specs.Small.{small_fault, small_dir}
 use Rattle.fc_dirs.specs.Big.{big_fault, big_dir}
 use Rattle.fc_image.specs.Layout.{sectors_at, bytes_in}

@@ -1,7 +1,7 @@
 use Rattle.std.proofs.Common.{◌≡◌, ◌<◌, inl, inr, refl, ap, arith}
 use Rattle.std.specs.Prelude.{slice_index}
 use Rattle.fc_bytes.specs.Bits.{bits, num, low_bits}
-use Rattle.fc_checks.specs.Checks.{carry_sum, accumulated}
+use Rattle.fc_bytes.specs.Checks.{carry_sum, accumulated}
 use Rattle.fc_dirs.specs.SmallBytes.{small_bytes}
 use Rattle.fc_dirs.specs.BigBytes.{big_bytes}
 use Rattle.fc_record.specs.Record.{record_fault}

@@ -1,6 +1,6 @@
 use Rattle.std.proofs.Common.{refl}
 use Rattle.fc_bytes.specs.Bits.{bits, num, low_bits}
-use Rattle.fc_checks.specs.Checks.{carry_sum}
+use Rattle.fc_bytes.specs.Checks.{carry_sum}
 use Rattle.fc_zone.specs.Reading.{runs_from, runs_of}
 use Rattle.fc_image.specs.safe.FirstFit.{first_fit, gathered}
 use Rattle.fc_image.specs.safe.SafeShort.{fitted}

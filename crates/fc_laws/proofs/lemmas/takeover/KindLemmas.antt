@@ -10,7 +10,7 @@ use Rattle.fc_record.specs.declared.Kind.TheVariants.{Boot, OneZone, DiscD, Disc
 use Rattle.fc_oldmap.specs.OldMap.{OldMapContent, free_space, hole_fault}
 use Rattle.fc_newmap.specs.Map.{Map, map_sectors}
 use Rattle.fc_newmap.proofs.PlaceLemmas.{in_back, in_range}
-use Rattle.fc_copies.specs.Copies.{ChangesCopies}
+use Rattle.fc_newmap.specs.Copies.{ChangesCopies}
 use Rattle.fc_image.specs.declared.ImageFault.{ImageFault}
 use Rattle.fc_image.specs.Layout.{Layout, is_among}
 use Rattle.fc_image.specs.Opening.{MapAndRoot, Opened, holes_or}

@@ -1,7 +1,7 @@
 use Rattle.std.proofs.Common.{false, List, refl, ap, subst, sym, ◌∙◌}
 use Rattle.std.specs.Prelude.{Option}
 use Rattle.fc_alloc.specs.declared.owner.Owner.{Owner}
-use Rattle.fc_copies.specs.declared.Which.{Which}
+use Rattle.fc_newmap.specs.declared.copies.Which.{Which}
 use Rattle.fc_device.specs.Calls.{StopsAndExitsLeave}
 use Rattle.fc_device.proofs.DiskLaws.{laws}
 use Rattle.fc_image.specs.Stays.{IsNewLayout}

@@ -1,10 +1,10 @@
 use Rattle.std.proofs.Common.{◌≡◌, ◌∙◌, ◌==◌, ap, sym, subst, ℕ, List, [], length, vec_len, arith}
 use Rattle.fc_device.proofs.DiskLaws.{laws}
 use Rattle.fc_device.proofs.StopLemmas.{keeps_weaker, one_told as some_is}
-use Rattle.fc_copies.specs.Committing.{CanWrite}
-use Rattle.fc_copies.specs.Copies.{CommitEnds, CommitLeaves, copy_of}
-use Rattle.fc_copies.specs.declared.Which.TheVariants.{One}
-use Rattle.fc_copies.proofs.CommitLemmas.{no_zones}
+use Rattle.fc_newmap.specs.Committing.{CanWrite}
+use Rattle.fc_newmap.specs.Copies.{CommitEnds, CommitLeaves, copy_of}
+use Rattle.fc_newmap.specs.declared.copies.Which.TheVariants.{One}
+use Rattle.fc_newmap.proofs.CommitLemmas.{no_zones}
 use Rattle.fc_placing.proofs.CommitLemmas.{ends_at_once, keeps_at_once, leaves_at_once}
 use Rattle.fc_placing.proofs.committing.commit_zones.Goals as goal
 

@@ -5,8 +5,8 @@ use Rattle.fc_device.proofs.DiskLaws.{laws}
 use Rattle.fc_device.proofs.StopLemmas.{keeps_start, keeps_weaker, led}
 use Rattle.fc_record.specs.declared.Geometry.{Geometry}
 use Rattle.fc_newmap.proofs.HeldLemmas.{geometry_facts}
-use Rattle.fc_copies.specs.declared.Which.{Which}
-use Rattle.fc_copies.specs.Copies.{chosen}
+use Rattle.fc_newmap.specs.declared.copies.Which.{Which}
+use Rattle.fc_newmap.specs.Copies.{chosen}
 use Rattle.fc_reclaim.specs.Reclaiming.{CountsIn}
 use Rattle.fc_reclaim.proofs.CopiesLemmas.{equal_kept, repaired, repaired_copies}
 use Rattle.fc_reclaim.proofs.copies.match_copies.Goals as goal

@@ -1,6 +1,6 @@
 use Rattle.fc_device.proofs.DiskLaws.{laws}
 use Rattle.fc_device.proofs.StopLemmas.{keeps_then, led}
-use Rattle.fc_copies.proofs.PassLemmas.{keeps_told}
+use Rattle.fc_newmap.proofs.PassLemmas.{keeps_told}
 use Rattle.fc_reclaim.proofs.KeptLemmas.{kept_then}
 use Rattle.fc_reclaim.proofs.CopiesLemmas.{matched_keeps, matched_ready}
 use Rattle.fc_reclaim.proofs.copies.reclaim_copies.Goals as goal

@@ -1,7 +1,7 @@
 use Rattle.std.proofs.Common.{◌≡◌, refl, sym, ◌∙◌, arith}
 use Rattle.fc_device.proofs.DiskLaws.{laws}
 use Rattle.fc_device.proofs.StopLemmas.{keeps_same, keeps_start}
-use Rattle.fc_copies.proofs.PassLemmas.{keeps_on}
+use Rattle.fc_newmap.proofs.PassLemmas.{keeps_on}
 use Rattle.fc_record.specs.Kinds.{is_boot}
 use Rattle.fc_newmap.proofs.ExtentLemmas.{bytes_fit}
 use Rattle.fc_reclaim.proofs.CopiesLemmas.{found_keeps, read_keeps}

@@ -1,5 +1,5 @@
 use Rattle.std.proofs.Common.{◌≡◌, ◌∷◌, ◌++◌, [], ◌∙◌, ap, sym, subst, ℕ, List}
-use Rattle.fc_copies.specs.Committing.{CanWrite}
+use Rattle.fc_newmap.specs.Committing.{CanWrite}
 use Rattle.fc_reclaim.proofs.map.commit_zone.Goals as goal
 
 pub commit-requires-clause-ready : goal.commit-requires-clause-ready

@@ -1,7 +1,7 @@
 use Rattle.std.proofs.Common.{◌∷◌, [], sym, subst, arith}
 use Rattle.fc_device.proofs.DiskLaws.{laws}
 use Rattle.fc_device.proofs.StopLemmas.{keeps_start, led}
-use Rattle.fc_copies.proofs.PassLemmas.{keeps_told}
+use Rattle.fc_newmap.proofs.PassLemmas.{keeps_told}
 use Rattle.fc_newmap.proofs.ComposeLemmas.{edit_all}
 use Rattle.fc_newmap.specs.Map.{Map}
 use Rattle.fc_reclaim.specs.Kept.{IsReadyBy}

@@ -1,4 +1,4 @@
-use Rattle.fc_copies.specs.Copies.{chosen}
+use Rattle.fc_newmap.specs.Copies.{chosen}
 use Rattle.fc_volume.proofs.OpenReadsLemmas.{chosen_most}
 use Rattle.fc_volume.proofs.maps.read_copy.Goals as goal
 

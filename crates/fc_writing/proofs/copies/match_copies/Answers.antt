@@ -4,7 +4,7 @@ use Rattle.fc_device.proofs.DiskLaws.{laws}
 use Rattle.fc_device.proofs.StopLemmas.{keeps_start, keeps_weaker, led}
 use Rattle.fc_record.specs.declared.Geometry.{Geometry}
 use Rattle.fc_newmap.proofs.HeldLemmas.{geometry_facts}
-use Rattle.fc_copies.specs.Copies.{chosen}
+use Rattle.fc_newmap.specs.Copies.{chosen}
 use Rattle.fc_writing.specs.declared.copies.Copies.{Copies}
 use Rattle.fc_writing.specs.Copies.{HasCopies}
 use Rattle.fc_writing.proofs.CopyLemmas.{equal_kept, repaired, repaired_copies}

@@ -4,7 +4,7 @@ use Rattle.fc_device.proofs.DiskLaws.{laws}
 use Rattle.fc_device.proofs.StopLemmas.{led, one_told}
 use Rattle.fc_record.specs.declared.Geometry.{Geometry}
 use Rattle.fc_newmap.specs.Map.{map_sectors}
-use Rattle.fc_copies.proofs.PassLemmas.{keeps_on, keeps_told}
+use Rattle.fc_newmap.proofs.PassLemmas.{keeps_on, keeps_told}
 use Rattle.fc_writing.specs.Content.{HasContent, IsPart}
 use Rattle.fc_writing.specs.Ready.{CanPut, early_content}
 use Rattle.fc_writing.proofs.NewLemmas.{laid, laid_stage, match_stage}

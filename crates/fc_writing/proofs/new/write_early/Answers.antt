@@ -2,8 +2,8 @@ use Rattle.std.proofs.Common.{inl, ℕ, List, sym, subst, ◌∙◌}
 use Rattle.std.proofs.lemmas.Result.{on_ok_weaker}
 use Rattle.fc_device.proofs.DiskLaws.{laws}
 use Rattle.fc_device.proofs.StopLemmas.{keeps_weaker, led, one_told}
-use Rattle.fc_copies.proofs.PassLemmas.{keeps_on}
-use Rattle.fc_copies.specs.Copies.{ChangesCopies}
+use Rattle.fc_newmap.proofs.PassLemmas.{keeps_on}
+use Rattle.fc_newmap.specs.Copies.{ChangesCopies}
 use Rattle.fc_writing.proofs.NewLemmas.{taken, taking}
 use Rattle.fc_writing.proofs.StageLemmas.{keeps_both}
 use Rattle.fc_writing.proofs.new.write_early.Goals as goal

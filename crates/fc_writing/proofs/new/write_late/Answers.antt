@@ -6,8 +6,8 @@ use Rattle.fc_device.proofs.StopLemmas.{led, one_told}
 use Rattle.fc_device.specs.Calls.{StopsAndExitsLeave}
 use Rattle.fc_record.specs.declared.Geometry.{Geometry}
 use Rattle.fc_newmap.specs.Map.{map_sectors}
-use Rattle.fc_copies.proofs.PassLemmas.{keeps_on, keeps_told}
-use Rattle.fc_copies.specs.Copies.{ChangesCopies}
+use Rattle.fc_newmap.proofs.PassLemmas.{keeps_on, keeps_told}
+use Rattle.fc_newmap.specs.Copies.{ChangesCopies}
 use Rattle.fc_objects.specs.Written.{AreApart}
 use Rattle.fc_writing.specs.declared.ready.Piece.{Piece}
 use Rattle.fc_writing.specs.Content.{IsPart}

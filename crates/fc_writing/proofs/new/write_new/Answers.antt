@@ -4,8 +4,8 @@ use Rattle.fc_device.proofs.DiskLaws.{laws}
 use Rattle.fc_device.proofs.StopLemmas.{keeps_weaker, led}
 use Rattle.fc_record.specs.declared.Geometry.{Geometry}
 use Rattle.fc_newmap.specs.Map.{map_sectors}
-use Rattle.fc_copies.proofs.PassLemmas.{keeps_on}
-use Rattle.fc_copies.specs.Copies.{HoldsCopies}
+use Rattle.fc_newmap.proofs.PassLemmas.{keeps_on}
+use Rattle.fc_newmap.specs.Copies.{HoldsCopies}
 use Rattle.fc_writing.specs.Ready.{CanPut}
 use Rattle.fc_writing.proofs.NewLemmas.{all_done, early_leaves, late_leaves, reached_early, reached_late, step_geometry}
 use Rattle.fc_writing.proofs.new.write_new.Goals as goal

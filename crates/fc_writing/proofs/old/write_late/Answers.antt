@@ -4,7 +4,7 @@ use Rattle.std.proofs.lemmas.Result.{on_ok_weaker}
 use Rattle.fc_device.proofs.DiskLaws.{laws}
 use Rattle.fc_device.proofs.StopLemmas.{keeps_weaker, led, one_told}
 use Rattle.fc_device.specs.Calls.{StopsAndExitsLeave}
-use Rattle.fc_copies.proofs.PassLemmas.{keeps_on}
+use Rattle.fc_newmap.proofs.PassLemmas.{keeps_on}
 use Rattle.fc_image.specs.Layout.{Layout, map_place}
 use Rattle.fc_objects.specs.Written.{AreApart}
 use Rattle.fc_writing.specs.declared.ready.Piece.{Piece}

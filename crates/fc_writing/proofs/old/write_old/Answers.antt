@@ -2,7 +2,7 @@ use Rattle.std.proofs.Common.{ℕ, sym, subst}
 use Rattle.std.proofs.lemmas.Result.{on_ok_weaker}
 use Rattle.fc_device.proofs.DiskLaws.{laws}
 use Rattle.fc_device.proofs.StopLemmas.{keeps_weaker}
-use Rattle.fc_copies.proofs.PassLemmas.{keeps_on}
+use Rattle.fc_newmap.proofs.PassLemmas.{keeps_on}
 use Rattle.fc_writing.specs.Old.{CanWrite}
 use Rattle.fc_writing.proofs.OldLemmas.{old_done, old_early, old_late}
 use Rattle.fc_writing.proofs.old.write_old.Goals as goal

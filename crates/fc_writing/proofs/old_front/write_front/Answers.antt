@@ -2,7 +2,7 @@ use Rattle.std.proofs.Common.{All, ◌≡◌, ◌<◌, ◌≤◌, ◌*◌, ℕ, 
 use Rattle.std.proofs.lemmas.Result.{on_ok_weaker}
 use Rattle.fc_device.proofs.DiskLaws.{laws}
 use Rattle.fc_device.proofs.StopLemmas.{keeps_same, keeps_start}
-use Rattle.fc_copies.proofs.PassLemmas.{keeps_on}
+use Rattle.fc_newmap.proofs.PassLemmas.{keeps_on}
 use Rattle.fc_objects.specs.Written.{AreApart}
 use Rattle.fc_writing.specs.Old.{FrontLeaves, with_map}
 use Rattle.fc_writing.proofs.FrontLemmas.{front_has, front_now, front_part, front_same, row_apart, row_is, row_low}

@@ -3,7 +3,7 @@ use Rattle.std.specs.List.{flat_map}
 use Rattle.std.proofs.lemmas.List.{take_all}
 use Rattle.fc_device.proofs.DiskLaws.{form_then, laws}
 use Rattle.fc_device.proofs.StopLemmas.{led, one_told}
-use Rattle.fc_copies.proofs.PassLemmas.{keeps_on}
+use Rattle.fc_newmap.proofs.PassLemmas.{keeps_on}
 use Rattle.fc_writing.specs.declared.ready.Transfer.{Transfer}
 use Rattle.fc_writing.specs.Content.{Content, HasContent, IsPart}
 use Rattle.fc_writing.specs.Ready.{carried_by, from_of, to_of}

@@ -5,9 +5,9 @@ use Rattle.fc_device.proofs.DiskLaws.{laws}
 use Rattle.fc_device.proofs.StopLemmas.{keeps_start, keeps_weaker, led}
 use Rattle.fc_device.specs.Calls.{StopsAndExitsLeave}
 use Rattle.fc_record.specs.declared.Geometry.{Geometry}
-use Rattle.fc_copies.proofs.PassLemmas.{keeps_told}
-use Rattle.fc_copies.specs.Committing.{TakesCopies}
-use Rattle.fc_copies.specs.Copies.{ChangesCopies, HoldsCopies}
+use Rattle.fc_newmap.proofs.PassLemmas.{keeps_told}
+use Rattle.fc_newmap.specs.Committing.{TakesCopies}
+use Rattle.fc_newmap.specs.Copies.{ChangesCopies, HoldsCopies}
 use Rattle.fc_placing.proofs.CommitLemmas.{keeps_at_once}
 use Rattle.fc_writing.specs.declared.ready.MapStep.{MapStep}
 use Rattle.fc_writing.specs.declared.ready.MapStep.TheVariants as steps

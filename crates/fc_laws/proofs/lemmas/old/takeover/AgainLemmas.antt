@@ -5,7 +5,7 @@ use Rattle.std.proofs.lemmas.List.{append_assoc, length-drop, length-take-le, le
 use Rattle.std.proofs.Math.Seq.{drop-append_seam, take-append_seam, take-length}
 use Rattle.byteorder.specs.Endian.{little_bytes}
 use Rattle.fc_bytes.specs.Words.{bytes_at}
-use Rattle.fc_checks.specs.Checks.{old_check}
+use Rattle.fc_bytes.specs.Checks.{old_check}
 use Rattle.fc_oldmap.specs.declared.Hole.{Hole}
 use Rattle.fc_oldmap.specs.OldMap.{OldMapContent, checked_half, triples, with_holes}
 use Rattle.fc_changes.specs.old.Owed.{IsMapAfter, holding}

@@ -1,2 +1,0 @@
-mod TurnLemmas
-mod WordLemmas
