@@ -16,8 +16,8 @@ use Rattle.fc_placing.specs.declared.placing.Placing.{Placing}
 use Rattle.fc_placing.specs.declared.placing.Placing.TheVariants.{Nowhere, Shared, New}
 use Rattle.fc_placing.specs.Places.{IsOwnPlan, id_in, slack_left}
 use Rattle.fc_placing.proofs.AddressLemmas.{plan_id, share_id}
-use Rattle.fc_slack.specs.declared.share.Share.{Share}
-use Rattle.fc_slack.specs.Slack.{holdings, place_in}
+use Rattle.fc_placing.specs.declared.share.Share.{Share}
+use Rattle.fc_placing.specs.Slack.{holdings, place_in}
 use Rattle.fc_change.specs.declared.job.Wants.{Wants}
 use Rattle.fc_change.specs.Places.{HasSectorsAt, IsPlacingFor, address_for, placing_of, plan_in}
 use Rattle.fc_change.specs.Planning.{IsObjectPlan}

@@ -31,7 +31,7 @@ use Rattle.fc_plan.proofs.Left.{found, left_of_none, rest_of}
 use Rattle.fc_plan.proofs.MapLemmas.{IsPlaced, holes_apart, holes_placed}
 use Rattle.fc_plan.proofs.Order.{same_place}
 use Rattle.fc_plan.proofs.Shorts.{are_new_ids}
-use Rattle.fc_slack.proofs.Shares.{ids_few}
+use Rattle.fc_placing.proofs.Shares.{ids_few}
 use Rattle.fc_space.specs.Index.{is_met}
 use Rattle.fc_placing.specs.Extents.{parts_met}
 use Rattle.fc_placing.specs.Places.{IsOwnPlan}

@@ -6,8 +6,8 @@ use Rattle.fc_newmap.specs.Map.{Map}
 use Rattle.fc_placing.specs.declared.placing.Placing.{Placing}
 use Rattle.fc_placing.specs.Places.{shared_id}
 use Rattle.fc_plan.specs.declared.plan.Plan.{Plan}
-use Rattle.fc_slack.specs.declared.share.Share.{Share}
-use Rattle.fc_slack.specs.Slack.{place_in}
+use Rattle.fc_placing.specs.declared.share.Share.{Share}
+use Rattle.fc_placing.specs.Slack.{place_in}
 use Rattle.fc_tree.specs.Parts.{Parts}
 use Rattle.fc_change.specs.declared.job.Wants.{Wants}
 use Rattle.fc_change.specs.declared.placing.growth.Growing.{Growing}

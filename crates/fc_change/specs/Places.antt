@@ -14,8 +14,8 @@ use Rattle.fc_image.specs.effects.Short.{old_need}
 use Rattle.fc_objects.specs.Extents.{sectors_in}
 use Rattle.fc_placing.specs.Leaving.{LeavesIds, LeavesUsed}
 use Rattle.fc_placing.specs.Places.{IsOwnPlan, address_in, shared_id, slack_left}
-use Rattle.fc_slack.specs.declared.share.Share.{Share}
-use Rattle.fc_slack.specs.Slack.{place_in}
+use Rattle.fc_placing.specs.declared.share.Share.{Share}
+use Rattle.fc_placing.specs.Slack.{place_in}
 use Rattle.fc_placing.specs.declared.placing.Placing.{Placing}
 use Rattle.fc_placing.specs.declared.placing.Placing.TheVariants as placings
 use Rattle.fc_plan.specs.declared.plan.Plan.{Plan}

@@ -19,7 +19,7 @@ use Rattle.fc_image.specs.effects.Sharing.{new_ids, units}
 use Rattle.fc_image.specs.effects.Short.{old_need, one_if, short}
 use Rattle.fc_placing.specs.Leaving.{has_other}
 use Rattle.fc_placing.specs.Places.{slack_left}
-use Rattle.fc_slack.specs.Slack.{leaves_free}
+use Rattle.fc_placing.specs.Slack.{leaves_free}
 use Rattle.fc_tree.specs.Counts.{address_in}
 use Rattle.fc_tree.specs.Parts.{ArePartsOf, Parts}
 use Rattle.fc_change.specs.declared.job.Growth.{Growth}

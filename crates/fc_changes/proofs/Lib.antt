@@ -3,6 +3,7 @@ pub mod BeforeLemmas
 pub mod DirectoriesLemmas
 pub mod OutsideLemmas
 pub mod SpaceLemmas
+pub mod StepsLemmas
 pub mod ReadsLemmas
 pub mod AfterLemmas
 pub mod RewordedLemmas

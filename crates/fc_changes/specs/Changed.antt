@@ -48,7 +48,7 @@ pub record IsInNewSpace (m : Map) (n low id : ℕ) (parts : List ZoneRun) (o : O
 -- n bytes of a file of this directory, in an identifier that another file has
 pub record IsInSlack (m : Map) (objects : List Object) (dir : Path) (n : ℕ) (parts : List ZoneRun) (o : Object) : Type 0 where
   pub share : ℕ × ℕ
-  -- `fc_slack::slack`
+  -- `fc_placing::slack`
   pub found : slack m objects dir n ≡ Some share
   pub address : o.entry.address ≡ 256 * share.0 + share.1
   pub nothing : parts ≡ []

@@ -4,3 +4,4 @@ pub mod Laws
 pub mod Rows
 pub mod growth
 pub mod old
+pub mod Space

@@ -3,9 +3,12 @@
 #![tactic(auto)]
 
 pub mod growth;
+mod space;
 
 ghost use Rattle.fc_changes.specs.Rows.{OwedRows};
 ghost use Rattle.fc_changes.specs.Laws.{CommittedLaw};
+
+pub use space::steps;
 
 /// What edits of a map and its commit leave is what a change of it owes.
 pub fn committed()

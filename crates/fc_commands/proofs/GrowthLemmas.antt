@@ -29,15 +29,15 @@ use Rattle.fc_change.specs.declared.job.Job.{Job}
 use Rattle.fc_change.specs.declared.job.Job.TheVariants as jobs
 use Rattle.fc_change.specs.declared.job.Wants.{Wants}
 use Rattle.fc_change.specs.Needs.{AreWants, HasRoomFor, HasRoomToMove, SaysAt, room_of}
-use Rattle.fc_course.specs.Jobs.{IsJobFor}
-use Rattle.fc_course.proofs.RoomyLemmas.{NoneGrows}
-use Rattle.fc_course.proofs.ArrivalLemmas as arrival
-use Rattle.fc_course.proofs.ArrivalLemmas.{Arrival}
-use Rattle.fc_course.proofs.EmptySpaceLemmas.{no_growth}
-use Rattle.fc_course.proofs.HolderLemmas as holder
-use Rattle.fc_course.proofs.MoveStageLemmas.{renamer}
-use Rattle.fc_course.proofs.RemovalStageLemmas.{view_of}
-use Rattle.fc_course.proofs.TargetLemmas as target_of
+use Rattle.fc_commands.specs.Jobs.{IsJobFor}
+use Rattle.fc_commands.proofs.RoomyLemmas.{NoneGrows}
+use Rattle.fc_commands.proofs.ArrivalLemmas as arrival
+use Rattle.fc_commands.proofs.ArrivalLemmas.{Arrival}
+use Rattle.fc_commands.proofs.EmptySpaceLemmas.{no_growth}
+use Rattle.fc_commands.proofs.HolderLemmas as holder
+use Rattle.fc_commands.proofs.MoveStageLemmas.{renamer}
+use Rattle.fc_commands.proofs.RemovalStageLemmas.{view_of}
+use Rattle.fc_commands.proofs.TargetLemmas as target_of
 
 -- No directory has to grow for the command.
 abbrev pub GrowsNone : Command → Parts → Type 0

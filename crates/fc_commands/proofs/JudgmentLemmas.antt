@@ -23,13 +23,13 @@ use Rattle.fc_holdings.specs.declared.error.CommandError.{CommandError}
 use Rattle.fc_holdings.specs.declared.error.CommandError.TheVariants.{Refused, NoMemory, DiskFault}
 use Rattle.fc_holdings.specs.declared.holdings.Holdings.{Holdings}
 use Rattle.fc_holdings.specs.Answers.{AnswersBy}
-use Rattle.fc_course.specs.Answers.{AnswersShort}
+use Rattle.fc_commands.specs.Answers.{AnswersShort}
 use Rattle.fc_holdings.specs.Holdings.{Stands, parts_of}
-use Rattle.fc_course.specs.Jobs.{HasBytes, IsJobFor}
-use Rattle.fc_course.specs.Promises.{ChangeKeeps, IsAsBefore, JobLeaves}
-use Rattle.fc_course.proofs.AnswerLemmas.{no_memory, refused_by}
-use Rattle.fc_course.proofs.KeepLemmas.{kept_same}
-use Rattle.fc_course.proofs.MomentLemmas.{nothing_left}
+use Rattle.fc_commands.specs.Jobs.{HasBytes, IsJobFor}
+use Rattle.fc_commands.specs.Promises.{ChangeKeeps, IsAsBefore, JobLeaves}
+use Rattle.fc_commands.proofs.AnswerLemmas.{no_memory, refused_by}
+use Rattle.fc_commands.proofs.KeepLemmas.{kept_same}
+use Rattle.fc_commands.proofs.MomentLemmas.{nothing_left}
 use Rattle.fc_commands.specs.declared.judged.Judged.{Judged}
 use Rattle.fc_commands.specs.Answers.{AnswersOver, refusal_in}
 use Rattle.fc_commands.specs.Judgments.{CommandLeaves, IsJudgment, IsRefusalOf, RefusesBy}

@@ -19,3 +19,7 @@ refusal_in v image read_only c = first_of (reasons (tree_of image v.layout v.lis
 -- It answers this refusal, over each sound view whose parts these are, whatever bytes the files have.
 abbrev pub AnswersOver : {T : Type 0} → Bool → Command → Parts → Result T CommandError → Type 0
 AnswersOver read_only c h result = (v : Opened) (image : List ℕ) → AreSound v.layout v.listings → ArePartsOf h v → AnswersBy (refusal_in v image read_only c) result
+
+-- It refuses for want of space as the command does, over each sound view whose parts these are.
+abbrev pub AnswersShort : {T : Type 0} → Command → Parts → Result T CommandError → Type 0
+AnswersShort c h result = (v : Opened) → AreSound v.layout v.listings → ArePartsOf h v → AnswersBy (short v c) result

@@ -11,9 +11,9 @@ use Rattle.fc_tree.specs.Parts.{ArePartsOf, Parts}
 use Rattle.fc_change.specs.declared.job.Job.{Job}
 use Rattle.fc_holdings.specs.declared.error.CommandError.{CommandError}
 use Rattle.fc_holdings.specs.declared.error.CommandError.TheVariants.{Refused, NoMemory, DiskFault}
-use Rattle.fc_course.specs.Given.{IsFilling}
-use Rattle.fc_course.specs.Jobs.{IsJobFor}
-use Rattle.fc_course.specs.Promises.{IsAsBefore, IsUnderWay}
+use Rattle.fc_commands.specs.Given.{IsFilling}
+use Rattle.fc_commands.specs.Jobs.{IsJobFor}
+use Rattle.fc_commands.specs.Promises.{IsAsBefore, IsUnderWay}
 use Rattle.fc_commands.specs.declared.judged.Judged.{Judged}
 
 -- ---- judges

@@ -1,3 +1,9 @@
+pub mod Jobs
+pub mod Laws
+pub mod Promises
+pub mod Run
+pub mod Stages
+pub mod Written
+pub mod Given
 pub mod Answers
 pub mod Judgments
-pub mod Promises

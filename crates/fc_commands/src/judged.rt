@@ -3,13 +3,13 @@ ghost use Rattle.std.specs.Prelude.{Bool, IfOk, IsFalse, IsTrue, OnOk};
 ghost use Rattle.fc_device.specs.Calls.{StopsAndExitsLeave};
 ghost use Rattle.fc_model.specs.Command.{Command};
 ghost use Rattle.fc_holdings.specs.Holdings.{Stands, parts_of};
-ghost use Rattle.fc_course.specs.Jobs.{HasLaws};
-ghost use Rattle.fc_course.specs.Promises.{ChangeKeeps, HasChanged, WritesPlacesOf};
+ghost use Rattle.fc_commands.specs.Jobs.{HasLaws};
+ghost use Rattle.fc_commands.specs.Promises.{ChangeKeeps, HasChanged, WritesPlacesOf};
 ghost use Rattle.fc_commands.specs.Answers.{AnswersOver};
 ghost use Rattle.fc_commands.specs.Judgments.{CommandLeaves, IsJudgment};
 
+use crate::{CommandError, Holdings, change, is_map};
 use fc_change::Job;
-use fc_course::{CommandError, Holdings, change, is_map};
 use fc_device::Disk;
 use fc_names::Name;
 use std::alloc::Global;

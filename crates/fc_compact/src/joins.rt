@@ -20,8 +20,8 @@ use crate::lookup::{with_zone, zones_of};
 use crate::release::{release_all, take_front};
 use arrayvec::ArrayVec;
 use fc_alloc::Owners;
-use fc_newmap::{NewMap, commit, extent_of};
 use fc_device::{Disk, DiskFault};
+use fc_newmap::{NewMap, commit, extent_of};
 use fc_zone::{Run, RunKind};
 
 // Copies the sectors of all runs of an identifier, which stand in these zones, in their order into a hole, to those from sector

@@ -20,8 +20,8 @@ use crate::settlement::is_movable;
 use crate::shift::{Slide, shift};
 use arrayvec::ArrayVec;
 use fc_alloc::Owners;
-use fc_newmap::{NewMap, commit, extent_of};
 use fc_device::{Disk, DiskFault};
+use fc_newmap::{NewMap, commit, extent_of};
 use fc_zone::{Run, RunKind};
 
 /// A run of a zone, and how many bits at its front were a hole when the moves began and are one still.

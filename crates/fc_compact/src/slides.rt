@@ -21,8 +21,8 @@ use crate::laws;
 use crate::shift::{Slide, shift};
 use arrayvec::ArrayVec;
 use fc_alloc::Owners;
-use fc_newmap::{NewMap, commit, extent_of};
 use fc_device::{Disk, DiskFault, Extent};
+use fc_newmap::{NewMap, commit, extent_of};
 use fc_zone::{Run, RunKind};
 
 // Commits one zone of a map.

@@ -13,11 +13,13 @@ ghost use Rattle.fc_newmap.specs.declared.copies.CopyError.TheVariants as errors
 mod committing;
 mod reading;
 mod repairing;
+mod zones;
 
 pub use committing::{commit, commit_wide};
 use fc_device::DiskFault;
 pub use reading::fetch;
 pub use repairing::repair;
+pub use zones::commit_zones;
 
 /// One of the two copies of the map: the one at the map's address, or the one after it.
 #[derive(Clone, Copy, Debug, PartialEq, Eq)]

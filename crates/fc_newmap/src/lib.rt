@@ -18,7 +18,9 @@ mod walk;
 ghost use Rattle.fc_newmap.specs.Rows.{MapRows};
 ghost use Rattle.fc_newmap.specs.RunsLaw.{GeometryLaw, IdsLaw, RunsLaw, ShapeLaw, ZoneSectorsLaw};
 
-pub use copies::{CopyError, Which, commit, commit_wide, copies_fit, fetch, gate, mix, repair};
+pub use copies::{
+    CopyError, Which, commit, commit_wide, commit_zones, copies_fit, fetch, gate, mix, repair,
+};
 pub use extents::extent_of;
 use fc_zone::ZoneFault;
 pub use map::NewMap;

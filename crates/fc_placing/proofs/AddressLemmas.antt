@@ -14,12 +14,12 @@ use Rattle.fc_image.proofs.EntriesLemmas.{from_map}
 use Rattle.fc_image.specs.effects.Placed.{has_spare_share}
 use Rattle.fc_image.specs.effects.Sharing.{holdings_in, is_shareable, is_spare, shares, slack_among}
 use Rattle.fc_plan.specs.declared.plan.Plan.{Plan}
-use Rattle.fc_slack.specs.Slack.{holdings}
-use Rattle.fc_slack.proofs.Shares.{ids_few}
+use Rattle.fc_placing.specs.Slack.{holdings}
+use Rattle.fc_placing.proofs.Shares.{ids_few}
 use Rattle.fc_changes.proofs.BasicLemmas.{in_flat}
 use Rattle.fc_changes.proofs.PlacedLemmas.{found_in}
 use Rattle.fc_placing.specs.Places.{IsOwnPlan, slack_left}
-use Rattle.fc_placing.proofs.SpaceLemmas.{low_in_range}
+use Rattle.fc_changes.proofs.StepsLemmas.{low_in_range}
 pub use Rattle.fc_space.proofs.GeometryLemmas.{share_low}
 
 -- ---- the geometry's numbers

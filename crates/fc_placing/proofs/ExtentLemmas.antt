@@ -40,10 +40,10 @@ use Rattle.fc_plan.proofs.Units.{units_whole}
 use Rattle.fc_changes.proofs.BasicLemmas.{and_false, cases_cons, first_in, next_in}
 use Rattle.fc_placing.specs.Extents.{IsOwnPlace, parts_met, sectors_if}
 use Rattle.fc_placing.specs.Places.{IsOwnPlan}
-use Rattle.fc_placing.specs.Space.{HasTaken}
+use Rattle.fc_changes.specs.Space.{HasTaken}
 use Rattle.fc_placing.proofs.AddressLemmas.{bit_positive}
-use Rattle.fc_placing.proofs.SpaceLemmas.{low_in_range}
-use Rattle.fc_slack.proofs.LowLemmas.{not_le as over}
+use Rattle.fc_changes.proofs.StepsLemmas.{low_in_range}
+use Rattle.fc_placing.proofs.LowLemmas.{not_le as over}
 use Rattle.fc_plan.proofs.Applies.{and_true}
 
 -- ---- lists

@@ -20,6 +20,7 @@ use Rattle.fc_plan.specs.Giving.{is_one_of}
 use Rattle.fc_changes.specs.Owed.{GivesBack}
 use Rattle.fc_changes.proofs.BasicLemmas.{clash, cases_cons, first_in, next_in}
 use Rattle.fc_changes.proofs.SpaceLemmas.{owned_same}
+use Rattle.fc_changes.proofs.StepsLemmas.{any_append}
 use Rattle.fc_tree.specs.declared.node.Node.{Node}
 use Rattle.fc_tree.specs.Nodes.{HoldObjects, number_of}
 use Rattle.fc_tree.specs.Parts.{AreOwners, owner_of}
@@ -45,14 +46,6 @@ any_owner q f (p ∷ objects) = by (has_sectors p) (any_owner q f objects)
         → list_any q (map f (cond b (p ∷ filter has_sectors objects) (filter has_sectors objects))) ≡ ((b && q (f p)) || list_any (λ o. has_sectors o && q (f o)) objects)
     by true h = ap (λ (b : Bool). q (f p) || b) h
     by false h = h
-
-pub any_append : {X : Type 0} (p : X → Bool) (xs ys : List X) → list_any p (xs ++ ys) ≡ (list_any p xs || list_any p ys)
-any_append p [] ys = refl
-any_append p (x ∷ xs) ys = ap (λ (b : Bool). p x || b) (any_append p xs ys) ∙ or_assoc (p x) (list_any p xs) (list_any p ys)
-  where
-    or_assoc : (a b c : Bool) → (a || (b || c)) ≡ ((a || b) || c)
-    or_assoc true b c = refl
-    or_assoc false b c = refl
 
 pub from_kept : {X : Type 0} (t : X → Bool) (xs : List X) (x : X) → Contains (filter t xs) x → Contains xs x × (t x ≡ true)
 from_kept t [] x at = absurd (omega (arith, at.1))

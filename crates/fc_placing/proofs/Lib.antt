@@ -1,5 +1,4 @@
 pub mod AddressLemmas
-pub mod CommitLemmas
 pub mod CopyingLemmas
 pub mod ExtentLemmas
 pub mod LeavingLemmas
@@ -7,6 +6,12 @@ mod OtherLemmas
 pub mod PlacedLemmas
 pub mod PlacesLemmas
 pub mod SlackLemmas
-pub mod SpaceLemmas
 pub mod UsedLemmas
 pub mod HoleLemmas
+pub mod Groups
+pub mod Intervals
+pub mod LowLemmas
+pub mod OpenLemmas
+pub mod Searches
+pub mod Shares
+pub mod TallyLemmas

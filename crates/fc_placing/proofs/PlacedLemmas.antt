@@ -20,7 +20,7 @@ use Rattle.fc_image.specs.effects.Short.{new_dir_size}
 use Rattle.fc_names.specs.declared.name.NameForm.TheVariants.{Ten, Long}
 use Rattle.fc_plan.specs.declared.plan.Plan.{Plan}
 use Rattle.fc_plan.specs.Parts.{fronts}
-use Rattle.fc_slack.specs.Slack.{place_in}
+use Rattle.fc_placing.specs.Slack.{place_in}
 use Rattle.fc_tree.specs.declared.node.Node.{Node}
 use Rattle.fc_tree.specs.Nodes.{HoldObjects, number_of}
 use Rattle.fc_tree.specs.Parts.{AreOwners}

@@ -22,8 +22,8 @@ use Rattle.fc_image.specs.Edits.{IsAt}
 use Rattle.fc_image.proofs.EntriesLemmas.{from_filter}
 use Rattle.fc_image.proofs.HolesLemmas.{Each-contains, Each-objects, Lies, walk_lies}
 use Rattle.fc_image.specs.effects.Sharing.{Holding, holding_of, holdings_in, is_shareable, is_spare, may_share_with, shares, slack, slack_among}
-use Rattle.fc_slack.specs.Slack.{allows, holding_in, holdings, is_good, leaves_free, shares_from}
-use Rattle.fc_slack.proofs.Shares.{slack_is, slack_none, some_sectors}
+use Rattle.fc_placing.specs.Slack.{allows, holding_in, holdings, is_good, leaves_free, shares_from}
+use Rattle.fc_placing.proofs.Shares.{slack_is, slack_none, some_sectors}
 use Rattle.fc_tree.specs.declared.node.Node.{Node}
 use Rattle.fc_tree.specs.Nodes.{HoldObjects, number_of}
 use Rattle.fc_tree.specs.Parts.{AreOwners, owner_of}

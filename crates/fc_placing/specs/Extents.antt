@@ -6,7 +6,7 @@ use Rattle.fc_image.specs.Layout.{Layout, sectors_at}
 use Rattle.fc_space.specs.Index.{is_met}
 use Rattle.fc_plan.specs.declared.plan.Plan.{Plan}
 use Rattle.fc_plan.specs.Parts.{fronts}
-use Rattle.fc_placing.specs.Space.{HasTaken}
+use Rattle.fc_changes.specs.Space.{HasTaken}
 
 -- Once the plan's parts are runs of its identifier, these are the sectors of the object that begins there.
 abbrev pub IsOwnPlace : Map → ℕ → Plan → List ℕ → Type 0

@@ -2,4 +2,5 @@ pub mod Copying
 pub mod Extents
 pub mod Leaving
 pub mod Places
-pub mod Space
+pub mod Slack
+pub mod Lows

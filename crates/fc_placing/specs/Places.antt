@@ -22,7 +22,7 @@ use Rattle.fc_image.specs.effects.Short.{gain_in, growth_in, is_full_with, new_d
 use Rattle.fc_plan.specs.declared.plan.Plan.{Plan}
 use Rattle.fc_plan.specs.Applied.{CanTakePlan}
 use Rattle.fc_plan.specs.Parts.{fronts}
-use Rattle.fc_slack.specs.Slack.{holdings, place_in}
+use Rattle.fc_placing.specs.Slack.{holdings, place_in}
 use Rattle.fc_changes.specs.Changed.{IsFileAt, IsInNewSpace}
 use Rattle.fc_placing.specs.Leaving.{OwnOnly}
 use Rattle.fc_placing.specs.declared.placing.Placing.{Placing}

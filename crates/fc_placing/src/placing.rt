@@ -2,8 +2,8 @@
 
 ghost use Rattle.fc_placing.specs.Places.{PlaceLaw, SlackLaw};
 
+use crate::Share;
 use fc_plan::Plan;
-use fc_slack::Share;
 
 /// Where a new file is to lie.
 #[derive(Drop)]

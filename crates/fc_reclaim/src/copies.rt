@@ -11,8 +11,8 @@ ghost use Rattle.fc_reclaim.specs.Reclaiming.{CanReclaim, CountsIn, HasReclaimed
 use crate::boot::find_boot;
 use crate::map::reclaim_zones;
 use fc_alloc::Owners;
-use fc_newmap::{NewMap, Which, repair};
 use fc_device::{Disk, DiskFault};
+use fc_newmap::{NewMap, Which, repair};
 
 // Makes the copies of a map equal, if one counts from which the other may differ.
 fn match_copies<D: Disk>(disk: &mut D, map: &NewMap, which: Option<Which>) -> Result<(), DiskFault>

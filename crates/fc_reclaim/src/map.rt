@@ -16,8 +16,8 @@ ghost use Rattle.fc_reclaim.specs.Zone.{going};
 use crate::zone::reclaim_in;
 use arrayvec::ArrayVec;
 use fc_alloc::Owners;
-use fc_newmap::{NewMap, commit};
 use fc_device::{Disk, DiskFault};
+use fc_newmap::{NewMap, commit};
 
 // Commits one zone of a map.
 fn commit_zone<D: Disk>(disk: &mut D, map: &mut NewMap, z: u16) -> Result<(), DiskFault>

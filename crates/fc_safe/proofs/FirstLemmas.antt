@@ -24,8 +24,8 @@ use Rattle.fc_plan.specs.declared.plan.Plan.{Plan}
 use Rattle.fc_plan.specs.Giving.{is_one_of}
 use Rattle.fc_plan.specs.Parts.{front_at, fronts}
 use Rattle.fc_plan.proofs.Plans.{min_some}
-use Rattle.fc_slack.specs.declared.share.Share.{Share}
-use Rattle.fc_slack.specs.Slack.{place_in}
+use Rattle.fc_placing.specs.declared.share.Share.{Share}
+use Rattle.fc_placing.specs.Slack.{place_in}
 use Rattle.fc_tree.specs.Counts.{address_in}
 use Rattle.fc_tree.specs.Parts.{Parts}
 use Rattle.fc_writing.specs.Steps.{CanTakeAll}

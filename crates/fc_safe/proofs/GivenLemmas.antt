@@ -23,7 +23,7 @@ use Rattle.fc_image.specs.effects.Steady.{has_id_that}
 use Rattle.fc_image.specs.safe.SafeShort.{holds_changed, is_changed_directory, is_given_up, is_suitable, loses_owner, remains_in, suits}
 use Rattle.fc_image.proofs.EntriesLemmas.{from_map, in_mapped}
 use Rattle.fc_image.proofs.HolesLemmas.{Each-contains, Each-objects, Lies, walk_lies}
-use Rattle.fc_placing.proofs.LeavingLemmas.{any_append}
+use Rattle.fc_changes.proofs.StepsLemmas.{any_append}
 use Rattle.fc_plan.specs.Giving.{has_run_of, is_one_of}
 use Rattle.fc_plan.specs.Parts.{has_part}
 use Rattle.fc_tree.specs.Parts.{Parts}

@@ -15,7 +15,7 @@ use Rattle.fc_safe.specs.declared.needs.Need.{Need}
 use Rattle.fc_safe.proofs.ListLemmas.{found_of}
 use Rattle.fc_safe.proofs.SetLemmas.{same_sets}
 use Rattle.fc_safe.proofs.ZoneLemmas.{in_range}
-pub use Rattle.fc_placing.proofs.SpaceLemmas.{range_rises}
+pub use Rattle.fc_changes.proofs.StepsLemmas.{range_rises}
 
 -- A set of numbers below a limit is what a test leaves of all that are.
 pub set_is : (t : ℕ → Bool) (n : ℕ) (xs : List ℕ) → IsStrictlyIncreasing xs → ((x : ℕ) → is_one_of xs x ≡ t x) → ((x : ℕ) → t x ≡ true → x < n) → xs ≡ filter t (range_with_len 0 n)

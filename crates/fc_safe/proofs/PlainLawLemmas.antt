@@ -18,7 +18,7 @@ use Rattle.fc_image.specs.effects.Sharing.{new_ids}
 use Rattle.fc_image.specs.effects.Short.{object_units, short, space_reasons}
 use Rattle.fc_image.specs.safe.SafeShort.{SafeRefusal, changed_ids, changed_zones, fit_refusal, fitted, fitted_needs, holds_changed, is_given_up, needs, places_given_up, root_grows, safe_short, spread_or, suits, takes_slack}
 use Rattle.fc_placing.specs.Leaving.{is_kept}
-use Rattle.fc_placing.proofs.LeavingLemmas.{any_append}
+use Rattle.fc_changes.proofs.StepsLemmas.{any_append}
 use Rattle.fc_plan.specs.declared.plan.Plan.{Plan}
 use Rattle.fc_plan.specs.Giving.{has_run_of, is_one_of}
 use Rattle.fc_plan.specs.Parts.{has_part}

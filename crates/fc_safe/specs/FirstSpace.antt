@@ -29,7 +29,7 @@ use Rattle.fc_change.specs.GrownSpace.{plan_sectors, root_of}
 use Rattle.fc_change.specs.Places.{IsCopiedFrom, IsPlaceFor, IsPlacingFor, extents_in}
 use Rattle.fc_change.specs.Prepared.{HasPlace}
 use Rattle.fc_change.specs.Shortage.{slack_for}
-use Rattle.fc_slack.specs.Slack.{place_in}
+use Rattle.fc_placing.specs.Slack.{place_in}
 use Rattle.fc_safe.specs.Changed.{named_in}
 use Rattle.fc_safe.specs.FirstNeeds.{first_gone, first_needs, leaving_of, longer_of, moving_out}
 use Rattle.fc_safe.specs.Moving.{IsPlacedOwner}

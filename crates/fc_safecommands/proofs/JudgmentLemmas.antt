@@ -14,14 +14,14 @@ use Rattle.fc_holdings.specs.declared.error.CommandError.{CommandError}
 use Rattle.fc_holdings.specs.declared.error.CommandError.TheVariants.{Refused, NoMemory, DiskFault}
 use Rattle.fc_holdings.specs.declared.holdings.Holdings.{Holdings}
 use Rattle.fc_holdings.specs.Holdings.{Stands, parts_of}
-use Rattle.fc_course.specs.Jobs.{FitAttributes}
+use Rattle.fc_commands.specs.Jobs.{FitAttributes}
 use Rattle.fc_commands.specs.Judgments.{IsRefusalOf, RefusesBy}
 use Rattle.fc_safe.specs.declared.error.SafeError.{SafeError}
 use Rattle.fc_safe.specs.declared.error.SafeError.TheVariants as errors
 use Rattle.fc_safe.specs.Suits.{Suits}
-use Rattle.fc_safecourse.specs.Answers.{AnswersSafeOver, AnswersSafely}
-use Rattle.fc_safecourse.specs.Promises.{SafeKeeps}
-use Rattle.fc_safecourse.proofs.CourseLemmas.{kept_same, no_memory}
+use Rattle.fc_safecommands.specs.JobAnswers.{AnswersSafeOver, AnswersSafely}
+use Rattle.fc_safecommands.specs.Promises.{SafeKeeps}
+use Rattle.fc_safecommands.proofs.CourseLemmas.{kept_same, no_memory}
 use Rattle.fc_safecommands.specs.Answers.{AnswersSafelyOver, refused_or, safe_error, safe_refusal_in}
 
 -- ---- refused by the tree

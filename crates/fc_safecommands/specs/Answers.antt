@@ -13,7 +13,7 @@ use Rattle.fc_holdings.specs.declared.error.CommandError.{CommandError}
 use Rattle.fc_holdings.specs.declared.error.CommandError.TheVariants as judged
 use Rattle.fc_safe.specs.declared.error.SafeError.{SafeError}
 use Rattle.fc_safe.specs.declared.error.SafeError.TheVariants as errors
-use Rattle.fc_safecourse.specs.Answers.{AnswersSafely}
+use Rattle.fc_safecommands.specs.JobAnswers.{AnswersSafely}
 
 -- a judge's error, as one of the safe mode
 abbrev pub safe_error : CommandError → SafeError

@@ -4,14 +4,14 @@ ghost use Rattle.fc_device.specs.Calls.{StopsAndExitsLeave};
 ghost use Rattle.fc_model.specs.Command.{Command};
 ghost use Rattle.fc_holdings.specs.Holdings.{Stands, parts_of};
 ghost use Rattle.fc_commands.specs.Judgments.{IsJudgment};
-ghost use Rattle.fc_course.specs.Jobs.{HasLaws};
+ghost use Rattle.fc_commands.specs.Jobs.{HasLaws};
 ghost use Rattle.fc_safe.specs.Suits.{Suits};
-ghost use Rattle.fc_safecourse.specs.Promises.{HasChangedSafely, LeavesTree, SafeKeeps, WritesFreeOf};
+ghost use Rattle.fc_safecommands.specs.Promises.{HasChangedSafely, LeavesTree, SafeKeeps, WritesFreeOf};
 ghost use Rattle.fc_safecommands.specs.Answers.{AnswersSafelyOver, safe_error};
 
+use crate::{Holdings, SafeError, transact};
 use fc_commands::{CommandError, Judged};
 use fc_device::Disk;
-use fc_safecourse::{Holdings, SafeError, transact};
 use std::alloc::Global;
 
 // A judge's error, as one of the safe mode.

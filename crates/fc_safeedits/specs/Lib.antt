@@ -8,3 +8,10 @@ pub mod SafeDeletion
 pub mod SafeRewording
 pub mod SafeSpace
 pub mod SafeWriting
+pub mod SafeAddition
+pub mod SafeMoving
+pub mod SafeGrowth
+pub mod SafeGrownAddition
+pub mod SafeGrownMoving
+pub mod SafeCopying
+pub mod SafeGrownCopying

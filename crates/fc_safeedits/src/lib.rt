@@ -1,10 +1,17 @@
 //! Laws of edits of a volume's objects by which identifiers move, as in the safe mode: that they are edits, where objects lie
-//! afterwards, and what a command has then done.
+//! afterwards, and what a command has then done: where an object comes or goes, gets another name or directory, is copied,
+//! and where a directory grows.
 #![tactic(auto)]
 
 ghost use Rattle.fc_safeedits.specs.Relocation.{RelocationLaw};
+ghost use Rattle.fc_safeedits.specs.SafeAddition.{SafeAdditionLaw};
+ghost use Rattle.fc_safeedits.specs.SafeCopying.{SafeCopyingLaw};
 ghost use Rattle.fc_safeedits.specs.SafeDeletion.{SafeDeletionLaw};
+ghost use Rattle.fc_safeedits.specs.SafeGrownAddition.{SafeGrownAdditionLaw};
+ghost use Rattle.fc_safeedits.specs.SafeGrownCopying.{SafeGrownCopyingLaw};
+ghost use Rattle.fc_safeedits.specs.SafeGrownMoving.{SafeGrownMovingLaw};
 ghost use Rattle.fc_safeedits.specs.SafeImage.{SafeImageLaw};
+ghost use Rattle.fc_safeedits.specs.SafeMoving.{SafeMovingLaw};
 ghost use Rattle.fc_safeedits.specs.SafeOutcome.{SafeOutcomeLaw};
 ghost use Rattle.fc_safeedits.specs.SafeParts.{SafePartsLaw};
 ghost use Rattle.fc_safeedits.specs.SafePlaces.{SafePlacesLaw};
@@ -55,4 +62,34 @@ pub fn safe_space()
 /// What is to be written stands in the image once all of it is there.
 pub fn safe_writing()
     ensures { SafeWritingLaw }
+{}
+
+/// `save`, `create` and `cdir` do what they promise in the safe mode, if no directory grows.
+pub fn safe_addition()
+    ensures { SafeAdditionLaw }
+{}
+
+/// `rename` does what it promises in the safe mode, if no file is copied and no directory grows.
+pub fn safe_moving()
+    ensures { SafeMovingLaw }
+{}
+
+/// `save`, `create` and `cdir` do what they promise in the safe mode, if a directory grows.
+pub fn safe_growing()
+    ensures { SafeGrownAdditionLaw }
+{}
+
+/// `rename` does what it promises in the safe mode, if no file is copied and a directory grows.
+pub fn safe_growing_moves()
+    ensures { SafeGrownMovingLaw }
+{}
+
+/// `rename` does what it promises in the safe mode, if its file is copied and no directory grows.
+pub fn safe_copying()
+    ensures { SafeCopyingLaw }
+{}
+
+/// `rename` does so, too, if the directory to which the copied file goes grows by it.
+pub fn safe_growing_copies()
+    ensures { SafeGrownCopyingLaw }
 {}

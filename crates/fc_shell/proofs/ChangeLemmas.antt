@@ -31,7 +31,7 @@ use Rattle.fc_runs.specs.Stops.{LeftBy, SparesBy, leaves_image_or}
 use Rattle.fc_runs.proofs.LeftLemmas.{left_if_spared}
 use Rattle.fc_runs.proofs.RepliesLemmas.{changing_reply}
 use Rattle.fc_commands.specs.Judgments.{CommandLeaves}
-use Rattle.fc_course.specs.Run.{IsMapIn}
+use Rattle.fc_commands.specs.Run.{IsMapIn}
 use Rattle.fc_tree.specs.Agree.{Agree, reader_of_nodes}
 use Rattle.fc_tree.specs.Nodes.{nodes_of}
 use Rattle.fc_tree.specs.Parts.{ArePartsOf}
@@ -39,7 +39,7 @@ use Rattle.fc_tree.proofs.WalkedLemmas.{sound_law}
 use Rattle.fc_holdings.specs.declared.error.CommandError.{CommandError}
 use Rattle.fc_holdings.specs.declared.error.CommandError.TheVariants.{DiskFault, NoMemory, Refused}
 use Rattle.fc_holdings.specs.Answers.{AnswersBy, UnlessFault}
-use Rattle.fc_course.specs.Promises.{WritesPlacesOf}
+use Rattle.fc_commands.specs.Promises.{WritesPlacesOf}
 use Rattle.fc_volume.specs.Changing.{refusal_in}
 use Rattle.fc_volume.specs.Changing.{IsAsked, KeepsVolume}
 use Rattle.fc_volume.specs.Volume.{StandsFor, Volume, parts_of}
@@ -52,7 +52,7 @@ use Rattle.fc_shell.specs.Modes.{mode_of}
 use Rattle.fc_shell.specs.Writing.{Wrote, WrotePart}
 use Rattle.fc_shell.proofs.AnsweredLemmas.{caused_alone}
 use Rattle.fc_shell.proofs.CommandLemmas.{accepted_by, effect_of, locked, no_reason, not_reading, refused_by}
-use Rattle.fc_spares.proofs.SpaceLemmas.{spares_law}
+use Rattle.fc_shell.proofs.SpaceLemmas.{spares_law}
 use Rattle.fc_shell.proofs.SparesLemmas.{spares_of}
 use Rattle.fc_shell.proofs.StepLemmas.{left_ends, one_fault, unbegun_ends}
 use Rattle.fc_shell.proofs.WritingLemmas.{wrote_nothing}

@@ -36,7 +36,7 @@ use Rattle.fc_runs.specs.Stops.{LeftBy, leaves_image_or}
 use Rattle.fc_tree.specs.Parts.{ArePartsOf}
 use Rattle.fc_holdings.specs.declared.error.CommandError.{CommandError}
 use Rattle.fc_volume.specs.Volume.{Volume, parts_of}
-use Rattle.fc_oldvolume.specs.Changing.{IsOldLayout}
+use Rattle.fc_volume.specs.OldChanging.{IsOldLayout}
 use Rattle.fc_shell.specs.declared.answer.LineFault.{LineFault}
 use Rattle.fc_shell.specs.Answered.{Answered}
 use Rattle.fc_shell.specs.Reads.{is_reading_line}

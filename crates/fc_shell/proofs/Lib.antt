@@ -38,3 +38,10 @@ mod HostHeadlineLemmas
 mod SuitsLemmas
 mod SafetyLemmas
 mod WholePutLemmas
+mod NeedLemmas
+mod FreeLemmas
+mod RunLemmas
+mod BackLemmas
+mod OwnMapLemmas
+mod OldFreeLemmas
+pub mod SpaceLemmas

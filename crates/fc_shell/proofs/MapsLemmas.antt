@@ -12,7 +12,7 @@ use Rattle.fc_holdings.specs.declared.error.CommandError.{CommandError}
 use Rattle.fc_volume.specs.Changing.{KeepsVolume}
 use Rattle.fc_volume.specs.Compacting.{HasCompacted}
 use Rattle.fc_volume.specs.Volume.{Volume, parts_of}
-use Rattle.fc_oldvolume.specs.Changing.{IsOldLayout}
+use Rattle.fc_volume.specs.OldChanging.{IsOldLayout}
 use Rattle.fc_shell.specs.Changing.{IsCompacting}
 
 -- A volume with a new map was,

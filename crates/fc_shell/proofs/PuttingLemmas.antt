@@ -63,9 +63,11 @@ use Rattle.fc_holdings.specs.declared.error.CommandError.{CommandError}
 use Rattle.fc_holdings.specs.declared.error.CommandError.TheVariants.{DiskFault, NoMemory, Refused}
 use Rattle.fc_holdings.specs.Answers.{AnswersBy, UnlessFault}
 use Rattle.fc_commands.proofs.JudgmentLemmas.{by_form}
-use Rattle.fc_course.specs.Run.{IsMapIn}
+use Rattle.fc_commands.specs.Run.{IsMapIn}
 use Rattle.fc_commands.specs.Judgments.{CommandLeaves}
-use Rattle.fc_commands.specs.Promises.{GivenError, OpensAlikeOf, UnlessDiskFault, WritesPlacesOf, as_held, filled}
+use Rattle.fc_commands.specs.Given.{OpensAlikeOf, UnlessDiskFault, as_held, filled}
+use Rattle.fc_commands.specs.Promises.{WritesPlacesOf}
+use Rattle.fc_commands.specs.declared.given.GivenError.{GivenError}
 use Rattle.fc_volume.specs.Changing.{refusal_in}
 use Rattle.fc_volume.specs.Giving.{IsAskedGiving}
 use Rattle.fc_volume.specs.Volume.{StandsFor, Volume, parts_of}
@@ -83,7 +85,7 @@ use Rattle.fc_shell.specs.Writing.{Wrote, WrotePart}
 use Rattle.fc_shell.proofs.ChangeLemmas.{agreed_view, answer_accepted, answer_refused, done_accepted, done_takes, refusal_is, refused_takes}
 use Rattle.fc_shell.proofs.CommandLemmas.{locked}
 use Rattle.fc_shell.proofs.MovingLemmas.{broke_left, cuts_move, disk_line, no_host, out_line, told_moves}
-use Rattle.fc_spares.proofs.SpaceLemmas.{spares_law}
+use Rattle.fc_shell.proofs.SpaceLemmas.{spares_law}
 use Rattle.fc_shell.proofs.SparesLemmas.{spares_of}
 use Rattle.fc_shell.proofs.StepLemmas.{same_image, same_tree}
 use Rattle.fc_shell.proofs.WritingLemmas.{wrote_nothing}

@@ -33,7 +33,7 @@ use Rattle.fc_runs.specs.Stops.{LeftBy, leaves_image_or}
 use Rattle.fc_tree.specs.Parts.{ArePartsOf}
 use Rattle.fc_holdings.specs.declared.error.CommandError.{CommandError}
 use Rattle.fc_volume.specs.Volume.{Volume, parts_of}
-use Rattle.fc_lost.specs.Reclaiming.{reclaim_refusal}
+use Rattle.fc_volume.specs.Reclaiming.{reclaim_refusal}
 use Rattle.fc_shell.specs.declared.answer.LineFault.{LineFault}
 use Rattle.fc_shell.specs.Answered.{Answered}
 use Rattle.fc_shell.specs.Changing.{IsReclaiming, TellsBy, reclaimed_reply}
@@ -52,7 +52,7 @@ use Rattle.fc_runs.proofs.LeftLemmas.{left_if_kept}
 use Rattle.fc_runs.proofs.ModeLemmas.{as_either}
 use Rattle.fc_runs.proofs.SafeShortageLemmas.{keeping_enough}
 use Rattle.fc_shell.proofs.SuitsLemmas.{suits_new}
-use Rattle.fc_lost.proofs.KeepsLemmas.{one_some as some_same}
+use Rattle.fc_volume.proofs.LostKeepsLemmas.{one_some as some_same}
 
 -- ---- the reply in pieces
 

@@ -33,7 +33,7 @@ use Rattle.fc_safe.specs.Suits.{Suits}
 use Rattle.fc_safe.specs.declared.error.SafeError.{SafeError}
 use Rattle.fc_safe.specs.declared.error.SafeError.TheVariants as errors
 use Rattle.fc_safecommands.specs.Answers.{refused_or, safe_refusal_in}
-use Rattle.fc_safecourse.specs.Answers.{AnswersSafely, UnlessDiskFault}
+use Rattle.fc_safecommands.specs.JobAnswers.{AnswersSafely, UnlessDiskFault}
 use Rattle.fc_holdings.specs.declared.holdings.Holdings.{Holdings}
 use Rattle.fc_tree.specs.Agree.{Agree}
 use Rattle.fc_tree.specs.Parts.{ArePartsOf}

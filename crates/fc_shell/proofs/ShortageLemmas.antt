@@ -29,7 +29,7 @@ use Rattle.fc_runs.specs.ReadLaw.{is_reading}
 use Rattle.fc_runs.specs.Run.{keeps_tree, layout_reason, shortage}
 use Rattle.fc_runs.proofs.SafeShortageLemmas.{keeping_enough}
 use Rattle.fc_image.proofs.OldMapLemmas.{old_same, not_old}
-use Rattle.fc_course.proofs.ShortLemmas.{below_zero as none_below}
+use Rattle.fc_commands.proofs.ShortLemmas.{below_zero as none_below}
 
 -- ---- an old map has few holes
 

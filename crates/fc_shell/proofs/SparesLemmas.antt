@@ -20,7 +20,7 @@ use Rattle.fc_image.specs.effects.Steady.{SameSectors, is_idle, may_be_rewritten
 use Rattle.fc_image.proofs.HolesLemmas.{Each-contains, Each-objects, Lies, apart_at, none_loose, open_map, walk_lies}
 use Rattle.fc_image.proofs.PathsLemmas.{opened_walk}
 use Rattle.fc_tree.specs.Parts.{ArePartsOf, Parts}
-use Rattle.fc_course.specs.Promises.{MayWrite, WritesPlaces, WritesPlacesOf}
+use Rattle.fc_commands.specs.Promises.{MayWrite, WritesPlaces, WritesPlacesOf}
 use Rattle.fc_runs.specs.Space.{SparesSpace}
 use Rattle.fc_runs.specs.Spares.{Spares, idle_in}
 use Rattle.fc_volume.proofs.CompactedLemmas.{all_among}

@@ -13,7 +13,7 @@ use Rattle.fc_image.specs.safe.SafeShort.{SafeRefusal}
 use Rattle.fc_safe.specs.declared.error.SafeError.{SafeError}
 use Rattle.fc_safe.specs.declared.error.SafeError.TheVariants as errors
 use Rattle.fc_safecommands.specs.Answers.{AnswersSafelyOver}
-use Rattle.fc_safecourse.specs.Promises.{HasChangedSafely, LeavesTree, SafeKeeps, WritesFreeOf}
+use Rattle.fc_safecommands.specs.Promises.{HasChangedSafely, LeavesTree, SafeKeeps, WritesFreeOf}
 use Rattle.fc_runs.specs.Run.{safe_line}
 use Rattle.fc_script.specs.Texts.{ok_line, reclaimed_line, refusal_line}
 use Rattle.fc_holdings.specs.declared.holdings.Holdings.{Holdings}
@@ -23,8 +23,8 @@ use Rattle.fc_holdings.specs.declared.error.CommandError.TheVariants.{DiskFault,
 use Rattle.fc_volume.specs.Changing.{KeepsVolume}
 use Rattle.fc_volume.specs.Compacting.{HasCompacted}
 use Rattle.fc_volume.specs.Volume.{Volume, holdings_of, parts_of}
-use Rattle.fc_oldvolume.specs.Changing.{IsOldLayout}
-use Rattle.fc_lost.specs.Reclaiming.{HasReclaimed, LeavesOwnedOf, reclaim_refusal}
+use Rattle.fc_volume.specs.OldChanging.{IsOldLayout}
+use Rattle.fc_volume.specs.Reclaiming.{HasReclaimed, LeavesOwnedOf, reclaim_refusal}
 use Rattle.fc_shell.specs.declared.answer.LineFault.{LineFault}
 use Rattle.fc_shell.specs.Answered.{Answered, OnlyTells}
 

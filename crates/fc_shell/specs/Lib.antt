@@ -25,3 +25,4 @@ pub mod HostPromise
 pub mod HostHeadline
 pub mod Program
 pub mod Putting
+pub mod SparesLaw

@@ -23,7 +23,9 @@ use Rattle.fc_holdings.specs.declared.error.CommandError.TheVariants.{DiskFault}
 use Rattle.fc_holdings.specs.Answers.{UnlessFault}
 use Rattle.fc_commands.specs.Answers.{AnswersOver}
 use Rattle.fc_commands.specs.Judgments.{CommandLeaves}
-use Rattle.fc_commands.specs.Promises.{GivenError, HasChanged, OpensAlikeOf, UnlessDiskFault, WritesPlacesOf, as_held, filled}
+use Rattle.fc_commands.specs.Given.{OpensAlikeOf, UnlessDiskFault, as_held, filled}
+use Rattle.fc_commands.specs.Promises.{HasChanged, WritesPlacesOf}
+use Rattle.fc_commands.specs.declared.given.GivenError.{GivenError}
 use Rattle.fc_volume.specs.Volume.{StandsFor, Volume, parts_of}
 use Rattle.fc_shell.specs.declared.answer.LineFault.{LineFault}
 use Rattle.fc_shell.specs.declared.moving.MoveFault.{MoveFault}

@@ -1,8 +1,8 @@
 // Commands that change the disc.
 ghost use Rattle.std.specs.Prelude.{◌≡◌, ◌≤◌, List, ℕ, length, true, false, IfOk, Ok, Err, IsFalse, IsTrue};
-ghost use Rattle.fc_course.specs.Run.{IsMapIn};
+ghost use Rattle.fc_commands.specs.Run.{IsMapIn};
 ghost use Rattle.fc_image.specs.Stays.{IsNewLayout};
-ghost use Rattle.fc_oldvolume.specs.Changing.{IsOldLayout};
+ghost use Rattle.fc_volume.specs.OldChanging.{IsOldLayout};
 ghost use Rattle.fc_runs.specs.Run.{keeps_tree};
 ghost use Rattle.fc_script.specs.Lines.{command_of};
 ghost use Rattle.fc_script.specs.Reading.{command};

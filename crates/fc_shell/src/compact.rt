@@ -2,7 +2,7 @@
 ghost use Rattle.std.specs.Prelude.{◌≡◌, Bool, List, ℕ, Ok, IfOk, IsFalse, IsTrue};
 ghost use Rattle.fc_image.specs.Stays.{IsNewLayout};
 ghost use Rattle.fc_model.specs.Command.{Command as Model};
-ghost use Rattle.fc_oldvolume.specs.Changing.{IsOldLayout};
+ghost use Rattle.fc_volume.specs.OldChanging.{IsOldLayout};
 ghost use Rattle.fc_script.specs.Lines.{command_of};
 ghost use Rattle.fc_volume.specs.Volume.{StandsFor, parts_of};
 ghost use Rattle.fc_shell.specs.Answered.{ForState};
@@ -45,7 +45,7 @@ fn compact_old<D: Disk>(
     requires old_map { IsOldLayout (parts_of volume.old).layout }
     ensures { IsCompacting D.Disk volume.old volume.new disk.old disk.new result }
 {
-    fc_oldvolume::compact(volume, alloc, disk)
+    fc_volume::old::compact(volume, alloc, disk)
 }
 
 // Asks a volume to compact its disc.

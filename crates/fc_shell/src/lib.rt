@@ -31,6 +31,7 @@ mod script;
 mod serving;
 mod session;
 mod sink;
+mod spares;
 mod suitability;
 mod tally;
 mod texts;

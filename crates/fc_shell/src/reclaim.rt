@@ -70,7 +70,7 @@ fn reclaim_disc<D: Disk>(volume: &mut Volume, disk: &mut D) -> Result<u64, Comma
     requires settled { IsFalse (D.pending disk.old) }
     ensures { IsReclaiming D.Disk volume.old volume.new disk.old disk.new result }
 {
-    fc_lost::reclaim(volume, disk)
+    fc_volume::reclaim(volume, disk)
 }
 
 /// Answers `reclaim`: gives the disc's lost space back, and then writes the reply. Answers whether the reply is an error line. It is

@@ -10,7 +10,9 @@ use Rattle.fc_model.specs.Command.{Command}
 use Rattle.fc_holdings.specs.declared.error.CommandError.TheVariants.{Refused, NoMemory, DiskFault}
 use Rattle.fc_holdings.specs.declared.holdings.Holdings.{Holdings}
 use Rattle.fc_holdings.specs.Holdings as held
-use Rattle.fc_commands.specs.Promises.{GivenError, GivenKeeps, HasChanged, OpensAlikeOf, UnlessDiskFault, WritesPlacesOf, as_held, filled}
+use Rattle.fc_commands.specs.Given.{GivenKeeps, OpensAlikeOf, UnlessDiskFault, as_held, filled}
+use Rattle.fc_commands.specs.Promises.{HasChanged, WritesPlacesOf}
+use Rattle.fc_commands.specs.declared.given.GivenError.{GivenError}
 use Rattle.fc_commands.specs.Answers.{AnswersOver}
 use Rattle.fc_commands.specs.Judgments.{CommandLeaves, FillsPlace}
 use Rattle.fc_volume.specs.Fitness.{fit_after_giving}

@@ -19,3 +19,17 @@ mod KeepLemmas
 mod PieceLemmas
 mod CommandLemmas
 mod GivingLemmas
+mod LostOwnersLemmas
+mod LostPlacesLemmas
+mod LostStandsLemmas
+pub mod LostKeepsLemmas
+mod OldWritingLemmas
+mod OldChangeLemmas
+pub mod CompactingLemmas
+pub mod ReaddressLemmas
+pub mod NumbersLemmas
+pub mod RowsLemmas
+mod OldRoomLemmas
+mod OldKeepsLemmas
+pub mod CompactReadyLemmas
+pub mod CompactVolumeLemmas

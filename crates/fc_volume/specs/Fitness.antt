@@ -2,7 +2,7 @@
 use Rattle.std.specs.Prelude.{Bool, true, false, Result, Ok, Err}
 use Rattle.fc_holdings.specs.declared.error.CommandError.{CommandError}
 use Rattle.fc_holdings.specs.declared.error.CommandError.TheVariants.{Refused, NoMemory, DiskFault}
-use Rattle.fc_commands.specs.Promises.{GivenError}
+use Rattle.fc_commands.specs.declared.given.GivenError.{GivenError}
 
 -- It is, unless the disk failed.
 abbrev pub fit_after : {T : Type 0} → Result T CommandError → Bool

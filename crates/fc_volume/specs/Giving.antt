@@ -12,7 +12,9 @@ use Rattle.fc_holdings.specs.Answers.{UnlessFault}
 use Rattle.fc_holdings.specs.Holdings.{IsSameKind}
 use Rattle.fc_commands.specs.Answers.{AnswersOver}
 use Rattle.fc_commands.specs.Judgments.{CommandLeaves, FillsPlace}
-use Rattle.fc_commands.specs.Promises.{GivenError, HasChanged, IsSameSupply, OpensAlikeOf, UnlessDiskFault, WritesPlacesOf, as_held, filled}
+use Rattle.fc_commands.specs.Given.{IsSameSupply, OpensAlikeOf, UnlessDiskFault, as_held, filled}
+use Rattle.fc_commands.specs.Promises.{HasChanged, WritesPlacesOf}
+use Rattle.fc_commands.specs.declared.given.GivenError.{GivenError}
 use Rattle.fc_volume.specs.Volume.{StandsFor, Volume, parts_of}
 
 -- What stays, whatever is known of the disk's bytes. A refusal and a lack of memory leave disk, volume and supply as they were. After any

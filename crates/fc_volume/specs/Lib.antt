@@ -10,3 +10,7 @@ pub mod Compacting
 pub mod Changing
 pub mod Fitness
 pub mod Giving
+pub mod Reclaiming
+pub mod OldChanging
+pub mod OldWriting
+pub mod OldCompacting

@@ -1,4 +1,4 @@
-//! Volumes: the filing system over one disk.
+//! Volumes: the filing system over one disk; their compaction, and lost space given back.
 #![tactic(auto)]
 
 mod commands;
@@ -8,9 +8,11 @@ mod lines;
 mod maps;
 mod misplaced;
 mod mount;
+pub mod old;
 mod owners;
 mod pieces;
 mod reading;
+mod reclaiming;
 mod volume;
 
 pub use fc_change::{FileWords, ObjectWords};
@@ -18,4 +20,5 @@ pub use fc_commands::GivenError;
 pub use fc_holdings::{CommandError, Copies, Holdings};
 pub use fitness::is_fit_after;
 pub use lines::{FileRef, Line, Listed, MountError};
+pub use reclaiming::reclaim;
 pub use volume::Volume;

@@ -23,9 +23,9 @@ ghost use Rattle.fc_holdings.specs.Holdings.{CopiesAre, HoldsMap, TellsVersion};
 
 use crate::{Copies, MountError};
 use fc_bytes::zone_check;
-use fc_newmap::{CopyError, MapError, NewMap, Which, fetch};
 use fc_device::{Disk, DiskFault, NoMemory};
 use fc_image::ImageFault;
+use fc_newmap::{CopyError, MapError, NewMap, Which, fetch};
 use fc_oldmap::{OldMap, OldMapFault};
 use fc_record::measures::geometry;
 use fc_record::{

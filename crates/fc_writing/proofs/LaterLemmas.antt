@@ -21,8 +21,8 @@ use Rattle.fc_plan.specs.declared.plan.Plan.{Plan}
 use Rattle.fc_plan.specs.Applied.{is_changed as changes}
 use Rattle.fc_plan.specs.Giving.{has_run_of, is_one_of, stays_given}
 use Rattle.fc_plan.specs.Parts.{fronts}
-use Rattle.fc_placing.specs.Space.{zones_changed}
-use Rattle.fc_placing.proofs.SpaceLemmas.{steps_law, unlisted, zones_low, zones_rise}
+use Rattle.fc_changes.specs.Space.{zones_changed}
+use Rattle.fc_changes.proofs.StepsLemmas.{steps_law, unlisted, zones_low, zones_rise}
 use Rattle.fc_writing.specs.declared.ready.RootPlace.{RootPlace}
 use Rattle.fc_writing.specs.Laws.{LaterLaw}
 use Rattle.fc_writing.specs.Steps.{AreTaken, CanRoot, CanTakeAll, is_changed}

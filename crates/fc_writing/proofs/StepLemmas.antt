@@ -25,8 +25,8 @@ use Rattle.fc_plan.specs.declared.plan.Plan.{Plan}
 use Rattle.fc_plan.specs.Applied.{CanTakePlan}
 use Rattle.fc_plan.specs.Giving.{has_run_of, is_given, stays_given}
 use Rattle.fc_plan.specs.Parts.{KeepsZones, fronts, has_part}
-use Rattle.fc_placing.specs.Space.{HasTaken}
-use Rattle.fc_placing.proofs.SpaceLemmas.{edited, ids_same}
+use Rattle.fc_changes.specs.Space.{HasTaken}
+use Rattle.fc_changes.proofs.StepsLemmas.{edited, ids_same}
 use Rattle.fc_writing.specs.declared.ready.MapStep.TheVariants as steps
 use Rattle.fc_writing.specs.declared.ready.RootPlace.{RootPlace}
 use Rattle.fc_writing.specs.declared.ready.SpaceStep.{SpaceStep}

@@ -8,7 +8,7 @@ use Rattle.fc_oldmap.specs.OldMap.{OldMapContent}
 use Rattle.fc_image.specs.Layout.{Layout, is_among, map_place}
 use Rattle.fc_plan.specs.declared.plan.Plan.{Plan}
 use Rattle.fc_plan.specs.Giving.{is_one_of}
-use Rattle.fc_placing.specs.Space.{zones_changed}
+use Rattle.fc_changes.specs.Space.{zones_changed}
 use Rattle.fc_writing.specs.declared.ready.MapStep.TheVariants as steps
 use Rattle.fc_writing.specs.declared.ready.Ready.{Ready}
 use Rattle.fc_writing.specs.declared.ready.SpaceStep.{SpaceStep}

@@ -14,7 +14,7 @@ use Rattle.fc_plan.specs.declared.plan.Plan.{Plan}
 use Rattle.fc_plan.specs.Applied.{CanTakePlan}
 use Rattle.fc_plan.specs.Giving.{has_run_of, is_given, stays_given}
 use Rattle.fc_plan.specs.Parts.{fronts, has_part}
-use Rattle.fc_placing.specs.Space.{HasTaken, IsMapEdited}
+use Rattle.fc_changes.specs.Space.{HasTaken, IsMapEdited}
 use Rattle.fc_writing.specs.declared.ready.MapStep.{MapStep}
 use Rattle.fc_writing.specs.declared.ready.MapStep.TheVariants as steps
 use Rattle.fc_writing.specs.declared.ready.RootPlace.{RootPlace}

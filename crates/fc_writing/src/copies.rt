@@ -6,8 +6,8 @@ ghost use Rattle.fc_newmap.specs.Copies.{HoldsCopies};
 ghost use Rattle.fc_device.specs.Calls.{FailsByFault, SameForm, StopsAndExitsLeave};
 ghost use Rattle.fc_writing.specs.Copies.{HasCopies, KeepsMap};
 
-use fc_newmap::{NewMap, Which, repair};
 use fc_device::{Disk, DiskFault};
+use fc_newmap::{NewMap, Which, repair};
 
 /// What is known of the two copies of a new map.
 #[derive(Clone, Copy, Debug, PartialEq, Eq)]

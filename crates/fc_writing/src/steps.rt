@@ -14,8 +14,7 @@ ghost use Rattle.fc_writing.specs.Steps.{AreTaken, CanEdit, CanRoot, CanStep, Ca
 
 use crate::ready::{MapStep, RootPlace, SpaceStep};
 use fc_device::{Disk, DiskFault};
-use fc_newmap::NewMap;
-use fc_placing::commit_zones;
+use fc_newmap::{NewMap, commit_zones};
 use fc_plan::{Plan, give_back, take};
 
 // Gives the record of the disc another root, if there is one.

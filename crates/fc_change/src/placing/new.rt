@@ -4,7 +4,7 @@ ghost use Rattle.std.specs.Option.{option_map};
 ghost use Rattle.fc_image.specs.Layout.{Layout};
 ghost use Rattle.fc_objects.specs.Extents.{sectors_in};
 ghost use Rattle.fc_placing.specs.Places.{id_in, shared_id};
-ghost use Rattle.fc_slack.specs.Slack.{place_in};
+ghost use Rattle.fc_placing.specs.Slack.{place_in};
 ghost use Rattle.fc_space.specs.Space.{layout_of};
 ghost use Rattle.fc_change.specs.Held.{parts_of};
 ghost use Rattle.fc_change.specs.Places.{ArePlaced, AreSectors, CanPlace, HasSectorsAt, IsCopiedFrom, IsPlaceFor, IsPlacingFor, address_for, extents_in, is_directory, placing_of, plan_in};
@@ -22,9 +22,8 @@ use crate::spaces::{Place, SpaceError, Spaces};
 use fc_alloc::Owners;
 use fc_device::{Extent, NoMemory};
 use fc_newmap::NewMap;
-use fc_placing::{Placing, Share, address_of, directory_address};
+use fc_placing::{Placing, Share, address_of, directory_address, slack};
 use fc_plan::Plan;
-use fc_slack::slack;
 use std::alloc::Global;
 
 // ---- the object

@@ -5,15 +5,15 @@ ghost use Rattle.fc_image.specs.Layout.{dir_form};
 ghost use Rattle.fc_model.specs.Command.{Command};
 ghost use Rattle.fc_space.specs.Space.{layout_of};
 ghost use Rattle.fc_holdings.specs.Holdings.{Stands, parts_of};
-ghost use Rattle.fc_course.specs.Jobs.{FitAttributes, HasLaws};
-ghost use Rattle.fc_course.specs.Promises.{ChangeKeeps, HasChanged, SameMap, WritesPlacesOf};
+ghost use Rattle.fc_commands.specs.Jobs.{FitAttributes, HasLaws};
+ghost use Rattle.fc_commands.specs.Promises.{ChangeKeeps, HasChanged, SameMap, WritesPlacesOf};
 ghost use Rattle.fc_commands.specs.Answers.{AnswersOver};
 ghost use Rattle.fc_commands.specs.Judgments.{CommandLeaves, IsJudgment};
 
 use crate::judged::{Judged, carry_out};
 use crate::name::last_name;
+use crate::{CommandError, Holdings};
 use fc_change::Job;
-use fc_course::{CommandError, Holdings};
 use fc_device::Disk;
 use fc_names::{NameForm, Path};
 use fc_refusals::judge_set;

@@ -5,15 +5,15 @@ ghost use Rattle.fc_model.specs.Command.{Command};
 ghost use Rattle.fc_tree.specs.Nodes.{nodes_of};
 ghost use Rattle.fc_change.specs.Needs.{len_at};
 ghost use Rattle.fc_holdings.specs.Holdings.{Stands, parts_of};
-ghost use Rattle.fc_course.specs.Jobs.{HasLaws};
-ghost use Rattle.fc_course.specs.Promises.{ChangeKeeps, HasChanged, WritesPlacesOf};
+ghost use Rattle.fc_commands.specs.Jobs.{HasLaws};
+ghost use Rattle.fc_commands.specs.Promises.{ChangeKeeps, HasChanged, WritesPlacesOf};
 ghost use Rattle.fc_commands.specs.Answers.{AnswersOver};
 ghost use Rattle.fc_commands.specs.Judgments.{CommandLeaves, IsJudgment};
 
 use crate::judged::{Judged, carry_out};
 use crate::name::last_name;
+use crate::{CommandError, Holdings};
 use fc_change::Job;
-use fc_course::{CommandError, Holdings};
 use fc_device::Disk;
 use fc_names::Path;
 use fc_refusals::judge_rename;

@@ -3,16 +3,16 @@ ghost use Rattle.std.specs.Prelude.{◌≡◌, [], Err, IsFalse, IsTrue, List, O
 ghost use Rattle.fc_device.specs.Calls.{StopsAndExitsLeave};
 ghost use Rattle.fc_model.specs.Command.{Command};
 ghost use Rattle.fc_holdings.specs.Holdings.{Stands, parts_of};
-ghost use Rattle.fc_course.specs.Given.{GivenKeeps, OpensAlikeOf, as_held, filled};
-ghost use Rattle.fc_course.specs.Promises.{HasChanged, WritesPlacesOf};
-ghost use Rattle.fc_course.specs.declared.given.GivenError.TheVariants as errors;
+ghost use Rattle.fc_commands.specs.Given.{GivenKeeps, OpensAlikeOf, as_held, filled};
+ghost use Rattle.fc_commands.specs.Promises.{HasChanged, WritesPlacesOf};
+ghost use Rattle.fc_commands.specs.declared.given.GivenError.TheVariants as errors;
 ghost use Rattle.fc_commands.specs.Answers.{AnswersOver};
 ghost use Rattle.fc_commands.specs.Judgments.{CommandLeaves, FillsPlace};
 
 use crate::commands::save::file_job;
 use crate::judged::Judged;
+use crate::{GivenError, Holdings, change_from, is_map};
 use fc_change::FileWords;
-use fc_course::{GivenError, Holdings, change_from, is_map};
 use fc_device::Disk;
 use fc_host::Supply;
 use fc_names::Path;

@@ -12,11 +12,10 @@ ghost use Rattle.fc_newmap.specs.declared.copies.Which.TheVariants.{One};
 ghost use Rattle.fc_newmap.specs.Gate.{gate_delta, gated, gated_sector};
 ghost use Rattle.fc_newmap.specs.Passes.{HasEach, HasPassedBoth, IsPartWritten, PassesBoth};
 
-use crate::Which;
 use super::reading::start_of;
+use crate::{NewMap, Which};
 use arrayvec::ArrayVec;
 use fc_device::{Disk, DiskFault};
-use crate::NewMap;
 
 /// The place of CrossCheck in a zone's sector.
 const CROSS_CHECK: usize = 3;

@@ -6,8 +6,8 @@ ghost use Rattle.fc_device.specs.Sectors.{sector_at, with_sector};
 ghost use Rattle.fc_newmap.specs.Copies.{chosen, copy_of, HoldsCopies, RepairLeaves};
 ghost use Rattle.fc_newmap.specs.Passes.{HasWritten, IsPartWritten, masked, zone_from};
 
-use crate::Which;
 use super::reading::start_of;
+use crate::Which;
 use fc_device::{Disk, DiskFault, MAX_SECTOR};
 use fc_record::Geometry;
 

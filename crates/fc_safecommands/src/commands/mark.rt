@@ -4,14 +4,14 @@ ghost use Rattle.fc_device.specs.Calls.{StopsAndExitsLeave};
 ghost use Rattle.fc_model.specs.Command.{Command};
 ghost use Rattle.fc_holdings.specs.Holdings.{Stands, parts_of};
 ghost use Rattle.fc_safe.specs.Suits.{Suits};
-ghost use Rattle.fc_safecourse.specs.Promises.{HasChangedSafely, LeavesTree, SafeKeeps, WritesFreeOf};
+ghost use Rattle.fc_safecommands.specs.Promises.{HasChangedSafely, LeavesTree, SafeKeeps, WritesFreeOf};
 ghost use Rattle.fc_safecommands.specs.Answers.{AnswersSafelyOver};
 
 use crate::judged::carry_out;
+use crate::{Holdings, SafeError};
 use fc_commands::mark_job;
 use fc_device::Disk;
 use fc_names::Path;
-use fc_safecourse::{Holdings, SafeError};
 use std::alloc::Global;
 
 /// Gives an object other attributes, but for bit 3, whole or not at all, as `delete` does: at any moment, a crash or an I/O error, the disc

@@ -4,15 +4,15 @@ ghost use Rattle.fc_device.specs.Calls.{StopsAndExitsLeave};
 ghost use Rattle.fc_model.specs.Command.{Command};
 ghost use Rattle.fc_holdings.specs.Holdings.{Stands, parts_of};
 ghost use Rattle.fc_safe.specs.Suits.{Suits};
-ghost use Rattle.fc_safecourse.specs.Promises.{HasChangedSafely, LeavesTree, SafeKeeps, WritesFreeOf};
+ghost use Rattle.fc_safecommands.specs.Promises.{HasChangedSafely, LeavesTree, SafeKeeps, WritesFreeOf};
 ghost use Rattle.fc_safecommands.specs.Answers.{AnswersSafelyOver};
 
 use crate::judged::carry_out;
+use crate::{Holdings, SafeError};
 use fc_change::FileWords;
 use fc_commands::file_job;
 use fc_device::Disk;
 use fc_names::Path;
-use fc_safecourse::{Holdings, SafeError};
 use std::alloc::Global;
 
 /// Writes a file of these bytes, new or in the place of another, which keeps its name and its attributes, whole or not at all: at any

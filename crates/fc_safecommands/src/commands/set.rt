@@ -4,15 +4,15 @@ ghost use Rattle.fc_device.specs.Calls.{StopsAndExitsLeave};
 ghost use Rattle.fc_model.specs.Command.{Command};
 ghost use Rattle.fc_holdings.specs.Holdings.{Stands, parts_of};
 ghost use Rattle.fc_safe.specs.Suits.{Suits};
-ghost use Rattle.fc_safecourse.specs.Promises.{HasChangedSafely, LeavesTree, SafeKeeps, WritesFreeOf};
+ghost use Rattle.fc_safecommands.specs.Promises.{HasChangedSafely, LeavesTree, SafeKeeps, WritesFreeOf};
 ghost use Rattle.fc_safecommands.specs.Answers.{AnswersSafelyOver};
 
 use crate::judged::carry_out;
+use crate::{Holdings, SafeError};
 use fc_change::ObjectWords;
 use fc_commands::set_job;
 use fc_device::Disk;
 use fc_names::Path;
-use fc_safecourse::{Holdings, SafeError};
 use std::alloc::Global;
 
 /// Gives an object other load and exec words, and other access bits (bits 0 to 2 of its attributes; the others stay), whole or not at all,

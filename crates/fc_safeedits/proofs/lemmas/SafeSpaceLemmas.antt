@@ -25,8 +25,8 @@ use Rattle.fc_plan.specs.Taking.{as_runs, hole_taken, run_taken, with_id}
 use Rattle.fc_plan.proofs.Composed.{given_after_take, no_kept_at, same_filter}
 use Rattle.fc_plan.proofs.Moved.{filter_moved}
 use Rattle.fc_plan.proofs.Taken.{find_is}
-use Rattle.fc_placing.specs.Space.{HasTaken}
-use Rattle.fc_placing.proofs.SpaceLemmas.{ids_same}
+use Rattle.fc_changes.specs.Space.{HasTaken}
+use Rattle.fc_changes.proofs.StepsLemmas.{ids_same}
 use Rattle.fc_changes.proofs.SpaceLemmas.{no_runs}
 use Rattle.fc_tree.proofs.MemberLemmas.{contains_here, from_map, in_map, no_element}
 use Rattle.fc_writing.specs.Steps.{AreTaken, CanTakeAll, HasMoved}

@@ -3,7 +3,8 @@ ghost use Rattle.std.specs.Prelude.{IsFalse, IsTrue};
 ghost use Rattle.fc_device.specs.Calls.{StopsAndExitsLeave};
 ghost use Rattle.fc_model.specs.Command.{Command};
 ghost use Rattle.fc_image.specs.Layout.{dir_form};
-ghost use Rattle.fc_commands.specs.Promises.{FitAttributes, SameMap};
+ghost use Rattle.fc_commands.specs.Jobs.{FitAttributes};
+ghost use Rattle.fc_commands.specs.Promises.{SameMap};
 ghost use Rattle.fc_volume.specs.Changing.{IsAsked};
 ghost use Rattle.fc_volume.specs.Volume.{StandsFor, parts_of};
 

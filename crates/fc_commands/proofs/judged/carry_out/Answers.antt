@@ -4,7 +4,7 @@ use Rattle.fc_device.proofs.DiskLaws.{laws}
 use Rattle.fc_model.specs.Command.{Command}
 use Rattle.fc_holdings.specs.declared.error.CommandError.{CommandError}
 use Rattle.fc_holdings.specs.Holdings.{parts_of}
-use Rattle.fc_course.proofs.ChangeLemmas.{nothing_written}
+use Rattle.fc_commands.proofs.ChangeLemmas.{nothing_written}
 use Rattle.fc_commands.specs.declared.judged.Judged.{Judged}
 use Rattle.fc_commands.specs.Judgments.{IsJudgment}
 use Rattle.fc_commands.proofs.JudgmentLemmas.{judged_kept, judged_refused, judged_short, leaves_command, leaves_none}

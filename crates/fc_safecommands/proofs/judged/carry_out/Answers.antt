@@ -4,9 +4,9 @@ use Rattle.fc_device.proofs.DiskLaws.{laws}
 use Rattle.fc_holdings.specs.Holdings.{parts_of}
 use Rattle.fc_commands.specs.Judgments.{IsJudgment}
 use Rattle.fc_safe.specs.declared.error.SafeError.{SafeError}
-use Rattle.fc_safecourse.specs.Promises.{SafeKeeps}
-use Rattle.fc_safecourse.proofs.CourseLemmas.{free_kept, tree_kept}
-use Rattle.fc_safecourse.proofs.HeldLemmas.{map_in}
+use Rattle.fc_safecommands.specs.Promises.{SafeKeeps}
+use Rattle.fc_safecommands.proofs.CourseLemmas.{free_kept, tree_kept}
+use Rattle.fc_safecommands.proofs.HeldLemmas.{map_in}
 use Rattle.fc_safecommands.specs.Answers.{AnswersSafelyOver}
 use Rattle.fc_safecommands.proofs.JudgmentLemmas.{judged_kept, judged_refused, judged_short}
 use Rattle.fc_safecommands.proofs.judged.carry_out.Goals as goal

@@ -1,5 +1,5 @@
 use Rattle.std.proofs.Common.{◌≡◌, ◌∙◌, [], false, Result, Err, ap, subst}
-use Rattle.fc_commands.specs.Promises.{GivenError}
+use Rattle.fc_commands.specs.declared.given.GivenError.{GivenError}
 use Rattle.fc_device.proofs.DiskLaws.{laws}
 use Rattle.fc_model.specs.Command.{Command as Model}
 use Rattle.fc_shell.specs.Putting.{SavesGiven}

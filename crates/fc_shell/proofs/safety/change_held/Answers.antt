@@ -9,7 +9,7 @@ use Rattle.fc_holdings.specs.Holdings.{parts_of}
 use Rattle.fc_model.specs.Command.{Command as Model}
 use Rattle.fc_safe.specs.declared.error.SafeError.{SafeError}
 use Rattle.fc_safecommands.specs.Answers.{AnswersSafelyOver}
-use Rattle.fc_safecourse.specs.Promises.{HasChangedSafely, LeavesTree, SafeKeeps, WritesFreeOf}
+use Rattle.fc_safecommands.specs.Promises.{HasChangedSafely, LeavesTree, SafeKeeps, WritesFreeOf}
 use Rattle.fc_script.specs.Reading.{command}
 use Rattle.fc_shell.specs.Changing.{ChangesSafely}
 use Rattle.fc_shell.proofs.AccessLemmas.{access_fits, bytes_fit}

@@ -8,7 +8,7 @@ use Rattle.fc_record.specs.declared.Geometry.{Geometry}
 use Rattle.fc_newmap.proofs.PassLemmas.{keeps_told}
 use Rattle.fc_newmap.specs.Committing.{TakesCopies}
 use Rattle.fc_newmap.specs.Copies.{ChangesCopies, HoldsCopies}
-use Rattle.fc_placing.proofs.CommitLemmas.{keeps_at_once}
+use Rattle.fc_newmap.proofs.ZonesLemmas.{keeps_at_once}
 use Rattle.fc_writing.specs.declared.ready.MapStep.{MapStep}
 use Rattle.fc_writing.specs.declared.ready.MapStep.TheVariants as steps
 use Rattle.fc_writing.specs.New.{InStep}

@@ -8,7 +8,7 @@ use Rattle.fc_plan.specs.declared.plan.Part.{Part}
 use Rattle.fc_plan.specs.declared.plan.Plan.{Plan}
 use Rattle.fc_plan.specs.Parts.{KeepsZones, fronts, has_part}
 use Rattle.fc_plan.specs.Plan.{AreParts}
-use Rattle.fc_placing.specs.Space.{HasTaken}
+use Rattle.fc_changes.specs.Space.{HasTaken}
 use Rattle.fc_writing.specs.Steps.{AreTaken, CanTakeAll}
 use Rattle.fc_writing.proofs.StepLemmas.{take_next, taken_then, zones_more}
 use Rattle.fc_writing.proofs.steps.take_all.Goals as goal

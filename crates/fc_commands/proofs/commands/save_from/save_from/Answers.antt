@@ -5,11 +5,11 @@ use Rattle.fc_device.proofs.StopLemmas.{keeps_weaker}
 use Rattle.fc_device.specs.Calls.{StopsAndExitsLeave}
 use Rattle.fc_model.specs.Command.{Command}
 use Rattle.fc_holdings.specs.Holdings.{parts_of}
-use Rattle.fc_course.specs.Given.{as_held, filled}
-use Rattle.fc_course.specs.Promises.{WritesPlacesOf}
-use Rattle.fc_course.proofs.ChangeLemmas.{nothing_written}
-use Rattle.fc_course.proofs.FilledLemmas.{filled_long}
-use Rattle.fc_course.proofs.GivenJobLemmas.{given_same}
+use Rattle.fc_commands.specs.Given.{as_held, filled}
+use Rattle.fc_commands.specs.Promises.{WritesPlacesOf}
+use Rattle.fc_commands.proofs.ChangeLemmas.{nothing_written}
+use Rattle.fc_commands.proofs.FilledLemmas.{filled_long}
+use Rattle.fc_commands.proofs.GivenJobLemmas.{given_same}
 use Rattle.fc_commands.proofs.JudgmentLemmas.{judged_refused, judged_short, leaves_command, leaves_none, no_fault, ok_both, ok_then}
 use Rattle.fc_commands.proofs.commands.save_from.save_from.Given.{Over}
 use Rattle.fc_commands.proofs.commands.save_from.save_from.Goals as goal

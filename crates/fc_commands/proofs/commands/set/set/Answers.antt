@@ -2,7 +2,7 @@ use Rattle.std.proofs.Common.{ℕ, List, []}
 use Rattle.fc_device.proofs.DiskLaws.{laws}
 use Rattle.fc_model.specs.Command.{Command}
 use Rattle.fc_holdings.specs.Holdings.{parts_of}
-use Rattle.fc_commands.proofs.MomentLemmas.{set_keeps}
+use Rattle.fc_commands.proofs.SetMomentLemmas.{set_keeps}
 use Rattle.fc_commands.proofs.JudgmentLemmas.{ok_then}
 use Rattle.fc_commands.proofs.commands.set.set.Goals as goal
 

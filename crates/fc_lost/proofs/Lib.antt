@@ -1,4 +1,0 @@
-mod OwnersLemmas
-mod PlacesLemmas
-mod StandsLemmas
-pub mod KeepsLemmas

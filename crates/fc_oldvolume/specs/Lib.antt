@@ -1,3 +1,0 @@
-pub mod Changing
-pub mod Writing
-pub mod Compacting

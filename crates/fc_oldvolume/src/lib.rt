@@ -1,8 +1,0 @@
-//! Compaction of a volume whose disc has an old map.
-#![tactic(auto)]
-
-mod compacting;
-mod laws;
-mod writing;
-
-pub use compacting::compact;

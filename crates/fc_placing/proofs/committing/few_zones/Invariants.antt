@@ -1,5 +1,0 @@
-use Rattle.std.proofs.Common.{◌≡◌, take}
-use Rattle.fc_placing.proofs.committing.few_zones.Given as goal
-
-abbrev pub invariant-loop-z : goal.invariant-loop-z
-invariant-loop-z l = l.few.items ≡ take l.z-index l.zones

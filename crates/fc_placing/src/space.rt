@@ -1,8 +1,0 @@
-// Space that goes back and space that is taken, each by one commit of the map.
-
-ghost use Rattle.fc_placing.specs.Space.{StepsLaw};
-
-/// Changes of space, one commit after another, are one change.
-pub fn steps()
-    ensures { StepsLaw }
-{}

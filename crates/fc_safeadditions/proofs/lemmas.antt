@@ -1,4 +1,0 @@
-pub mod AddedPartsLemmas
-pub mod AddedImageLemmas
-pub mod AddedEntryLemmas
-pub mod SafeAdditionLemmas

@@ -1,0 +1,380 @@
+-- `rename` in the safe mode that copies its file, where no directory grows: the laws of its job.
+use Rattle.std.proofs.Common.{◌≡◌, ◌<◌, ◌≤◌, ◌^◌, ◌==◌, ◌&&◌, ◌||◌, arith, eq-eqb, ℕ, zero, suc, Bool, true, false, cond, List, [], ◌∷◌, find, refl, sym, ap, subst, ◌∙◌, ne_eqb, is_some, IsSome, Option, Some, None}
+use Rattle.std.specs.Prelude.{Contains}
+use Rattle.std.specs.FinMap.{get, insert as put_node}
+use Rattle.std.specs.Option.{option_map, option_map_or}
+use Rattle.std.proofs.lemmas.Bool.{or_right}
+use Rattle.fc_names.specs.Names.{Path}
+use Rattle.fc_names.specs.declared.name.NameForm.{NameForm}
+use Rattle.fc_names.specs.declared.name.NameForm.TheVariants as forms
+use Rattle.fc_alloc.specs.declared.owner.Owner.{Owner}
+use Rattle.fc_alloc.specs.Owners.{is_node}
+use Rattle.fc_record.specs.declared.Kind.{Kind}
+use Rattle.fc_newmap.specs.Map.{Map}
+use Rattle.fc_newmap.specs.NewMap.{IsNewMap}
+use Rattle.fc_dirs.specs.declared.Entry.{Entry}
+use Rattle.fc_dirs.specs.Directory.{Directory}
+use Rattle.fc_drafts.specs.Draft.{CanAddress, directory_in}
+use Rattle.fc_drafts.specs.Entries.{renamed_entry}
+use Rattle.fc_model.specs.Answer.{changed as changed_by}
+use Rattle.fc_model.specs.Command.{Command}
+use Rattle.fc_image.specs.Layout.{Layout, dir_form, disc_sectors, id_of}
+use Rattle.fc_image.specs.Objects.{tree_of}
+use Rattle.fc_image.specs.Opening.{Opened}
+use Rattle.fc_image.specs.Stays.{OpensAs}
+use Rattle.fc_image.specs.Walk.{Listing, Object}
+use Rattle.fc_changes.proofs.lemmas.old.BeforeLemmas.{opened_as}
+use Rattle.fc_plan.specs.Giving.{is_one_of}
+use Rattle.fc_tree.specs.Agree.{Agree, HasForm}
+use Rattle.fc_tree.specs.Parts.{ArePartsOf, Parts}
+use Rattle.fc_tree.specs.Nodes.{body_in}
+use Rattle.fc_tree.specs.declared.node.Node.{Node}
+use Rattle.fc_tree.proofs.MemberLemmas.{no_element}
+use Rattle.fc_laws.specs.nodes.Edits.{Nodes, with_body, with_edited}
+use Rattle.fc_laws.specs.agree.Agreed.{AgreeOn, parts_with}
+use Rattle.fc_laws.proofs.lemmas.agree.BeforeLemmas.{agreed_law}
+use Rattle.fc_laws.proofs.lemmas.takeover.KindLemmas.{new_kind}
+use Rattle.fc_refusals.specs.declared.target.Renaming.{Renaming}
+use Rattle.fc_writing.specs.New.{CanWrite, IsChanged, IsGiven, IsTaken}
+use Rattle.fc_writing.specs.Steps.{HasStepped}
+use Rattle.fc_edits.proofs.lemmas.ShapeLemmas.{of_one}
+use Rattle.fc_change.specs.declared.change.Change.{Change}
+use Rattle.fc_change.specs.declared.change.Regrowth.{Regrowth}
+use Rattle.fc_change.specs.declared.change.Says.{Says}
+use Rattle.fc_change.specs.declared.job.Job.TheVariants as jobs
+use Rattle.fc_change.specs.declared.job.Wants.{Wants}
+use Rattle.fc_change.specs.declared.spaces.Place.{Place}
+use Rattle.fc_change.specs.declared.spaces.Spaces.{Spaces}
+use Rattle.fc_change.specs.After.{CanRegrowNode, CanTakeOver, CanTurnNode, CanTurnOwner, gone_in, nodes_after, owners_admitted, with_regrown, with_said, with_turned, without_gone}
+use Rattle.fc_change.specs.Directories.{CanTell, CanTellAround, IsGrownThere, Rewriting, TellAll}
+use Rattle.fc_change.specs.Drafts.{CanDraft, CanTellJob, IsChangeOf, address_in, told, told_first}
+use Rattle.fc_change.specs.Needs.{AreWants, is_copied, len_at}
+use Rattle.fc_change.specs.Prepared.{HasPlace}
+use Rattle.fc_commands.specs.declared.stages.Prepared.{Prepared}
+use Rattle.fc_commands.specs.Run.{IsRun}
+use Rattle.fc_commands.proofs.CopyingEditLemmas.{two_told}
+use Rattle.fc_commands.proofs.EmptySpaceLemmas.{none_grown as none_regrown}
+use Rattle.fc_commands.proofs.MoveLemmas.{IsSeen, l, o}
+use Rattle.fc_commands.proofs.MoveRunLemmas.{new_seen}
+use Rattle.fc_commands.proofs.MoveStageLemmas.{IsMoveChange, IsRenamer, can_enter, can_last, can_want, move_change, own_place, places as have_places, renamer, tells_it}
+use Rattle.fc_commands.proofs.MoveTellLemmas.{told_by}
+use Rattle.fc_commands.proofs.RemovalRunLemmas.{new_view}
+use Rattle.fc_commands.proofs.RoomyLemmas.{NoneGrows}
+use Rattle.fc_commands.proofs.TargetLemmas as target_of
+use Rattle.fc_safe.specs.FirstSpace.{CanPlaceFirst}
+use Rattle.fc_safe.specs.Suits.{Suits, is_low_directory}
+use Rattle.fc_safelaws.specs.Free.{view}
+use Rattle.fc_safecrash.specs.Crash.{LeadsTo}
+use Rattle.fc_safeedits.specs.SafeOutcome.{SafeOutcome}
+use Rattle.fc_safeedits.specs.SafeSpace.{SafeSpaceLaw}
+use Rattle.fc_safeedits.specs.SafeWriting.{SafeWritingLaw}
+use Rattle.fc_safeedits.specs.SafeCopying.{SafeCopyingLaw}
+use Rattle.fc_safecommands.specs.Anew.{CanWriteAnew, IsPreparedAnew}
+use Rattle.fc_safecommands.specs.Laws.{MappedBy, SafeJobLaws, mapped}
+use Rattle.fc_safecommands.specs.Promises.{ChangesPartsSafely}
+use Rattle.fc_safecommands.specs.Stages.{CanPrepareAnew, IsSpacedFirst}
+use Rattle.fc_safecommands.proofs.CopyMoveChangeLemmas.{none, put, tells, turned}
+use Rattle.fc_safecommands.proofs.CopyMoveImageLemmas.{agrees, can_turn_owner, goes, map_edited, nodes_same, owners_stay, owners_there}
+use Rattle.fc_safecommands.proofs.CopyMoveLemmas.{CopyMove, changed_is, file, job, wanted}
+use Rattle.fc_safecommands.proofs.CopyMoveOutcomeLemmas.{outcome, tree}
+use Rattle.fc_safecommands.proofs.CopyMovePlaceLemmas.{beside, spot, there}
+use Rattle.fc_safecommands.proofs.JudgedLemmas.{full_as, short_as}
+use Rattle.fc_safecommands.proofs.StirredImageLemmas as im
+use Rattle.fc_safecommands.proofs.StirredLemmas.{changed, changed_object}
+use Rattle.fc_safecommands.proofs.StirredPutLemmas.{can_write, one_step, written_free}
+use Rattle.fc_safecommands.proofs.StirredStepLemmas.{none_grown}
+use Rattle.fc_safecommands.proofs.SuitsLemmas.{NoneLow, put_low, said_low, still_suits}
+
+-- ---- no directory comes to lie in the map's identifier
+
+pub all_said : (ss : List Says) (nodes : Nodes) → NoneLow nodes → NoneLow (with_said ss nodes)
+all_said [] nodes none = none
+all_said (q ∷ ss) nodes none' = all_said ss (with_body q.node (body_in (directory_in q.draft)) nodes) (said_low nodes q.node (λ (x : Node). record x { body = body_in (directory_in q.draft) }) (λ x. refl) none')
+
+pub one_turned : (nodes : Nodes) (n dir : ℕ) (d : Entry) → is_low_directory d ≡ false → NoneLow nodes → NoneLow (with_edited n (λ (x : Node). record x { holder = dir; entry = d }) nodes)
+one_turned nodes n dir d low none' = by (get nodes n)
+  where
+    by : (q : Option Node) → NoneLow (option_map_or (λ (x : Node). put_node nodes n (record x { holder = dir; entry = d })) q nodes)
+    by None = none'
+    by (Some x) = put_low nodes n (record x { holder = dir; entry = d }) low none'
+
+-- a big directory can hold any address
+any_address : (f : NameForm) (len address : ℕ) (content : Directory) → f ≡ forms.Long → HasForm f len content → CanAddress content address
+any_address f len address content is has = by content (subst (λ (g : NameForm). HasForm g len content) is has)
+  where
+    by : (dir : Directory) → HasForm forms.Long len dir → CanAddress dir address
+    by (Directory.Small dir) form = absurd form
+    by (Directory.Big dir) form = tt
+
+module _ (space : SafeSpaceLaw) (writing : SafeWritingLaw) (law : SafeCopyingLaw) (kind : Kind) (m : Map) (nodes : Nodes) (owners : List Owner) (is_map : IsNewMap m) (a : Agree kind (parts_with m nodes owners))
+    (r : Renaming) (from to : Path) (name bytes : List ℕ) (it : IsRenamer (parts_with m nodes owners) from to r name) (suits : Suits (Layout.New m) nodes) (copied : is_copied (parts_with m nodes owners) r ≡ true)
+    (grows : NoneGrows (parts_with m nodes owners) (jobs.Move r) name) (few : len_at nodes r.target.node < 2 ^ 32) where
+  abbrev h : Parts
+  h = parts_with m nodes owners
+
+  on : AgreeOn kind m nodes owners a.root a.listings
+  on = agreed_law.named kind h m refl is_map a
+
+  own_view : ArePartsOf h (record { kind = kind; layout = Layout.New m; listings = a.listings })
+  own_view = agreed_law.viewed kind h a
+
+  -- by a view
+  abbrev by_view : (q : Kind) (root : Node) (listings : List Listing) → AgreeOn q m nodes owners root listings → ArePartsOf (parts_with m nodes owners) (record { kind = q; layout = Layout.New m; listings = listings })
+      → (w : Wants) → AreWants (parts_with m nodes owners) (jobs.Move r) name w → CopyMove
+  by_view q root listings agreed viewed w are = record {
+    kind = q;
+    m = m;
+    nodes = nodes;
+    owners = owners;
+    root = root;
+    listings = listings;
+    agreed = agreed;
+    parts = viewed;
+    suits = suits;
+    from = from;
+    to = to;
+    r = r;
+    name = name;
+    seen = new_seen m nodes owners q root listings from to r name agreed it;
+    copied = copied;
+    grows = grows;
+    few = few;
+    wants = w;
+    are = are;
+  }
+
+  abbrev own : (w : Wants) → AreWants (parts_with m nodes owners) (jobs.Move r) name w → CopyMove
+  own w are = by_view kind a.root a.listings on own_view w are
+
+  abbrev seen : IsSeen (Layout.New m) nodes a.listings from to r name
+  seen = new_seen m nodes owners kind a.root a.listings from to r name on it
+
+  abbrev object : Object
+  object = o (Layout.New m) nodes a.listings from to r name seen
+
+  abbrev aim : Listing
+  aim = l (Layout.New m) nodes a.listings from to r name seen
+
+  -- ---- the stages
+
+  form : dir_form (Layout.New m) ≡ forms.Long
+  form = ap (λ (b : Bool). let f : NameForm = cond b forms.Ten forms.Long in f) suits.0
+
+  can_place : (w : Wants) → AreWants (parts_with m nodes owners) (jobs.Move r) name w → CanPlaceFirst m (parts_with m nodes owners) (jobs.Move r) w
+  can_place w are =
+      let c = own w are in
+      let wants = wanted c in
+      record {
+        few = subst (λ (n : ℕ). n < 2 ^ 32) (sym wants.bytes) few;
+        grows = λ g is. absurd (let none' = sym wants.grows ∙ is in cc);
+        copied = λ n is. subst (HasPlace h) (one r.target.node n (sym wants.copy ∙ is)) (own_place (Layout.New m) nodes a.listings from to r name seen h refl refl);
+        placed = λ w' at. im.placed_first (job c) w' at;
+      }
+    where
+      one : (i j : ℕ) → (let q : Option ℕ = Some i in q) ≡ Some j → i ≡ j
+      one i j e' = cc
+
+  module _ (w : Wants) (s : Spaces) (spaced : IsSpacedFirst m (parts_with m nodes owners) (jobs.Move r) name w s) where
+    abbrev c : CopyMove
+    c = own w spaced.wants
+
+    abbrev address : ℕ
+    address = (spot (own w spaced.wants) s spaced.placed).place.address
+
+    address_is : address_in s ≡ Some address
+    address_is = ap (option_map (λ (q : Place). q.address)) (spot c s spaced.placed).object
+
+    can_first : (q : ℕ × Rewriting) → Contains (told_first (jobs.Move r) (renamed_entry object.entry name address)) q → CanTell None nodes q.0 q.1
+    can_first q at =
+        let d = renamed_entry object.entry name address in
+        of_one (λ (p : ℕ × Rewriting). CanTell None nodes p.0 p.1) (r.holder, Rewriting.Enters d)
+        (can_enter (Layout.New m) nodes a.listings from to r name seen (file c).away address
+        (any_address (dir_form (Layout.New m)) aim.object.entry.len address aim.content form (seen.forms aim seen.known.destination.listed))) q
+        (subst (λ (b : Bool). Contains (cond b ((r.holder, Rewriting.Renames r.target.at d) ∷ []) ((r.holder, Rewriting.Enters d) ∷ [])) q) (ne_eqb r.holder r.target.holder (file c).away) at)
+
+    can_tell_job : CanTellJob h (jobs.Move r) name (Some address) None
+    can_tell_job = record {
+      entry = renamed_entry object.entry name address;
+      made = (object.entry, target_of.entry (Layout.New m) nodes a.listings seen.sound seen.held from r.target seen.known.target, refl);
+      first = can_first;
+      last = can_last (Layout.New m) nodes a.listings from to r name seen;
+      begins = tt;
+    }
+
+    can_draft : CanDraft (parts_with m nodes owners) (jobs.Move r) name s
+    can_draft =
+        let no = none_regrown s (none_grown (job c) s spaced.placed) in
+        record {
+          own = subst (λ (g : Option Regrowth). CanTellJob h (jobs.Move r) name (address_in s) g) (sym no)
+              (subst (λ (q : Option ℕ). CanTellJob h (jobs.Move r) name q None) (sym address_is) can_tell_job);
+          there = subst (IsGrownThere nodes) (sym no) tt;
+          others = subst (λ (g : Option Regrowth). (ns : List ℕ) → CanTellAround nodes g ns) (sym no) (λ ns q at. absurd (no_element q at)) _;
+        }
+
+    can_write_anew : (ch : Change) → IsChangeOf (parts_with m nodes owners) (jobs.Move r) name s ch → CanWriteAnew (parts_with m nodes owners) ch
+    can_write_anew ch is = record { told = told_owner; placed = λ w' at. im.placed_at (job c) w' at }
+      where
+        change : IsMoveChange nodes r name (Some address) ch
+        change = move_change h r name (Some address) s ch address_is (none_grown (job c) s spaced.placed) is
+
+        owned : (n : ℕ) → is_one_of (changed (job c)) n ≡ true → IsSome (find (is_node n) owners)
+        owned n there' = let t = changed_object (job c) n there' in ap is_some t.2.own_found
+
+        first : is_one_of (changed (job c)) r.holder ≡ true
+        first = ap (λ (ns : List ℕ). is_one_of ns r.holder) (changed_is c) ∙ ap (λ (b : Bool). b || is_one_of (r.target.holder ∷ []) r.holder) (eq-eqb r.holder r.holder refl)
+
+        second : is_one_of (changed (job c)) r.target.holder ≡ true
+        second =
+            ap (λ (ns : List ℕ). is_one_of ns r.target.holder) (changed_is c)
+            ∙ or_right (r.holder == r.target.holder) (is_one_of (r.target.holder ∷ []) r.target.holder) (ap (λ (b : Bool). b || false) (eq-eqb r.target.holder r.target.holder refl))
+
+        all : TellAll None nodes ((r.holder, Rewriting.Enters (renamed_entry object.entry name address)) ∷ ((r.target.holder, Rewriting.Leaves r.target.at) ∷ [])) ch.says.items
+        all = subst (λ (qs : List (ℕ × Rewriting)). TellAll None nodes qs ch.says.items) (two_told (Layout.New m) nodes a.listings from to r name seen (file c).away (file c).file address [] ch.says.items)
+            (tells_it (Layout.New m) nodes a.listings from to r name seen (Some address) ch change)
+
+        its : (q : ℕ × Rewriting) → Contains ((r.holder, Rewriting.Enters (renamed_entry object.entry name address)) ∷ ((r.target.holder, Rewriting.Leaves r.target.at) ∷ [])) q → is_one_of (changed (job c)) q.0 ≡ true
+        its q (zero, low, same) = subst (λ (p : ℕ × Rewriting). is_one_of (changed (job c)) p.0 ≡ true) same first
+        its q (suc zero, low, same) = subst (λ (p : ℕ × Rewriting). is_one_of (changed (job c)) p.0 ≡ true) same second
+        its q (suc (suc i), low, same) = absurd (omega (arith, low))
+
+        told_owner : (q : Says) → Contains ch.says.items q → IsSome (find (is_node q.node) owners)
+        told_owner q at =
+            let t = told_by nodes ((r.holder, Rewriting.Enters (renamed_entry object.entry name address)) ∷ ((r.target.holder, Rewriting.Leaves r.target.at) ∷ [])) ch.says.items all q at in
+            subst (λ (n : ℕ). IsSome (find (is_node n) owners)) (sym t.2.number) (owned t.0.0 (its t.0 t.1))
+
+  can_prepare : CanPrepareAnew m (parts_with m nodes owners) (jobs.Move r) name
+  can_prepare = record {
+    want = can_want (Layout.New m) nodes a.listings from to r name seen;
+    place = can_place;
+    draft = can_draft;
+    placed = λ w s spaced. tt;
+    write = λ w s ch spaced is. can_write_anew w s spaced ch is;
+    zones = λ w s spaced p at. im.zones (job (own w spaced.wants)) s spaced.placed p at;
+  }
+
+  -- ---- after it
+
+  module _ (p : Prepared) (prep : IsPreparedAnew m (parts_with m nodes owners) (jobs.Move r) name p) where
+    abbrev cm : CopyMove
+    cm = own prep.wants prep.are_wants
+
+    can_write_it : (n : ℕ) → disc_sectors (Layout.New m) ≤ n → CanWrite n m p.ready
+    can_write_it n room =
+        can_write (job cm) prep.spaces prep.placed p.change (tells cm prep.spaces prep.placed p.change prep.change p.ready prep.ready) p.ready prep.ready (there cm prep.spaces prep.placed) (beside cm prep.spaces prep.placed)
+        (put cm prep.spaces prep.placed p.change prep.change p.ready prep.ready) n room
+
+    has_some : (n : ℕ) → HasPlace (parts_with m nodes owners) n → IsSome (get nodes n)
+    has_some n y = ap is_some y.there
+
+    can_take_over : (m' : Map) (number room : ℕ) → IsTaken m p.ready m' → CanTakeOver (Layout.New m') nodes (owners_admitted (Layout.New m) p.change.object number owners) room p.change
+    can_take_over m' number room taken =
+        let spaced : IsSpacedFirst m h (jobs.Move r) name prep.wants prep.spaces = record { wants = prep.are_wants; placed = prep.placed } in
+        let change : IsMoveChange nodes r name (Some (address prep.wants prep.spaces spaced)) p.change =
+        move_change h r name (Some (address prep.wants prep.spaces spaced)) prep.spaces p.change (address_is prep.wants prep.spaces spaced) (none_grown (job cm) prep.spaces prep.placed) prep.change in
+        let d = renamed_entry change.was name (address prep.wants prep.spaces spaced) in
+        record {
+          says = λ q at.
+              (let t = told_by nodes (told nodes (jobs.Move r) name None d) p.change.says.items change.tells q at in
+              subst (λ (n : ℕ). IsSome (get nodes n)) (sym t.2.number) (has_some t.0.0 (have_places (Layout.New m) nodes a.listings from to r name seen h refl refl d t.0 t.1)));
+          object = subst (CanTurnNode nodes room) (sym (turned cm prep.spaces prep.placed p.change prep.change p.ready prep.ready)) (target_of.has_node (Layout.New m) nodes a.listings seen.sound seen.held from r.target seen.known.target);
+          owner = subst (λ (os : List Owner). CanTurnOwner (Layout.New m') os p.change.object) (sym (owners_stay cm prep.spaces prep.placed p.change prep.change p.ready prep.ready space m' taken number))
+              (can_turn_owner cm prep.spaces prep.placed p.change prep.change p.ready prep.ready space m' taken);
+          grown = subst (CanRegrowNode nodes (owners_admitted (Layout.New m) p.change.object number owners)) (sym (none cm prep.spaces prep.placed p.change prep.change p.ready prep.ready)) tt;
+        }
+
+    -- the map after it is the one that its single step makes
+    one_map : (m' : Map) → IsGiven m p.ready m' → IsTaken m p.ready m'
+    one_map m' given = subst (IsTaken m p.ready) (sym (subst (HasStepped given.0 m') prep.ready.no_give given.2)) given.1
+
+    still_none : (number : ℕ) → NoneLow (nodes_after p.change number nodes)
+    still_none number = subst NoneLow (sym after_is) (all_said p.change.says.items _ (one_turned nodes r.target.node r.holder d low suits.1))
+      where
+        d : Entry
+        d = renamed_entry object.entry name (spot cm prep.spaces prep.placed).place.address
+
+        after_is : nodes_after p.change number nodes ≡ with_said p.change.says.items (with_edited r.target.node (λ (x : Node). record x { holder = r.holder; entry = renamed_entry object.entry name (spot cm prep.spaces prep.placed).place.address }) nodes)
+        after_is = (λ i. without_gone (gone_in (turned cm prep.spaces prep.placed p.change prep.change p.ready prep.ready i))
+            (with_said p.change.says.items (with_turned (turned cm prep.spaces prep.placed p.change prep.change p.ready prep.ready i) number (with_regrown (none cm prep.spaces prep.placed p.change prep.change p.ready prep.ready i) nodes))))
+
+        low : is_low_directory d ≡ false
+        low = ap (λ (b : Bool). b && (id_of d.address == 2)) (file cm).file
+
+    agrees_new : (m' : Map) (nodes' : Nodes) (owners' : List Owner) (number : ℕ) → IsRun (parts_with m nodes owners) (parts_with m' nodes' owners') p number → Agree kind (parts_with m' nodes' owners') × Suits (Layout.New m') nodes'
+    agrees_new m' nodes' owners' number run =
+        let taken = one_map m' run.given in
+        let same = nodes_same cm prep.spaces prep.placed p.change prep.change p.ready prep.ready number ∙ sym run.nodes in (
+          subst (λ (ns : Nodes). Agree kind (parts_with m' ns owners')) same
+              (agrees cm prep.spaces prep.placed p.change prep.change p.ready prep.ready space m' taken owners' (goes cm prep.spaces prep.placed p.change prep.change p.ready prep.ready space m' taken owners' number run.owners) law),
+          still_suits m m' nodes nodes' (map_edited cm prep.spaces prep.placed p.change prep.change p.ready prep.ready space m' taken).geometry suits (subst NoneLow (sym run.nodes) (still_none number)),
+        )
+
+    agrees_then : (now : Layout) (nodes' : Nodes) (owners' : List Owner) (number : ℕ) → IsRun (parts_with m nodes owners) (record { layout = now; nodes = nodes'; owners = owners' }) p number
+        → Agree kind (record { layout = now; nodes = nodes'; owners = owners' }) × Suits now nodes'
+    agrees_then (Layout.New m') nodes' owners' number run = agrees_new m' nodes' owners' number run
+    agrees_then (Layout.Old space') nodes' owners' number run = absurd run.given
+
+    -- ---- by each image
+
+    leads : (x : MappedBy m) → ArePartsOf (parts_with m nodes owners) (view (mapped m x)) → LeadsTo (mapped m x) p.ready bytes (changed_by (tree_of x.image (Layout.New m) x.listings) (Command.Rename from to))
+    leads by held =
+        let agreed = new_view m nodes owners kind is_map a by.kind by.image (view (mapped m by)) by.opens held in
+        let c' = by_view by.kind agreed.0 by.listings agreed.1 held prep.wants prep.are_wants in
+        let its = tells c' prep.spaces prep.placed p.change prep.change p.ready prep.ready in
+        let put' = put c' prep.spaces prep.placed p.change prep.change p.ready prep.ready in
+        record {
+          one_step = one_step (job c') prep.spaces prep.placed p.change its p.ready prep.ready (there c' prep.spaces prep.placed) (beside c' prep.spaces prep.placed) put';
+          free = λ u i. written_free (job c') prep.spaces prep.placed p.change its p.ready prep.ready (there c' prep.spaces prep.placed) (beside c' prep.spaces prep.placed) put' u i;
+          after = λ m' image taken at.
+              (let os = owners_there c' prep.spaces prep.placed p.change prep.change p.ready prep.ready space m' taken in
+              tree c' prep.spaces prep.placed p.change prep.change p.ready prep.ready space m' taken os.0 os.1 writing by.r by.image by.new_kind by.opens bytes image at law);
+        }
+
+    changes_new : (m' : Map) (nodes' : Nodes) (owners' : List Owner) (number : ℕ) (was image : List ℕ) → IsRun (parts_with m nodes owners) (parts_with m' nodes' owners') p number → IsChanged m m' p.ready bytes was image
+        → ChangesPartsSafely (Command.Rename from to) (parts_with m nodes owners) (parts_with m' nodes' owners') was image
+    changes_new m' nodes' owners' number was image run is other view' opens held =
+        let at_map : view'.layout ≡ Layout.New m = sym held.layout in
+        let same = opened_as other was view' (Layout.New m) opens at_map in
+        let agreed = new_view m nodes owners kind is_map a other was view' opens held in
+        let opened = subst (OpensAs was other) (sym same) opens in
+        let viewed = subst (ArePartsOf h) (sym same) held in
+        let disc = new_kind was other (record { kind = other; layout = Layout.New m; listings = view'.listings }) m opened refl in
+        let c' = by_view other agreed.0 view'.listings agreed.1 viewed prep.wants prep.are_wants in
+        let its = tells c' prep.spaces prep.placed p.change prep.change p.ready prep.ready in
+        let put' = put c' prep.spaces prep.placed p.change prep.change p.ready prep.ready in
+        let taken = one_map m' run.given in
+        let owned = goes c' prep.spaces prep.placed p.change prep.change p.ready prep.ready space m' taken owners' number run.owners in
+        let one = one_step (job c') prep.spaces prep.placed p.change its p.ready prep.ready (there c' prep.spaces prep.placed) (beside c' prep.spaces prep.placed) put' in
+        let at = im.there_of (job c') disc.0 was disc.1 opened p.ready bytes image m' one is in
+        let as_taken = nodes_same c' prep.spaces prep.placed p.change prep.change p.ready prep.ready number ∙ sym run.nodes in
+        subst (λ (v : Opened). SafeOutcome other was image v (Command.Rename from to) (parts_with m' nodes' owners')) same
+        (subst (λ (ns : Nodes). SafeOutcome other was image (record { kind = other; layout = Layout.New m; listings = view'.listings }) (Command.Rename from to) (parts_with m' ns owners')) as_taken
+        (outcome c' prep.spaces prep.placed p.change prep.change p.ready prep.ready space m' taken owners' owned writing disc.0 was disc.1 opened bytes image at law is))
+
+    changes_then : (now : Parts) (m' : Map) (number : ℕ) (was image : List ℕ) → IsRun (parts_with m nodes owners) now p number → now.layout ≡ Layout.New m' → IsChanged m m' p.ready bytes was image
+        → ChangesPartsSafely (Command.Rename from to) (parts_with m nodes owners) now was image
+    changes_then now m' number was image run at is =
+        subst (λ (q : Layout). ChangesPartsSafely (Command.Rename from to) h (record { layout = q; nodes = now.nodes; owners = now.owners }) was image) (sym at)
+        (changes_new m' now.nodes now.owners number was image (subst (λ (q : Layout). IsRun h (record { layout = q; nodes = now.nodes; owners = now.owners }) p number) at run) is)
+
+-- the laws of such a `rename`
+pub copy_move_laws : SafeSpaceLaw → SafeWritingLaw → SafeCopyingLaw → (kind : Kind) (m : Map) (nodes : Nodes) (owners : List Owner) → IsNewMap m → Agree kind (parts_with m nodes owners) → (r : Renaming) (from to : Path) (name bytes : List ℕ)
+    → IsRenamer (parts_with m nodes owners) from to r name → Suits (Layout.New m) nodes → is_copied (parts_with m nodes owners) r ≡ true → NoneGrows (parts_with m nodes owners) (jobs.Move r) name → len_at nodes r.target.node < 2 ^ 32
+    → SafeJobLaws kind m (parts_with m nodes owners) (jobs.Move r) name bytes
+copy_move_laws space writing law kind m nodes owners is_map a r from to name bytes it suits copied grows few =
+    let h = parts_with m nodes owners in
+    record {
+      can_prepare = can_prepare space writing law kind m nodes owners is_map a r from to name bytes it suits copied grows few;
+      can_write = λ p n prep room. can_write_it space writing law kind m nodes owners is_map a r from to name bytes it suits copied grows few p prep n room;
+      can_take = λ p m' number room prep taken more. can_take_over space writing law kind m nodes owners is_map a r from to name bytes it suits copied grows few p prep m' number room taken;
+      agrees = λ p now number prep run. agrees_then space writing law kind m nodes owners is_map a r from to name bytes it suits copied grows few p prep now.layout now.nodes now.owners number run;
+      leads = λ c p x j prep held.
+          (let its = renamer h kind a c r name bytes j in
+          subst (λ (d : Command). LeadsTo (mapped m x) p.ready bytes (changed_by (tree_of x.image (Layout.New m) x.listings) d)) (sym its.2)
+          (leads space writing law kind m nodes owners is_map a r its.0 its.1 name bytes its.3 suits copied grows few p prep x held));
+      changes = λ c p m' now number was image j prep run at is.
+          (let its = renamer h kind a c r name bytes j in
+          subst (λ (d : Command). ChangesPartsSafely d h now was image) (sym its.2)
+          (changes_then space writing law kind m nodes owners is_map a r its.0 its.1 name bytes its.3 suits copied grows few p prep now m' number was image run at is));
+      short_is = λ c w v j are sound held. short_as kind m h c (jobs.Move r) name bytes (record { is_map = is_map; layout = refl; suits = suits; agree = a; judged = j }) v sound held w are;
+      full = λ c v j full sound held. full_as kind m h c (jobs.Move r) name bytes (record { is_map = is_map; layout = refl; suits = suits; agree = a; judged = j }) v sound held full;
+    }

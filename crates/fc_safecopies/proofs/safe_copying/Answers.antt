@@ -1,5 +1,0 @@
-use Rattle.fc_safecopies.proofs.lemmas.SafeCopyingLemmas.{safe_copying_law}
-use Rattle.fc_safecopies.proofs.safe_copying.Goals as goal
-
-pub returns : goal.returns
-returns c = safe_copying_law

@@ -1,2 +1,0 @@
-pub mod SafeCopying
-pub mod SafeGrownCopying

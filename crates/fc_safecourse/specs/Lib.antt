@@ -1,5 +1,0 @@
-pub mod Anew
-pub mod Stages
-pub mod Laws
-pub mod Answers
-pub mod Promises

@@ -1,5 +1,0 @@
-use Rattle.fc_safegrowths.proofs.lemmas.SafeGrownAdditionLemmas.{safe_grown_addition_law}
-use Rattle.fc_safegrowths.proofs.safe_growing.Goals as goal
-
-pub returns : goal.returns
-returns c = safe_grown_addition_law

@@ -1,5 +1,0 @@
-use Rattle.fc_safegrowths.proofs.lemmas.SafeGrownMovingLemmas.{safe_grown_moving_law}
-use Rattle.fc_safegrowths.proofs.safe_growing_moves.Goals as goal
-
-pub returns : goal.returns
-returns c = safe_grown_moving_law

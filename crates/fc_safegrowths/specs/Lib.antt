@@ -1,3 +1,0 @@
-pub mod SafeGrowth
-pub mod SafeGrownAddition
-pub mod SafeGrownMoving

@@ -1,3 +1,0 @@
-pub mod RenamedPartsLemmas
-pub mod RenamedImageLemmas
-pub mod SafeMovingLemmas

@@ -1,5 +1,0 @@
-use Rattle.fc_safemoves.proofs.lemmas.SafeMovingLemmas.{safe_moving_law}
-use Rattle.fc_safemoves.proofs.safe_moving.Goals as goal
-
-pub returns : goal.returns
-returns c = safe_moving_law
