@@ -27,7 +27,7 @@ unless_fault DiskFault P not_fault p = absurd (not_fault refl)
 same_error : (e f : CommandError) → (let r : Result (Unit {0}) CommandError = Err e in r) ≡ Err f → e ≡ f
 same_error e f is = cc
 
-same_kind : (layout : Layout) → IsSameKind layout layout
+pub same_kind : (layout : Layout) → IsSameKind layout layout
 same_kind (Layout.New m) = tt
 same_kind (Layout.Old space) = tt
 

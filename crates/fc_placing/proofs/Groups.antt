@@ -13,7 +13,7 @@ use Rattle.fc_image.proofs.ShuffleLemmas.{IsPermutation-filter}
 use Rattle.fc_alloc.specs.Owners.{AreHeldBy, AreInOrder, is_held}
 use Rattle.fc_placing.specs.Slack.{has_id, has_shares, is_good, least_low, shares_from}
 use Rattle.fc_placing.proofs.OpenLemmas.{none_held}
-use Rattle.fc_placing.proofs.LowLemmas.{and_false}
+use Rattle.fc_changes.proofs.BasicLemmas.{and_false}
 use Rattle.fc_placing.proofs.Searches.{least_closed, least_share, no_share}
 
 -- ---- the owners of one identifier

@@ -14,6 +14,7 @@ use Rattle.fc_newmap.specs.Map.{Map}
 use Rattle.fc_newmap.specs.NewMap.{IsNewMap}
 use Rattle.fc_record.specs.declared.Geometry.{Geometry}
 use Rattle.fc_placing.specs.Lows.{IsLow, IsPast, is_clear, start_of}
+use Rattle.fc_changes.proofs.BasicLemmas.{and_false}
 
 pub not_le : (a b : ℕ) → b < a → nat_le a b ≡ false
 not_le a b less = by (nat_le a b) refl
@@ -81,10 +82,6 @@ behind step low end new some from is =
     )
 
 -- ---- some owners
-
-pub and_false : (b : Bool) → (b && false) ≡ false
-and_false true = refl
-and_false false = refl
 
 -- an owner that begins before one that was in the way is not in the way later, if it was not before
 kept_one : (need f f' bound : ℕ) (x : Owner) → x.first ≤ bound → bound < f + need → f ≤ f' → is_clear f need x ≡ true → is_clear f' need x ≡ true

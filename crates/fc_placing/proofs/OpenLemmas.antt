@@ -11,7 +11,7 @@ use Rattle.fc_alloc.specs.declared.owner.Owner.{Owner}
 use Rattle.fc_alloc.specs.Owners.{is_held}
 use Rattle.fc_placing.specs.Lows.{is_clear}
 use Rattle.fc_placing.specs.Slack.{allows, has_id, is_open, leaves_free, may_share}
-use Rattle.fc_placing.proofs.LowLemmas.{and_false}
+use Rattle.fc_changes.proofs.BasicLemmas.{and_false}
 
 -- an owner that the directory does not hold may not be shared with
 closed : (dir : ℕ) (o : Owner) → (o.dir == dir) ≡ false → is_open dir o ≡ false

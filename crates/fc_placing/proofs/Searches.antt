@@ -10,7 +10,8 @@ use Rattle.fc_newmap.specs.Map.{Map}
 use Rattle.fc_image.specs.Layout.{id_sectors, low_start}
 use Rattle.fc_placing.specs.Lows.{IsLow, has_room, is_clear}
 use Rattle.fc_placing.specs.Slack.{has_shares, is_good, is_room, least_low, leaves_free, low_with_room, may_share, shares_from}
-use Rattle.fc_placing.proofs.LowLemmas.{and_false, later_start, not_le}
+use Rattle.fc_placing.proofs.LowLemmas.{later_start, not_le}
+use Rattle.fc_changes.proofs.BasicLemmas.{and_false}
 use Rattle.fc_newmap.proofs.IdLemmas.{range_cons}
 use Rattle.fc_record.proofs.KindLemmas.{and_second as second}
 

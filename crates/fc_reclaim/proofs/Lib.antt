@@ -1,5 +1,5 @@
 mod SettledLemmas
-mod RowLemmas
+pub mod RowLemmas
 mod BootLemmas
 mod JoinLemmas
 mod ChainLemmas
@@ -11,6 +11,6 @@ mod OwnedLemmas
 mod KeptLemmas
 mod ZoneStepLemmas
 mod GoneLemmas
-mod ReclaimsLemmas
+pub mod ReclaimsLemmas
 pub mod PartsLemmas
 mod CopiesLemmas

@@ -54,7 +54,7 @@ covers_kind was (DiscL units) fits sector s i = absurd (cc)
 
 -- ---- sectors
 
-all_among : (P : ℕ → Type 0) (xs : List ℕ) → ((s : ℕ) → is_among xs s ≡ true → P s) → All P xs
+pub all_among : (P : ℕ → Type 0) (xs : List ℕ) → ((s : ℕ) → is_among xs s ≡ true → P s) → All P xs
 all_among P [] each = All-nil P
 all_among P (x ∷ xs) each =
     All-cons P x xs (each x (ap (λ b. b || is_among xs x) (eq-eqb x x refl))) (all_among P xs (λ s e. each s (in_back (x ∷ []) xs s e)))

@@ -18,7 +18,7 @@ use Rattle.fc_image.proofs.HolesLemmas.{apart_at, apart_from}
 use Rattle.fc_reclaim.specs.Lost.{boot_row}
 
 -- a map's sectors lie below 2^40
-map_low : (r : DiscRecord) → is_valid r ≡ true → (geometry r).map_sector + 2 * (geometry r).zones ≤ 2 ^ 40
+pub map_low : (r : DiscRecord) → is_valid r ≡ true → (geometry r).map_sector + 2 * (geometry r).zones ≤ 2 ^ 40
 map_low r valid =
     let facts = facts_of_valid r valid in
     let g = geometry r in

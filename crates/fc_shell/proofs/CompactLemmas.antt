@@ -56,10 +56,7 @@ use Rattle.fc_runs.proofs.ModeLemmas.{as_either}
 use Rattle.fc_runs.proofs.SafeShortageLemmas.{keeping_enough}
 use Rattle.fc_shell.proofs.SuitsLemmas.{suits_new}
 use Rattle.fc_volume.proofs.StandsLemmas.{new_layout as new_of}
-
-pub or_true : (b : Bool) → (b || true) ≡ true
-or_true true = refl
-or_true false = refl
+use Rattle.fc_placing.proofs.LowLemmas.{or_true}
 
 -- ---- kinds
 

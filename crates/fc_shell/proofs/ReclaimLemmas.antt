@@ -43,7 +43,7 @@ use Rattle.fc_shell.specs.Modes.{SuitsMode, mode_of}
 use Rattle.fc_shell.specs.Reads.{is_reading_line}
 use Rattle.fc_shell.specs.Writing.{Wrote, WrotePart}
 use Rattle.fc_shell.proofs.ChangeLemmas.{going}
-use Rattle.fc_shell.proofs.CompactLemmas.{or_true}
+use Rattle.fc_placing.proofs.LowLemmas.{or_true}
 use Rattle.fc_shell.proofs.ShortageLemmas.{new_enough}
 use Rattle.fc_shell.proofs.StepLemmas.{left_ends}
 use Rattle.fc_shell.proofs.WritingLemmas.{part_of_first, part_of_second, wrote_nothing}

@@ -36,6 +36,7 @@ use Rattle.fc_compact.specs.Compaction.{ByOwnersLaw, ChangesLoose, is_loose, loo
 use Rattle.fc_volume.specs.Compacting.{IsCompacted}
 use Rattle.fc_volume.proofs.AgreeLemmas.{movable_same}
 pub use Rattle.fc_laws.proofs.lemmas.takeover.KindLemmas.{new_kind}
+pub use Rattle.fc_reclaim.proofs.ReclaimsLemmas.{all_among}
 
 -- ---- bytes after the sectors that change
 
@@ -77,11 +78,6 @@ loose_kind owners objects own (kinds.Id id) = sym (movable_same owners objects o
 loose_same : (m : Map) (owners : List Owner) (objects : List Object) → AreOwnersOf owners objects → loose_sectors m owners ≡ loose_objects m objects
 loose_same m owners objects own =
     ap (λ (t : ZoneRun → Bool). sectors_of m.geometry (filter t (all_runs m))) (λ i p. loose_kind owners objects own p.1.kind i)
-
-pub all_among : (P : ℕ → Type 0) (xs : List ℕ) → ((s : ℕ) → is_among xs s ≡ true → P s) → All P xs
-all_among P [] each = All-nil P
-all_among P (x ∷ xs) each =
-    All-cons P x xs (each x (ap (λ b. b || is_among xs x) (eq-eqb x x refl))) (all_among P xs (λ s e. each s (in_back (x ∷ []) xs s e)))
 
 -- idle identifiers are fixed
 idle_fixed : (objects : List Object) (k : RunKind) → is_idle objects k ≡ true → is_fixed_run objects k ≡ true

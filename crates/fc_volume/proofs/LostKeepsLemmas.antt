@@ -23,6 +23,7 @@ use Rattle.fc_holdings.specs.Holdings.{IsSameKind}
 use Rattle.fc_volume.specs.Volume.{StandsFor, Volume, parts_of}
 use Rattle.fc_volume.specs.Reclaiming.{HasGeometryOf, HasGivenBack, ReclaimKeeps, reclaim_refusal}
 use Rattle.fc_volume.proofs.LostStandsLemmas.{stands_after}
+use Rattle.fc_commands.proofs.KeepLemmas.{same_kind}
 
 -- ---- refusals
 
@@ -60,10 +61,6 @@ none_refused read_only layout writable new = ap (λ (b : Bool). reclaim_refusal 
     by (Layout.New m) is = refl
 
 -- ---- what stays
-
-same_kind : (l : Layout) → IsSameKind l l
-same_kind (Layout.New m) = tt
-same_kind (Layout.Old space) = tt
 
 new_kinds : (l l' : Layout) (m m' : Map) → l ≡ Layout.New m → l' ≡ Layout.New m' → IsSameKind l l'
 new_kinds l l' m m' is is' = subst (λ (x : Layout). IsSameKind x l') (sym is) (subst (λ (x : Layout). IsSameKind (Layout.New m) x) (sym is') tt)

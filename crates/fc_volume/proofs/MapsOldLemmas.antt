@@ -18,6 +18,7 @@ use Rattle.fc_image.specs.declared.ImageFault.{ImageFault}
 use Rattle.fc_image.specs.declared.ImageFault.TheVariants as faults
 use Rattle.fc_image.specs.Layout.{Layout}
 use Rattle.fc_image.specs.Opening.{MapAndRoot, holes_or, old_layout}
+use Rattle.fc_changes.proofs.lemmas.old.MapLemmas.{little_front, end_front, few, fault_by}
 
 -- ---- what reading answers
 
@@ -80,21 +81,11 @@ module _ (bytes : List ℕ) (units : ℕ) where
 
 -- ---- the front of an image
 
-little_front : (k : ℕ) (l : List ℕ) → 3 ≤ k → little_number 3 (take k l) ≡ little_number 3 l
-little_front k l high =
-    let a = get_or-take k l 0 0 (omega arith) in
-    let b = get_or-take k l 1 0 (omega arith) in
-    let c = get_or-take k l 2 0 (omega arith) in
-    omega (arith, a, b, c)
-
 u24_front : (image : List ℕ) (i : ℕ) → i + 3 ≤ 512 → u24_at (take 512 image) i ≡ u24_at image i
 u24_front image i low =
     let k : ℕ = 512 - i in
     let e : 512 ≡ i + k = omega arith in
     ap (λ n. little_number 3 (drop i (take n image))) e ∙ ap (little_number 3) (drop-take i k image) ∙ little_front k (drop i image) (omega arith)
-
-end_front : (image : List ℕ) → free_end (take 512 image) ≡ free_end image
-end_front image = get_or-take 512 image 510 0 (omega arith)
 
 hole_front : (image : List ℕ) (i : ℕ) → i < 82 → stored_hole (take 512 image) i ≡ stored_hole image i
 hole_front image i low = ap₂ (λ a b. hole a b) (u24_front image (3 * i) (omega arith)) (u24_front image (256 + 3 * i) (omega arith))
@@ -108,17 +99,11 @@ holes_front image (suc n) low =
     ∙ ap₂ (λ hs h. hs ++ h ∷ []) (holes_front image n (omega arith)) (hole_front image n (omega arith))
     ∙ sym (ap (holes_of image) e ∙ holes_step image n)
 
-few : (n : ℕ) → is_free_end n ≡ true → n / 3 ≤ 82
-few n right = let fits = leb-true n 246 (and_parts (n % 3 == 0) (nat_le n 246) right).1 in omega arith
-
 space_front : (image : List ℕ) (units : ℕ) → is_free_end (free_end image) ≡ true → free_space (take 512 image) units ≡ free_space image units
 space_front image units right =
     let ends = end_front image in
     let holes : stored_holes (take 512 image) ≡ stored_holes image = ap (λ n. holes_of (take 512 image) (n / 3)) ends ∙ holes_front image (free_end image / 3) (few (free_end image) right) in
     ap₂ (λ hs n. let s : OldMapContent = record { holes = hs; disc_units = n; sector_units = units } in s) holes (u24_front image 252 (omega arith))
-
-abbrev fault_by : Bool → ℕ → ℕ → List Hole → ℕ → Option ℕ
-fault_by right disc units holes last = if right then wrong_hole disc units 0 (map_units units) holes else Some (last / 3)
 
 fault_front : (image : List ℕ) (units : ℕ) → hole_fault (take 512 image) units ≡ hole_fault image units
 fault_front image units = go (is_free_end (free_end image)) refl

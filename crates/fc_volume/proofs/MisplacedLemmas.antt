@@ -30,18 +30,9 @@ use Rattle.fc_tree.specs.declared.node.Node.{Node}
 use Rattle.fc_tree.specs.Parts.{AreOwners, owner_of}
 use Rattle.fc_volume.specs.Misplaced.{IsLeast, is_in_loose, is_in_some_loose, is_loose, lies_in}
 use Rattle.fc_image.proofs.CommandLemmas.{both_ways as both}
+use Rattle.fc_reclaim.proofs.RowLemmas.{map_low}
 
 -- ---- sizes
-
--- a map's sectors lie below 2^40
-map_low : (r : DiscRecord) → is_valid r ≡ true → (geometry r).map_sector + 2 * (geometry r).zones ≤ 2 ^ 40
-map_low r valid =
-    let facts = facts_of_valid r valid in
-    let g = geometry r in
-    let some = mul-le (g.map_sector + 2 * g.zones) 1 (g.map_sector + 2 * g.zones) g.sector (omega arith) (let e = pow_pos r.log2_sector in omega arith) in
-    let ends = facts.fits in
-    let small = facts.size in
-    omega (arith, some, ends, small)
 
 pub row_low : (m : Map) → IsNewMap m → m.geometry.map_sector + 2 * m.geometry.zones ≤ 2 ^ 40
 row_low m is = subst (λ (g : Geometry). g.map_sector + 2 * g.zones ≤ 2 ^ 40) is.of_record.1.1 (map_low is.of_record.0 is.of_record.1.0)

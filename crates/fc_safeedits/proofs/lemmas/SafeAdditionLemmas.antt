@@ -57,12 +57,7 @@ use Rattle.fc_safeedits.specs.SafeAddition.{SafeAddition, SafeAdditionLaw, Takes
 use Rattle.fc_safeedits.proofs.lemmas.AddedEntryLemmas.{entries_now, entry_steady}
 use Rattle.fc_safeedits.proofs.lemmas.AddedImageLemmas as i_
 use Rattle.fc_safeedits.proofs.lemmas.AddedPartsLemmas as m_
-
-none_of : (a b c e : Bool) → a ≡ false → b ≡ false → c ≡ false → e ≡ false → (a || b || c || e) ≡ false
-none_of true b c e p q r s = absurd (cc)
-none_of false true c e p q r s = absurd (cc)
-none_of false false true e p q r s = absurd (cc)
-none_of false false false e p q r s = s
+use Rattle.fc_safeedits.proofs.lemmas.GrowingAskedLemmas.{none_of}
 
 module _ (d : SafeAddition) where
   abbrev x : SafeChange
