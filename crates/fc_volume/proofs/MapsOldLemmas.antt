@@ -18,7 +18,7 @@ use Rattle.fc_image.specs.declared.ImageFault.{ImageFault}
 use Rattle.fc_image.specs.declared.ImageFault.TheVariants as faults
 use Rattle.fc_image.specs.Layout.{Layout}
 use Rattle.fc_image.specs.Opening.{MapAndRoot, holes_or, old_layout}
-use Rattle.fc_changes.proofs.lemmas.old.MapLemmas.{little_front, end_front, few, fault_by}
+use Rattle.fc_changes.proofs.lemmas.old.MapLemmas.{little_front, end_front, few, fault_by, u24_front, right_end, hole_front, holes_front, space_front, fault_front}
 
 -- ---- what reading answers
 
@@ -80,55 +80,6 @@ module _ (bytes : List ℕ) (units : ℕ) where
       by false h = absurd (cc)
 
 -- ---- the front of an image
-
-u24_front : (image : List ℕ) (i : ℕ) → i + 3 ≤ 512 → u24_at (take 512 image) i ≡ u24_at image i
-u24_front image i low =
-    let k : ℕ = 512 - i in
-    let e : 512 ≡ i + k = omega arith in
-    ap (λ n. little_number 3 (drop i (take n image))) e ∙ ap (little_number 3) (drop-take i k image) ∙ little_front k (drop i image) (omega arith)
-
-hole_front : (image : List ℕ) (i : ℕ) → i < 82 → stored_hole (take 512 image) i ≡ stored_hole image i
-hole_front image i low = ap₂ (λ a b. hole a b) (u24_front image (3 * i) (omega arith)) (u24_front image (256 + 3 * i) (omega arith))
-
-holes_front : (image : List ℕ) (n : ℕ) → n ≤ 82 → holes_of (take 512 image) n ≡ holes_of image n
-unfolding holes_of
-holes_front image zero low = refl
-holes_front image (suc n) low =
-    let e : suc n ≡ n + 1 = omega arith in
-    ap (holes_of (take 512 image)) e ∙ holes_step (take 512 image) n
-    ∙ ap₂ (λ hs h. hs ++ h ∷ []) (holes_front image n (omega arith)) (hole_front image n (omega arith))
-    ∙ sym (ap (holes_of image) e ∙ holes_step image n)
-
-space_front : (image : List ℕ) (units : ℕ) → is_free_end (free_end image) ≡ true → free_space (take 512 image) units ≡ free_space image units
-space_front image units right =
-    let ends = end_front image in
-    let holes : stored_holes (take 512 image) ≡ stored_holes image = ap (λ n. holes_of (take 512 image) (n / 3)) ends ∙ holes_front image (free_end image / 3) (few (free_end image) right) in
-    ap₂ (λ hs n. let s : OldMapContent = record { holes = hs; disc_units = n; sector_units = units } in s) holes (u24_front image 252 (omega arith))
-
-fault_front : (image : List ℕ) (units : ℕ) → hole_fault (take 512 image) units ≡ hole_fault image units
-fault_front image units = go (is_free_end (free_end image)) refl
-  where
-    go : (right : Bool) → is_free_end (free_end image) ≡ right → hole_fault (take 512 image) units ≡ hole_fault image units
-    go true right =
-        let ends = end_front image in
-        let s = space_front image units right in
-        let there : is_free_end (free_end (take 512 image)) ≡ true = ap is_free_end ends ∙ right in
-        ap (λ b. fault_by b (u24_at (take 512 image) 252) units (stored_holes (take 512 image)) (free_end (take 512 image))) there
-        ∙ ap (λ (x : OldMapContent). wrong_hole x.disc_units units 0 (map_units units) x.holes) s
-        ∙ sym (ap (λ b. fault_by b (u24_at image 252) units (stored_holes image) (free_end image)) right)
-    go false wrong =
-        let ends = end_front image in
-        let there : is_free_end (free_end (take 512 image)) ≡ false = ap is_free_end ends ∙ wrong in
-        ap (λ b. fault_by b (u24_at (take 512 image) 252) units (stored_holes (take 512 image)) (free_end (take 512 image))) there
-        ∙ ap (λ n. let o : Option ℕ = Some (n / 3) in o) ends
-        ∙ sym (ap (λ b. fault_by b (u24_at image 252) units (stored_holes image) (free_end image)) wrong)
-
-right_end : (bytes : List ℕ) (units : ℕ) → hole_fault bytes units ≡ None → is_free_end (free_end bytes) ≡ true
-right_end bytes units none = go (is_free_end (free_end bytes)) refl
-  where
-    go : (right : Bool) → is_free_end (free_end bytes) ≡ right → is_free_end (free_end bytes) ≡ true
-    go true right = right
-    go false wrong = absurd (let e = sym (ap (λ b. fault_by b (u24_at bytes 252) units (stored_holes bytes) (free_end bytes)) wrong) ∙ none in cc)
 
 module _ (image front : List ℕ) (units root : ℕ) (same : front ≡ take 512 image) where
   there : hole_fault front units ≡ hole_fault image units

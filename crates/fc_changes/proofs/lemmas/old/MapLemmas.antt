@@ -78,7 +78,7 @@ little_front k l high =
     let c = get_or-take k l 2 0 (omega arith) in
     omega (arith, a, b, c)
 
-u24_front : (image : List ℕ) (i : ℕ) → i + 3 ≤ 512 → u24_at (take 512 image) i ≡ u24_at image i
+pub u24_front : (image : List ℕ) (i : ℕ) → i + 3 ≤ 512 → u24_at (take 512 image) i ≡ u24_at image i
 u24_front image i low =
     let k : ℕ = 512 - i in
     let e : 512 ≡ i + k = omega arith in
@@ -87,10 +87,10 @@ u24_front image i low =
 pub end_front : (image : List ℕ) → free_end (take 512 image) ≡ free_end image
 end_front image = get_or-take 512 image 510 0 (omega arith)
 
-hole_front : (image : List ℕ) (i : ℕ) → i < 82 → stored_hole (take 512 image) i ≡ stored_hole image i
+pub hole_front : (image : List ℕ) (i : ℕ) → i < 82 → stored_hole (take 512 image) i ≡ stored_hole image i
 hole_front image i low = ap₂ (λ a b. hole a b) (u24_front image (3 * i) (omega arith)) (u24_front image (256 + 3 * i) (omega arith))
 
-holes_front : (image : List ℕ) (n : ℕ) → n ≤ 82 → holes_of (take 512 image) n ≡ holes_of image n
+pub holes_front : (image : List ℕ) (n : ℕ) → n ≤ 82 → holes_of (take 512 image) n ≡ holes_of image n
 unfolding holes_of
 holes_front image zero low = refl
 holes_front image (suc n) low =
@@ -102,7 +102,7 @@ holes_front image (suc n) low =
 pub few : (n : ℕ) → is_free_end n ≡ true → n / 3 ≤ 82
 few n right = let fits = leb-true n 246 (and_parts (n % 3 == 0) (nat_le n 246) right).1 in omega arith
 
-space_front : (image : List ℕ) (units : ℕ) → is_free_end (free_end image) ≡ true → free_space (take 512 image) units ≡ free_space image units
+pub space_front : (image : List ℕ) (units : ℕ) → is_free_end (free_end image) ≡ true → free_space (take 512 image) units ≡ free_space image units
 space_front image units right =
     let ends = end_front image in
     let holes : stored_holes (take 512 image) ≡ stored_holes image = ap (λ n. holes_of (take 512 image) (n / 3)) ends ∙ holes_front image (free_end image / 3) (few (free_end image) right) in
@@ -111,7 +111,7 @@ space_front image units right =
 abbrev pub fault_by : Bool → ℕ → ℕ → List Hole → ℕ → Option ℕ
 fault_by right disc units holes last = if right then wrong_hole disc units 0 (map_units units) holes else Some (last / 3)
 
-fault_front : (image : List ℕ) (units : ℕ) → hole_fault (take 512 image) units ≡ hole_fault image units
+pub fault_front : (image : List ℕ) (units : ℕ) → hole_fault (take 512 image) units ≡ hole_fault image units
 fault_front image units = go (is_free_end (free_end image)) refl
   where
     go : (right : Bool) → is_free_end (free_end image) ≡ right → hole_fault (take 512 image) units ≡ hole_fault image units
@@ -129,7 +129,7 @@ fault_front image units = go (is_free_end (free_end image)) refl
         ∙ ap (λ n. let o : Option ℕ = Some (n / 3) in o) ends
         ∙ sym (ap (λ b. fault_by b (u24_at image 252) units (stored_holes image) (free_end image)) wrong)
 
-right_end : (bytes : List ℕ) (units : ℕ) → hole_fault bytes units ≡ None → is_free_end (free_end bytes) ≡ true
+pub right_end : (bytes : List ℕ) (units : ℕ) → hole_fault bytes units ≡ None → is_free_end (free_end bytes) ≡ true
 right_end bytes units none = go (is_free_end (free_end bytes)) refl
   where
     go : (right : Bool) → is_free_end (free_end bytes) ≡ right → is_free_end (free_end bytes) ≡ true
