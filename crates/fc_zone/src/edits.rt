@@ -1,17 +1,17 @@
 // Edits of a zone in its sector. Each changes the list of runs as it says and leaves every other run.
 
-ghost use Rattle.std.specs.Prelude.{◌≡◌, ◌+◌, ◌-◌, ◌*◌, ◌^◌, ◌<◌, ◌≤◌, ◌⊎◌, ◌∷◌, [], List, length, slice_range};
+ghost use Rattle.std.specs.Prelude.{◌≡◌, ◌+◌, ◌-◌, ◌*◌, ◌^◌, ◌<◌, ◌≤◌, ◌⊎◌, ◌++◌, ◌∷◌, [], List, length, slice_range};
 ghost use Rattle.fc_bytes.specs.Bits.{AreZero, SameOutside, bits, num};
 ghost use Rattle.fc_zone.specs.declared.Run.{Run};
 ghost use Rattle.fc_zone.specs.declared.ZoneShape.{ZoneShape};
 ghost use Rattle.fc_zone.specs.Edits.{CanBeBlank, HasHoleAt, HasRunAt, HasRunToSplit, HasRunsToMerge, IsWritten, KeepsBytes, KeepsOutside, Merges, Relabels, Splits, WritesLinks, sealed, whole_hole};
 ghost use Rattle.fc_zone.specs.Reading.{runs_of};
-ghost use Rattle.fc_zone.specs.Zone.{IsShapeOf, Zone};
+ghost use Rattle.fc_zone.specs.Zone.{IsRun, IsShapeOf, Zone};
 
 use crate::links::{holder_before, hole_from, next_hole, set_link};
 use crate::reading::{end_of, kind_at};
 use crate::{RunKind, ZoneShape};
-use fc_bytes::{are_bytes, put_bits, zone_check};
+use fc_bytes::{are_bytes, get_bits, put_bits, zone_check};
 
 /// Turns the hole that begins at `start` into a run of an identifier.
 ///
@@ -78,6 +78,21 @@ pub fn split(b: &mut [u8], shape: &ZoneShape, start: u32, len: u32)
     }
 }
 
+// The kind of the run that begins at `start` and of the next, from `middle` on, which is of its kind. Two runs of an identifier have
+// the same field, so two whose fields differ are holes: the chain of holes is mostly not followed.
+fn kind_of_pair(b: &[u8], shape: &ZoneShape, start: u32, middle: u32) -> RunKind
+    requires shape { IsShapeOf b.now shape.now }
+    requires runs { HasRunsToMerge shape.now b.now start }
+    requires middle { IsRun shape.now (bits b.now) start middle }
+    ensures { (front rest : List Run) (run : Run) → Zone shape.now b.now (front ++ run ∷ rest) → run.start ≡ start → result ≡ run.kind }
+{
+    let field = u32::from(shape.idlen);
+    if get_bits(b, start, field) != get_bits(b, middle, field) {
+        return RunKind::Hole;
+    }
+    kind_at(b, shape, start)
+}
+
 /// Joins the run that begins at `start` with the next, which is of its kind: both are holes, or of one identifier.
 pub fn merge(b: &mut [u8], shape: &ZoneShape, start: u32)
     requires shape { IsShapeOf b.old shape.now }
@@ -89,7 +104,7 @@ pub fn merge(b: &mut [u8], shape: &ZoneShape, start: u32)
 {
     are_bytes(b);
     let middle = end_of(b, shape, start);
-    if let RunKind::Hole = kind_at(b, shape, start) {
+    if let RunKind::Hole = kind_of_pair(b, shape, start, middle) {
         let next = next_hole(b, shape, middle);
         set_link(b, shape, Some(start), next);
     }
