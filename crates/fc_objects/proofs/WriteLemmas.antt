@@ -3,18 +3,17 @@ use Rattle.std.proofs.Common.{◌≡◌, ◌⊎◌, inl, inr, ⊎_elim, ◌≤�
 use Rattle.std.specs.List.{flat_map, range_with_len}
 use Rattle.std.proofs.lemmas.Bool.{cases_lt}
 use Rattle.std.proofs.lemmas.Grind.{common_steps}
-use Rattle.std.proofs.lemmas.List.{length-replicate, length-take-le, take-replicate, drop-replicate, take_min, drop_min, drop-drop, append-nil, take-append-le, take-append-drop, take-take, drop-append-le, drop-take, drop_all}
+use Rattle.std.proofs.lemmas.List.{length-replicate, length-take-le, take-replicate, drop-replicate, drop_min, drop-drop, append-nil, take-append-le, take-append-drop, take-take, drop-append-le, drop-take, drop_all}
 use Rattle.std.proofs.lemmas.List.FromFn.{length-range_with_len, get_or-range_with_len}
 use Rattle.std.proofs.lemmas.Nat.{mul-le}
 use Rattle.std.proofs.Math.ListN.{get_or-append}
 use Rattle.std.proofs.Math.Seq.{drop-append-add, take-length}
 use Rattle.std.proofs.Math.Seq.{get_or-append_right}
-use Rattle.fc_device.specs.Sectors.{sector_at, with_row, IsMixOf, IsSectorSize}
+use Rattle.fc_device.specs.Sectors.{sector_at, with_row, IsMixOf}
 use Rattle.fc_device.proofs.SectorLemmas.{sector_at-with_row_before, sector_at-with_row_behind, sector_at-with_row_in}
 use Rattle.fc_objects.specs.Bytes.{first_bytes}
 use Rattle.fc_objects.specs.Written.{AreApart, HasParts, IsPartWritten, padded, part_at}
 use Rattle.fc_objects.proofs.BlockLemmas.{no_length, take_both, take_most}
-use Rattle.fc_device.proofs.MemoryLemmas.{most_of as size_most}
 
 -- ---- one sector
 
@@ -29,19 +28,16 @@ pub length-padded : (size : ℕ) (bytes : List ℕ) → length (padded size byte
 unfolding padded
 length-padded size bytes = length-take-le size (bytes ++ replicate size 0) (omega (arith, length-append bytes (replicate size 0), length-replicate {A = ℕ} size 0))
 
--- bytes copied over zeros
-pub sector_padded : (size count most : ℕ) (from copied zeros : List ℕ) → zeros ≡ replicate most 0 → count ≡ min size (length from) → copied ≡ take count from → size ≤ most
-    → take size (copied ++ drop count zeros) ≡ padded size from
-sector_padded size count most from copied zeros blank few is fits =
-    let long : length copied ≡ count = ap length is ∙ length-take-le count from (omega (arith, few)) in
-    let whole : take size copied ≡ copied = take_most size copied ∙ ap (λ (k : ℕ). take k copied) (let e : min size (length copied) ≡ length copied = omega (arith, long, few) in e) ∙ take-length copied in
-    let same : take count from ≡ take size from = ap (λ (k : ℕ). take k from) few ∙ take_min size from in
-    let tail : take (size - length copied) (drop count zeros) ≡ replicate (size - length from) 0 =
-    ap (λ (xs : List ℕ). take (size - length copied) (drop count xs)) blank
-    ∙ ap (take (size - length copied)) (drop-replicate count most 0)
-    ∙ zeros_front (size - length copied) (most - count) (omega (arith, long, few))
-    ∙ ap (λ (k : ℕ). replicate k 0) (let e : size - length copied ≡ size - length from = omega (arith, long, few) in e) in
-    take_both size copied (drop count zeros) ∙ ap₂ (λ (a b : List ℕ). a ++ b) (whole ∙ is ∙ same) tail ∙ sym (padded_is size from)
+-- bytes copied over zeros, which are more
+pub end_padded : (size most : ℕ) (bytes copied : List ℕ) → copied ≡ bytes → length bytes < size → size ≤ most → take size (copied ++ drop (length bytes) (replicate most 0)) ≡ padded size bytes
+end_padded size most bytes copied is few fits =
+    let zeros : take (size - length bytes) (drop (length bytes) (replicate most 0)) ≡ replicate (size - length bytes) 0 =
+    ap (take (size - length bytes)) (drop-replicate (length bytes) most 0)
+    ∙ zeros_front (size - length bytes) (most - length bytes) (omega (arith, fits)) in
+    ap (λ (l : List ℕ). take size (l ++ drop (length bytes) (replicate most 0))) is
+    ∙ take_both size bytes (drop (length bytes) (replicate most 0))
+    ∙ ap (λ (l : List ℕ). take size bytes ++ l) zeros
+    ∙ sym (padded_is size bytes)
 
 -- ---- sectors one after another
 
@@ -62,13 +58,12 @@ pub padded_front : (most : ℕ) (bytes : List ℕ) → most ≤ length bytes →
 unfolding padded
 padded_front most bytes le = take-append-le most bytes (replicate most 0) le
 
--- Only less than a sector of bytes doesn't fill its row.
-pub end_row : (count size left most : ℕ) → 0 < count → count ≤ most → (left < size → most * size ≤ 16384) → (size ≤ left → most * size ≤ left) → left < count * size
-    → (left < size) × (size ≤ count * size) × (count * size ≤ 16384)
-end_row count size left most some few zeros enough short =
+-- Only less than a sector of bytes doesn't fill its row, and the row is short then.
+pub end_row : (count size left most : ℕ) → count ≤ most → (left < size → most * size ≤ 16384) → (size ≤ left → most * size ≤ left) → left < count * size → count * size ≤ 16384
+end_row count size left most few zeros enough short =
     let up : count * size ≤ most * size = mul-le count size most size few (omega arith) in
     elim (cases_lt left size) [
-      | inl below ↦ (below, omega (arith, mul-le 1 size count size some (omega arith)), omega (arith, up, zeros below))
+      | inl below ↦ omega (arith, up, zeros below)
       | inr above ↦ absurd (omega (arith, short, enough above, up))
     ]
 

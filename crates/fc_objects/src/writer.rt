@@ -1,28 +1,18 @@
 // The bytes of an object, written.
-ghost use Rattle.std.specs.Prelude.{◌≡◌, ◌<◌, ◌≤◌, ◌*◌, ℕ, List, All, IsTrue, IsFalse, OnOk, Some, length, take};
+ghost use Rattle.std.specs.Prelude.{◌≡◌, ◌<◌, ◌≤◌, ◌+◌, ◌*◌, ℕ, List, All, IsTrue, IsFalse, OnOk, Some, length, option_map};
 ghost use Rattle.std.specs.Option.{ForSome};
-ghost use Rattle.fc_device.specs.Calls.{FailsByFault, SameForm, StopsAndExitsLeave};
-ghost use Rattle.fc_device.specs.Stops.{StillLeaves};
+ghost use Rattle.fc_device.specs.Calls.{FailsByFault, SameForm, StopsAndExitsLeave, StopsTearRow};
+ghost use Rattle.fc_device.specs.Sectors.{with_row};
+ghost use Rattle.fc_device.specs.Stops.{HasRowPart, StillLeaves};
 ghost use Rattle.fc_objects.specs.Bytes.{first_bytes};
 ghost use Rattle.fc_objects.specs.Extents.{sectors_in};
 ghost use Rattle.fc_objects.specs.Written.{AreApart, HasParts, IsPartWritten, StopsTear, padded};
 
 use crate::sectors::Sectors;
-use fc_device::{Disk, DiskFault, Extent};
+use fc_device::{Disk, DiskFault, Extent, Failed, MAX_SECTOR};
 
 // So many bytes are written at once where the bytes end and zeros follow.
 const ROW: usize = 16384;
-
-// Less than a sector of bytes, and zeros after them.
-fn ending(from: &[u8], size: usize) -> [u8; ROW]
-    requires { size ≤ 1024 }
-    ensures { length from.now < size → (whole : ℕ) → size ≤ whole → whole ≤ 16384 → take whole result ≡ padded whole from.now }
-{
-    let mut bytes = [0; ROW];
-    let count = size.min(from.len());
-    bytes[..count].copy_from_slice(&from[..count]);
-    bytes
-}
 
 // How many sectors to write at once: those that so many bytes fill, or a row of zeros if they fill none.
 fn sectors_at_once(left: usize, size: usize) -> u64
@@ -39,16 +29,32 @@ fn sectors_at_once(left: usize, size: usize) -> u64
     }
 }
 
-// The first of these bytes as whole sectors. If there are fewer, those of their end, where zeros follow them.
-fn row_of<'a>(from: &'a [u8], whole: usize, end: &'a [u8; ROW]) -> &'a [u8]
-    requires few { length from.now < whole → whole ≤ 16384 }
-    requires end { length from.now < whole → take whole end.now ≡ padded whole from.now }
-    ensures { result.now ≡ padded whole from.now }
+// Writes a row of so many bytes: the first of these, or all of them and zeros after them. Clearing the buffer of a long row is
+// dear, so it is made only where that of a sector has no room.
+fn write_next<D: Disk>(disk: &mut D, row: Extent, from: &[u8], whole: usize) -> Result<(), Failed>
+    requires attached { IsTrue (D.attached disk.old) }
+    requires on_disk { row.first + row.sectors ≤ D.sectors disk.old }
+    requires whole { whole ≡ row.sectors * D.sector_size disk.old }
+    requires zeros { length from.now < whole → whole ≤ 16384 }
+    ensures written { OnOk result (D.bytes disk.new ≡ option_map (λ image. with_row (D.sector_size disk.old) image row.first (padded whole from.now)) (D.bytes disk.old)) }
+    ensures old_or_new { HasRowPart (D.sector_size disk.old) row.first (padded whole from.now) (D.bytes disk.old) (D.bytes disk.new) }
+    ensures form { SameForm D.Disk disk.old disk.new }
+    ensures stops { StopsTearRow D.Disk disk.old disk.new row.first (padded whole from.now) }
+    ensures still { StillLeaves D.moment D.left_since disk.old disk.new }
+    ensures read_calls { D.read_calls disk.new ≡ D.read_calls disk.old }
+    ensures cause { FailsByFault D.Disk disk.old disk.new result }
 {
-    if whole <= from.len() {
-        &from[..whole]
+    let count = from.len();
+    if whole <= count {
+        disk.write_row(row, &from[..whole])
+    } else if whole <= MAX_SECTOR {
+        let mut bytes = [0; MAX_SECTOR];
+        bytes[..count].copy_from_slice(from);
+        disk.write_row(row, &bytes[..whole])
     } else {
-        &end[..whole]
+        let mut bytes = [0; ROW];
+        bytes[..count].copy_from_slice(from);
+        disk.write_row(row, &bytes[..whole])
     }
 }
 
@@ -80,8 +86,7 @@ pub fn write_object<D: Disk>(
     let mut left = from;
     while let Some(row) = sectors.next_row(sectors_at_once(left.len(), size)) {
         let whole = row.sectors as usize * size;
-        let end = ending(left, size);
-        disk.write_row(row, row_of(left, whole, &end))?;
+        write_next(disk, row, left, whole)?;
         left = &left[whole.min(left.len())..];
     }
     Ok(())
