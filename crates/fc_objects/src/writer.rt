@@ -11,6 +11,9 @@ ghost use Rattle.fc_objects.specs.Written.{AreApart, HasParts, IsPartWritten, St
 use crate::sectors::Sectors;
 use fc_device::{Disk, DiskFault, Extent, Failed, MAX_SECTOR};
 
+// The bytes of a short row: two of the largest sectors, as the least objects of E discs have.
+const SHORT_ROW: usize = 2 * MAX_SECTOR;
+
 // So many bytes are written at once where the bytes end and zeros follow.
 const ROW: usize = 16384;
 
@@ -30,7 +33,7 @@ fn sectors_at_once(left: usize, size: usize) -> u64
 }
 
 // Writes a row of so many bytes: the first of these, or all of them and zeros after them. Clearing the buffer of a long row is
-// dear, so it is made only where that of a sector has no room.
+// dear, so it is made only where that of a short one has no room.
 fn write_next<D: Disk>(disk: &mut D, row: Extent, from: &[u8], whole: usize) -> Result<(), Failed>
     requires attached { IsTrue (D.attached disk.old) }
     requires on_disk { row.first + row.sectors ≤ D.sectors disk.old }
@@ -47,8 +50,8 @@ fn write_next<D: Disk>(disk: &mut D, row: Extent, from: &[u8], whole: usize) -> 
     let count = from.len();
     if whole <= count {
         disk.write_row(row, &from[..whole])
-    } else if whole <= MAX_SECTOR {
-        let mut bytes = [0; MAX_SECTOR];
+    } else if whole <= SHORT_ROW {
+        let mut bytes = [0; SHORT_ROW];
         bytes[..count].copy_from_slice(from);
         disk.write_row(row, &bytes[..whole])
     } else {
@@ -59,9 +62,9 @@ fn write_next<D: Disk>(disk: &mut D, row: Extent, from: &[u8], whole: usize) -> 
 }
 
 /// Writes bytes into the sectors of an object, one after another, and zeros into what is left of them. Sectors that lie in a row are
-/// written in one call if the bytes fill them, and some at once where zeros follow. Bytes for which the sectors have no room are left out. The object is given by its extents, all of which lie on the disk, and `size` is the
-/// bytes of a sector. No other sector changes. Until a sync, a crash may leave each of these sectors old or new, and so
-/// does a failure. It fails only if the disk's write fails.
+/// written in one call if the bytes fill them, and some at once where zeros follow. Bytes for which the sectors have no room are left
+/// out. The object is given by its extents, all of which lie on the disk, and `size` is the bytes of a sector. No other sector changes.
+/// Until a sync, a crash may leave each of these sectors old or new, and so does a failure. It fails only if the disk's write fails.
 pub fn write_object<D: Disk>(
     disk: &mut D,
     size: usize,
