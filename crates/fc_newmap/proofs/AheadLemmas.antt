@@ -1,7 +1,7 @@
 -- A search for an identifier that begins and ends where its runs can begin and end.
-use Rattle.std.proofs.Common.{◌≡◌, ◌<◌, ◌≤◌, ◌⊎◌, ℕ, zero, suc, ◌+◌, ◌-◌, Bool, false, cond, List, [], ◌∷◌, ◌++◌, refl, sym, ap, ap₂, subst, ◌∙◌, inl, inr, arith}
+use Rattle.std.proofs.Common.{◌≡◌, ◌<◌, ◌≤◌, ◌⊎◌, ℕ, zero, suc, ◌+◌, ◌-◌, Bool, true, false, cond, List, [], ◌∷◌, ◌++◌, refl, sym, ap, ap₂, subst, ◌∙◌, inl, inr, arith}
 use Rattle.std.specs.Prelude.{Contains, filter}
-use Rattle.std.proofs.lemmas.Bool.{cases_lt, le-leb, lt-leb, or_parts as neither}
+use Rattle.std.proofs.lemmas.Bool.{cases_eq, cases_lt, le-leb, lt-leb, or_parts as neither, true_from_ne_false}
 use Rattle.std.proofs.lemmas.List.{append-nil, map-append}
 use Rattle.std.proofs.lemmas.List.Concat.{flat_map-append}
 use Rattle.std.proofs.lemmas.List.Elements.{Contains-append_left, filter-append}
@@ -12,14 +12,14 @@ use Rattle.fc_zone.specs.Edits.{HasRunAt}
 use Rattle.fc_newmap.specs.declared.tally.IdTally.{IdTally}
 use Rattle.fc_newmap.specs.declared.tally.Search.{Search}
 use Rattle.fc_newmap.specs.declared.walk.Walk.{Walk}
-use Rattle.fc_newmap.specs.Map.{Map, ZoneRun, has_id, home_zone, id_runs, runs_in, runs_of, search_order, sector_of, shape}
+use Rattle.fc_newmap.specs.Map.{Map, ZoneRun, bits_in, has_id, home_zone, id_runs, runs_in, runs_of, search_order, sector_of, shape}
 use Rattle.fc_newmap.specs.NewMap.{IsNewMap}
 use Rattle.fc_newmap.specs.RunsLaw.{placed}
 use Rattle.fc_newmap.specs.Tally.{IsFirstIn, IsRow, IsSearch, has_run_of, zones_before}
 use Rattle.fc_newmap.specs.Walk.{StandsAt, StandsBefore, StandsBeforeFirst, zone_after, zone_up, zones_from}
 use Rattle.fc_newmap.proofs.ComposeLemmas.{zone_cut}
 use Rattle.fc_newmap.proofs.PlaceLemmas.{home_low}
-use Rattle.fc_newmap.proofs.RowLemmas.{any_none, any_of, contains_cut, front_before, not_below}
+use Rattle.fc_newmap.proofs.RowLemmas.{any_none, any_of, before_same, contains_cut, front_before, not_below}
 use Rattle.fc_newmap.proofs.WalkLemmas.{after_last, after_other, filter_later, of_id, order_is}
 
 -- ---- zones up, and round
@@ -260,3 +260,27 @@ none_till g id ahead reach z y first z_low low few is none from early =
 pub none_by : (m : Map) (id : ℕ) (row : IdTally) (y : ℕ) → IsRow m id row → y < m.geometry.zones → (zones_before m.geometry id y < row.ahead) ⊎ (row.reach ≤ zones_before m.geometry id y) → has_run_of m id y ≡ false
 none_by m id row y is low (inl less) = is.ahead y low less
 none_by m id row y is low (inr more) = is.reach y low more
+
+-- ---- one zone has all runs
+
+-- if no zone has a run of the identifier, it has no bits
+no_bits : (m : Map) (id : ℕ) → 1 ≤ m.geometry.zones → ((z : ℕ) → z < m.geometry.zones → has_run_of m id z ≡ false) → bits_in (id_runs m id) ≡ 0
+no_bits m id some none =
+    let g = m.geometry in
+    let empty : id_runs m id ≡ [] = ap (λ (zs : List ℕ). filter (of_id id) (runs_in m zs)) (sym (order_is g id (g.zones - 1) (omega (arith, some))))
+    ∙ none_between m id 0 (suc (g.zones - 1)) (omega (arith, some)) (λ z low from to. none z low) in
+    ap bits_in empty
+
+-- it has some, and but one zone may have them
+pub only_zone : (m : Map) (id : ℕ) (row : IdTally) (z : ℕ) → IsRow m id row → z < m.geometry.zones → (row.bits ≡ 0 → ⊥) → row.ahead < m.geometry.zones → row.reach ≡ row.ahead + 1 → z ≡ zone_up m.geometry (home_zone m.geometry id) row.ahead
+    → has_run_of m id z ≡ true
+only_zone m id row z is low some few reach at = true_from_ne_false (has_run_of m id z) (λ none.
+    some (is.bits ∙ no_bits m id (omega arith) (λ y y_low. elim (cases_lt (zones_before m.geometry id y) row.ahead) [
+      | inl less ↦ is.ahead y y_low less
+      | inr more ↦ elim (cases_eq (zones_before m.geometry id y) row.ahead) [
+        | inl same ↦ (
+            let here = before_same m.geometry id y z y_low low (same ∙ sym (ap (zones_before m.geometry id) at ∙ before_up m.geometry id row.ahead few)) in
+            ap (has_run_of m id) here ∙ none)
+        | inr other ↦ is.reach y y_low (omega (arith, reach, more, other))
+      ]
+    ])))

@@ -1,6 +1,6 @@
 -- What a row of a tally says of the places of an identifier's runs, and of which runs it says it still.
-use Rattle.std.proofs.Common.{◌≡◌, ◌<◌, ◌≤◌, ℕ, ◌+◌, ◌-◌, Bool, true, false, cond, List, [], ◌∷◌, ◌++◌, refl, sym, ap, subst, ◌∙◌, inl, inr, arith, eq-eqb, min, max}
-use Rattle.std.specs.Prelude.{◌⊎◌, ◌||◌, ◌==◌, Contains, Ok, Err, nat_le}
+use Rattle.std.proofs.Common.{◌≡◌, ◌<◌, ◌≤◌, ℕ, ◌+◌, ◌-◌, Bool, true, false, cond, List, [], ◌∷◌, ◌++◌, refl, sym, ap, subst, ◌∙◌, inl, inr, arith, eq-eqb, ap₂, min, max}
+use Rattle.std.specs.Prelude.{◌⊎◌, ◌&&◌, ◌==◌, Contains, Ok, Err, nat_le, nat_lt}
 use Rattle.std.specs.List.{list_any}
 use Rattle.std.proofs.lemmas.Bool.{cases_eq, cases_lt, ne_eqb, lt-ltb, le-ltb, le-leb, lt-leb, false_from_ne_true, or_parts as neither, or_from as none_of_both}
 use Rattle.std.proofs.lemmas.List.Elements.{Contains-append_cases, Contains-append_left, Contains-append_right}
@@ -10,9 +10,10 @@ use Rattle.fc_zone.specs.declared.ZoneShape.{ZoneShape}
 use Rattle.fc_zone.specs.Zone.{Spells}
 use Rattle.fc_zone.proofs.HolderLemmas.{Spells-split}
 use Rattle.fc_newmap.specs.declared.tally.IdTally.{IdTally}
+use Rattle.fc_newmap.specs.declared.tally.NewestRun.{NewestRun}
 use Rattle.fc_newmap.specs.Map.{Map, ZoneRun, bits_in, has_id, home_zone, id_runs, runs_of}
 use Rattle.fc_newmap.specs.RunsLaw.{placed}
-use Rattle.fc_newmap.specs.Tally.{IsFirst, IsRow, first_start, no_runs, row_with, zones_before}
+use Rattle.fc_newmap.specs.Tally.{IsBitOf, IsFirst, IsNewest, IsRow, first_start, meets, newest_left, no_newest, no_runs, row_left, row_with, start_left, zones_before}
 use Rattle.fc_newmap.proofs.PlaceLemmas.{contains_cases, contains_none, home_low}
 use Rattle.fc_zone.proofs.ZoneLemmas.{Contains-head as contains_here, Contains-tail as contains_later}
 
@@ -58,6 +59,22 @@ first_kept id start In Those there back first =
       least = λ other in' is. (let x = back other in' is in omega (arith, x.1.2, first.least x.0 x.1.0 x.1.1));
     }
 
+-- each bit of the identifier's runs in one set is one of those in another
+abbrev pub Spans : ℕ → (Run → Type 0) → (Run → Type 0) → Type 0
+Spans id In Those = (bit : ℕ) → IsBitOf id In bit → IsBitOf id Those bit
+
+pub bit_in : (id : ℕ) (In Those : Run → Type 0) (bit : ℕ) → (b : IsBitOf id In bit) → Those b.run → IsBitOf id Those bit
+bit_in id In Those bit b in' = record {
+  run = b.run;
+  among = in';
+  of_id = b.of_id;
+  from = b.from;
+  before = b.before;
+}
+
+pub spans_of : (id : ℕ) (In Those : Run → Type 0) → ((run : Run) → In run → Those run) → Spans id In Those
+spans_of id In Those all = λ bit b. bit_in id In Those bit b (all b.run b.among)
+
 -- ---- what a row says
 
 -- The row says where the identifier has its runs, of which each zone has these.
@@ -65,6 +82,7 @@ pub record Fits (g : Geometry) (id : ℕ) (In : ℕ → Run → Type 0) (row : I
   pub ahead : (z : ℕ) (run : Run) → z < g.zones → In z run → has_id id run.kind ≡ true → row.ahead ≤ zones_before g id z
   pub reach : (z : ℕ) (run : Run) → z < g.zones → In z run → has_id id run.kind ≡ true → zones_before g id z < row.reach
   pub start : (z : ℕ) → z < g.zones → zones_before g id z ≡ row.ahead → (row.start ≡ 0 → ⊥) → IsFirst id (In z) row.start
+  pub newest : (row.newest.len ≡ 0 → ⊥) → IsNewest g id In row.newest
 
 abbrev pub RunsOf : Map → ℕ → Run → Type 0
 RunsOf m z = Contains (runs_of m z)
@@ -82,6 +100,7 @@ row_fits m id row is = record {
         | inr more ↦ absurd (none_any id (runs_of m z) run (is.reach z low more) in' of_id)
       ];
   start = is.start;
+  newest = is.newest;
 }
 
 pub not_below : (a b : ℕ) → a ≤ b → b < a → ⊥
@@ -95,6 +114,7 @@ fits_row m id row bits fits = record {
   reach = λ z low more.
       any_none id (runs_of m z) (λ run c is. not_below row.reach (zones_before m.geometry id z) more (fits.reach z run low c is));
   start = fits.start;
+  newest = fits.newest;
 }
 
 pub fits_none : (g : Geometry) (id : ℕ) (In : ℕ → Run → Type 0) → ((z : ℕ) (run : Run) → z < g.zones → In z run → has_id id run.kind ≡ true → ⊥) → Fits g id In (no_runs g)
@@ -102,30 +122,31 @@ fits_none g id In none = record {
   ahead = λ z run low in' is. absurd (none z run low in' is);
   reach = λ z run low in' is. absurd (none z run low in' is);
   start = λ z low e some. absurd (some refl);
+  newest = λ some. absurd (some refl);
+}
+
+newest_kept : (g : Geometry) (id : ℕ) (In Those : ℕ → Run → Type 0) (newest : NewestRun) → ((z : ℕ) → z < g.zones → Spans id (In z) (Those z)) → IsNewest g id In newest → IsNewest g id Those newest
+newest_kept g id In Those newest spans is = record {
+  zone = is.zone;
+  low = is.low;
+  before = is.before;
+  bits = λ bit from to. spans is.zone is.low bit (is.bits bit from to);
 }
 
 -- other runs in the same zones
 pub fits_kept : (g : Geometry) (id : ℕ) (In Those : ℕ → Run → Type 0) (row : IdTally) → ((z : ℕ) → z < g.zones → Covers id (In z) (Those z)) → ((z : ℕ) → z < g.zones → Covers id (Those z) (In z))
-    → Fits g id In row → Fits g id Those row
-fits_kept g id In Those row there back fits = record {
+    → ((z : ℕ) → z < g.zones → Spans id (In z) (Those z)) → Fits g id In row → Fits g id Those row
+fits_kept g id In Those row there back spans fits = record {
   ahead = λ z run low in' is. (let x = back z low run in' is in fits.ahead z x.0 low x.1.0 x.1.1);
   reach = λ z run low in' is. (let x = back z low run in' is in fits.reach z x.0 low x.1.0 x.1.1);
   start = λ z low e some. first_kept id row.start (In z) (Those z) (there z low) (back z low) (fits.start z low e some);
-}
-
--- fewer runs, of which the first isn't known
-pub fits_fewer : (g : Geometry) (id : ℕ) (In Those : ℕ → Run → Type 0) (row less : IdTally) → less.ahead ≡ row.ahead → less.reach ≡ row.reach → less.start ≡ 0
-    → ((z : ℕ) → z < g.zones → Covers id (Those z) (In z)) → Fits g id In row → Fits g id Those less
-fits_fewer g id In Those row less ahead reach start back fits = record {
-  ahead = λ z run low in' is. (let x = back z low run in' is in subst (λ (n : ℕ). n ≤ zones_before g id z) (sym ahead) (fits.ahead z x.0 low x.1.0 x.1.1));
-  reach = λ z run low in' is. (let x = back z low run in' is in subst (λ (n : ℕ). zones_before g id z < n) (sym reach) (fits.reach z x.0 low x.1.0 x.1.1));
-  start = λ z low e some. absurd (some start);
+  newest = λ some. newest_kept g id In Those row.newest spans (fits.newest some);
 }
 
 -- ---- a run more
 
 -- the search comes to each zone once
-before_same : (g : Geometry) (id y z : ℕ) → y < g.zones → z < g.zones → zones_before g id y ≡ zones_before g id z → y ≡ z
+pub before_same : (g : Geometry) (id y z : ℕ) → y < g.zones → z < g.zones → zones_before g id y ≡ zones_before g id z → y ≡ z
 before_same g id y z in' low e =
     let home = home_zone g id in
     let home_in = home_low g id (omega arith) in
@@ -254,8 +275,8 @@ module _ (g : Geometry) (id z : ℕ) (In : ℕ → Run → Type 0) (row : IdTall
       above : (a b : ℕ) → a ≤ b → (b ≡ a → ⊥) → a < b
       above a b h other = omega arith
 
-  pub fits_more : (len : ℕ) → Fits g id (More In z run) (row_with row (zones_before g id z) run.start len)
-  fits_more len = record {
+  pub fits_more : (len : ℕ) → len ≡ run.len → Fits g id (More In z run) (row_with row (zones_before g id z) run.start len)
+  fits_more len whole = record {
     ahead = λ y other y_low in' of_id. elim in' [
       | inl old ↦ left_low row.ahead (zones_before g id z) (zones_before g id y) (fits.ahead y other y_low old of_id)
       | inr new ↦ right_low row.ahead (zones_before g id z) (zones_before g id y) (ap (zones_before g id) new.0)
@@ -265,6 +286,18 @@ module _ (g : Geometry) (id z : ℕ) (In : ℕ → Run → Type 0) (row : IdTall
       | inr new ↦ right_high row.reach (zones_before g id z) (zones_before g id y) (ap (zones_before g id) new.0)
     ];
     start = first_more;
+    newest = λ some. record {
+      zone = z;
+      low = low;
+      before = refl;
+      bits = λ bit from to. record {
+        run = run;
+        among = inr (refl, refl);
+        of_id = is;
+        from = from;
+        before = subst (λ (n : ℕ). bit < run.start + n) whole to;
+      };
+    };
   }
     where
       left_low : (a b n : ℕ) → a ≤ n → min a b ≤ n
@@ -278,6 +311,79 @@ module _ (g : Geometry) (id z : ℕ) (In : ℕ → Run → Type 0) (row : IdTall
 
       right_high : (a b n : ℕ) → n ≡ b → n < max a (b + 1)
       right_high a b n h = omega arith
+
+-- ---- a run less
+
+start_gone : (row : IdTally) (before start : ℕ) → before ≡ row.ahead → start ≡ row.start → start_left row before start ≡ 0
+start_gone row before start zone at =
+    ap₂ (λ (a b : Bool). cond (a && b) 0 row.start) (eq-eqb before row.ahead zone) (eq-eqb start row.start at)
+
+start_stays : (row : IdTally) (before start : ℕ) → (before ≡ row.ahead → start ≡ row.start → ⊥) → start_left row before start ≡ row.start
+start_stays row before start other = elim (cases_eq before row.ahead) [
+  | inl zone ↦ ap₂ (λ (a b : Bool). cond (a && b) 0 row.start) (eq-eqb before row.ahead zone) (ne_eqb start row.start (other zone))
+  | inr ne ↦ ap (λ (a : Bool). cond (a && (start == row.start)) 0 row.start) (ne_eqb before row.ahead ne)
+]
+
+meets_there : (newest : NewestRun) (before start len bit : ℕ) → before ≡ newest.before → newest.start ≤ bit → bit < newest.start + newest.len → start ≤ bit → bit < start + len → meets newest before start len ≡ true
+meets_there newest before start len bit zone from to from' to' =
+    ap (λ (a : Bool). a && cond (nat_le start newest.start) (nat_lt newest.start (start + len)) (nat_lt start (newest.start + newest.len))) (eq-eqb before newest.before zone)
+    ∙ elim (cases_lt newest.start start) [
+      | inl less ↦ ap (λ (b : Bool). cond b (nat_lt newest.start (start + len)) (nat_lt start (newest.start + newest.len))) (lt-leb start newest.start less)
+          ∙ lt-ltb start (newest.start + newest.len) (omega arith)
+      | inr more ↦ ap (λ (b : Bool). cond b (nat_lt newest.start (start + len)) (nat_lt start (newest.start + newest.len))) (le-leb start newest.start more)
+          ∙ lt-ltb newest.start (start + len) (omega arith)
+    ]
+
+module _ (g : Geometry) (id z : ℕ) (In Those : ℕ → Run → Type 0) (row : IdTally) (run : Run) (back : (y : ℕ) → Covers id (Those y) (In y)) (kept : (y : ℕ) (other : Run) → In y other → More Those z run y other) (fits : Fits g id In row) where
+  -- the first is another
+  first_stays : (y : ℕ) → y < g.zones → zones_before g id y ≡ row.ahead → (row.start ≡ 0 → ⊥) → (zones_before g id z ≡ row.ahead → run.start ≡ row.start → ⊥) → IsFirst id (Those y) row.start
+  first_stays y low e some other =
+      let first = fits.start y low e some in
+      record {
+        run = first.run;
+        among = elim (kept y first.run first.among) [
+          | inl still ↦ still
+          | inr gone ↦ absurd (other (ap (zones_before g id) (sym gone.0) ∙ e) (ap (λ (u : Run). u.start) (sym gone.1) ∙ first.begins))
+        ];
+        of_id = first.of_id;
+        begins = first.begins;
+        least = λ next in' of_id. (let x = back y next in' of_id in omega (arith, x.1.2, first.least x.0 x.1.0 x.1.1));
+      }
+
+  first_less : (y : ℕ) → y < g.zones → zones_before g id y ≡ row.ahead → (start_left row (zones_before g id z) run.start ≡ 0 → ⊥) → IsFirst id (Those y) (start_left row (zones_before g id z) run.start)
+  first_less y low e some =
+      let other : zones_before g id z ≡ row.ahead → run.start ≡ row.start → ⊥ = λ zone at. some (start_gone row (zones_before g id z) run.start zone at) in
+      let is = start_stays row (zones_before g id z) run.start other in
+      subst (IsFirst id (Those y)) (sym is) (first_stays y low e (λ none. some (is ∙ none)) other)
+
+  -- the newest is another, and has no bits of this one
+  newest_stays : meets row.newest (zones_before g id z) run.start run.len ≡ false → IsNewest g id In row.newest → IsNewest g id Those row.newest
+  newest_stays apart is = record {
+    zone = is.zone;
+    low = is.low;
+    before = is.before;
+    bits = λ bit from to.
+        (let b = is.bits bit from to in
+        elim (kept is.zone b.run b.among) [
+          | inl still ↦ bit_in id (In is.zone) (Those is.zone) bit b still
+          | inr gone ↦ absurd (not_both (meets row.newest (zones_before g id z) run.start run.len)
+              (meets_there row.newest (zones_before g id z) run.start run.len bit (ap (zones_before g id) (sym gone.0) ∙ is.before) from to
+              (subst (λ (u : Run). u.start ≤ bit) gone.1 b.from) (subst (λ (u : Run). bit < u.start + u.len) gone.1 b.before))
+              apart)
+        ]);
+  }
+
+  newest_less : (newest : NewestRun) (met : Bool) → meets row.newest (zones_before g id z) run.start run.len ≡ met → newest ≡ cond met no_newest row.newest → (newest.len ≡ 0 → ⊥) → IsNewest g id Those newest
+  newest_less newest true met e some = absurd (some (ap (λ (n : NewestRun). n.len) e))
+  newest_less newest false met e some = subst (IsNewest g id Those) (sym e) (newest_stays met (fits.newest (λ none. some (ap (λ (n : NewestRun). n.len) e ∙ none))))
+
+  pub fits_left : Fits g id Those (row_left row (zones_before g id z) run.start run.len)
+  fits_left = record {
+    ahead = λ y other low in' is. (let x = back y other in' is in fits.ahead y x.0 low x.1.0 x.1.1);
+    reach = λ y other low in' is. (let x = back y other in' is in fits.reach y x.0 low x.1.0 x.1.1);
+    start = first_less;
+    newest = newest_less (newest_left row.newest (zones_before g id z) run.start run.len) (meets row.newest (zones_before g id z) run.start run.len) refl refl;
+  }
 
 -- ---- the runs of one zone change
 
@@ -309,6 +415,46 @@ covers_mid id front olds news rest mid run c is = elim (Contains-append_cases fr
   ]
 ]
 
+spans_same : (id : ℕ) (In : Run → Type 0) → Spans id In In
+spans_same id In bit b = b
+
+pub spans_nil : (id : ℕ) (Those : Run → Type 0) → Spans id (Contains []) Those
+spans_nil id Those = λ bit b. absurd (contains_none b.run b.among)
+
+pub spans_cons : (id : ℕ) (run : Run) (runs : List Run) (Those : Run → Type 0) → (has_id id run.kind ≡ true → (bit : ℕ) → run.start ≤ bit → bit < run.start + run.len → IsBitOf id Those bit)
+    → Spans id (Contains runs) Those → Spans id (Contains (run ∷ runs)) Those
+spans_cons id run runs Those first rest = λ bit b. elim (contains_cases run runs b.run b.among) [
+  | Ok here ↦ first (ap (λ (u : Run). has_id id u.kind) here ∙ b.of_id) bit
+      (subst (λ (u : Run). u.start ≤ bit) (sym here) b.from) (subst (λ (u : Run). bit < u.start + u.len) (sym here) b.before)
+  | Err later ↦ rest bit (bit_in id (Contains (run ∷ runs)) (Contains runs) bit b later)
+]
+
+pub spans_none : (id : ℕ) (run : Run) (Those : Run → Type 0) → has_id id run.kind ≡ false → Spans id (Contains (run ∷ [])) Those
+spans_none id run Those none = spans_cons id run [] Those (λ is. absurd (not_both (has_id id run.kind) is none)) (spans_nil id Those)
+
+spans_mid : (id : ℕ) (front olds news rest : List Run) → Spans id (Contains olds) (Contains news) → Spans id (Contains (front ++ (olds ++ rest))) (Contains (front ++ (news ++ rest)))
+spans_mid id front olds news rest mid bit b =
+    let Was = Contains (front ++ (olds ++ rest)) in
+    let Now = Contains (front ++ (news ++ rest)) in
+    elim (Contains-append_cases front (olds ++ rest) b.run b.among) [
+      | inl first ↦ bit_in id Was Now bit b (Contains-append_left front (news ++ rest) b.run first)
+      | inr more ↦ elim (Contains-append_cases olds rest b.run more) [
+        | inl old ↦ (
+            let x = mid bit (bit_in id Was (Contains olds) bit b old) in
+            bit_in id (Contains news) Now bit x (Contains-append_right front (news ++ rest) x.run (Contains-append_left news rest x.run x.among)))
+        | inr last ↦ bit_in id Was Now bit b (Contains-append_right front (news ++ rest) b.run (Contains-append_right news rest b.run last))
+      ]
+    ]
+
+pub spans_edited : (id z : ℕ) (was now : ℕ → List Run) (front olds news rest : List Run) → ((y : ℕ) → (y ≡ z → ⊥) → now y ≡ was y) → was z ≡ front ++ (olds ++ rest) → now z ≡ front ++ (news ++ rest)
+    → Spans id (Contains olds) (Contains news) → (y : ℕ) → Spans id (Contains (was y)) (Contains (now y))
+spans_edited id z was now front olds news rest others cut made mid y = elim (cases_eq y z) [
+  | inl here ↦ subst (λ (k : ℕ). Spans id (Contains (was k)) (Contains (now k))) (sym here)
+      (subst (λ (runs : List Run). Spans id (Contains (was z)) (Contains runs)) (sym made)
+      (subst (λ (runs : List Run). Spans id (Contains runs) (Contains (front ++ (news ++ rest)))) (sym cut) (spans_mid id front olds news rest mid)))
+  | inr other ↦ subst (λ (runs : List Run). Spans id (Contains (was y)) (Contains runs)) (sym (others y other)) (spans_same id (Contains (was y)))
+]
+
 pub covers_edited : (id z : ℕ) (was now : ℕ → List Run) (front olds news rest : List Run) → ((y : ℕ) → (y ≡ z → ⊥) → now y ≡ was y) → was z ≡ front ++ (olds ++ rest) → now z ≡ front ++ (news ++ rest)
     → Covers id (Contains olds) (Contains news) → (y : ℕ) → Covers id (Contains (was y)) (Contains (now y))
 covers_edited id z was now front olds news rest others cut made mid y = elim (cases_eq y z) [
@@ -329,23 +475,34 @@ module _ (id z : ℕ) (was now : ℕ → List Run) (front rest : List Run) (old 
         (new, (subst (λ (k : ℕ). Contains (now k) new) (sym at.0) (subst (λ (runs : List Run). Contains runs new) (sym made) there), of_id, omega (arith, start))))
   ]
 
-  pub more_back : (y : ℕ) → Covers id (Contains (now y)) (More (λ k. Contains (was k)) z new y)
-  more_back y = λ run c is. (run, (from run y c, is, omega arith))
+  pub more_spans : has_id id old.kind ≡ false → (y : ℕ) → Spans id (More (λ k. Contains (was k)) z new y) (Contains (now y))
+  more_spans none y = λ bit b. elim b.among [
+    | inl c ↦ spans_edited id z was now front (old ∷ []) (new ∷ []) rest others cut made (spans_none id old (Contains (new ∷ [])) none) y bit
+        (bit_in id (More (λ k. Contains (was k)) z new y) (Contains (was y)) bit b c)
+    | inr at ↦ (
+        let there : Contains (front ++ new ∷ rest) new = Contains-append_right front (new ∷ rest) new (contains_here new rest) in
+        bit_in id (More (λ k. Contains (was k)) z new y) (Contains (now y)) bit b
+        (subst (λ (u : Run). Contains (now y) u) (sym at.1) (subst (λ (k : ℕ). Contains (now k) new) (sym at.0) (subst (λ (runs : List Run). Contains runs new) (sym made) there))))
+  ]
+
+  -- each run now was there, or is the new one
+  pub was_or_new : (y : ℕ) (run : Run) → Contains (now y) run → More (λ k. Contains (was k)) z new y run
+  was_or_new y run c = elim (cases_eq y z) [
+    | inl here ↦ elim (Contains-append_cases front (new ∷ rest) run (subst (λ (runs : List Run). Contains runs run) made (subst (λ (k : ℕ). Contains (now k) run) here c))) [
+      | inl first ↦ inl (back run (Contains-append_left front (old ∷ rest) run first) y here)
+      | inr more ↦ elim (contains_cases new rest run more) [
+        | Ok same ↦ inr (here, sym same)
+        | Err last ↦ inl (back run (Contains-append_right front (old ∷ rest) run (contains_later old rest run last)) y here)
+      ]
+    ]
+    | inr other ↦ inl (subst (λ (runs : List Run). Contains runs run) (others y other) c)
+  ]
     where
       back : (run : Run) → Contains (front ++ old ∷ rest) run → (y : ℕ) → y ≡ z → Contains (was y) run
       back run c y here = subst (λ (k : ℕ). Contains (was k) run) (sym here) (subst (λ (runs : List Run). Contains runs run) (sym cut) c)
 
-      from : (run : Run) (y : ℕ) → Contains (now y) run → More (λ k. Contains (was k)) z new y run
-      from run y c = elim (cases_eq y z) [
-        | inl here ↦ elim (Contains-append_cases front (new ∷ rest) run (subst (λ (runs : List Run). Contains runs run) made (subst (λ (k : ℕ). Contains (now k) run) here c))) [
-          | inl first ↦ inl (back run (Contains-append_left front (old ∷ rest) run first) y here)
-          | inr more ↦ elim (contains_cases new rest run more) [
-            | Ok same ↦ inr (here, sym same)
-            | Err last ↦ inl (back run (Contains-append_right front (old ∷ rest) run (contains_later old rest run last)) y here)
-          ]
-        ]
-        | inr other ↦ inl (subst (λ (runs : List Run). Contains runs run) (others y other) c)
-      ]
+  pub more_back : (y : ℕ) → Covers id (Contains (now y)) (More (λ k. Contains (was k)) z new y)
+  more_back y = λ run c is. (run, (was_or_new y run c, is, omega arith))
 
 -- ---- runs one after another
 
@@ -374,7 +531,7 @@ front_before shape bs front rest at end run other h c =
     let first = cut.2.0 in
     omega (arith, within.1, within.2, first)
 
-pub next_after : (shape : ZoneShape) (bs : List ℕ) (front rest : List Run) (at end : ℕ) (one two : Run) → Spells shape bs at (front ++ one ∷ two ∷ rest) end → one.start ≤ two.start
+pub next_after : (shape : ZoneShape) (bs : List ℕ) (front rest : List Run) (at end : ℕ) (one two : Run) → Spells shape bs at (front ++ one ∷ two ∷ rest) end → two.start ≡ one.start + one.len
 next_after shape bs front rest at end one two h =
     let cut = Spells-split shape bs front (one ∷ two ∷ rest) at end h in
     let first = cut.2.0 in

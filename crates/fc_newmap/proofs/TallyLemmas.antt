@@ -1,6 +1,6 @@
 -- The tally of a map's runs, and what edits make of it.
-use Rattle.std.proofs.Common.{◌≡◌, ◌<◌, ◌≤◌, ℕ, zero, suc, ◌+◌, ◌-◌, ◌*◌, ◌^◌, Bool, true, false, cond, Option, Some, None, List, [], ◌∷◌, ◌++◌, length, replicate, refl, sym, ap, ap₂, subst, ◌∙◌, inl, inr, arith, eq-eqb}
-use Rattle.std.specs.Prelude.{◌⊎◌, Contains, Ok, Err, filter, sum_by}
+use Rattle.std.proofs.Common.{◌≡◌, ◌<◌, ◌≤◌, ℕ, zero, suc, ◌+◌, ◌-◌, ◌*◌, ◌^◌, Bool, true, false, cond, Option, Some, None, List, [], ◌∷◌, ◌++◌, length, replicate, refl, sym, ap, ap₂, subst, ◌∙◌, inl, inr, arith, eq-eqb, max}
+use Rattle.std.specs.Prelude.{◌⊎◌, ◌==◌, Contains, Ok, Err, filter, sum_by}
 use Rattle.std.specs.List.{range_with_len}
 use Rattle.std.specs.Option.{IfSome, option_map, unwrap_or}
 use Rattle.std.specs.Global.{Vec}
@@ -9,6 +9,7 @@ use Rattle.std.proofs.lemmas.Bool.{cases_eq, ne_eqb, cases_lt}
 use Rattle.std.proofs.lemmas.List.{append_assoc, append-nil, get_or-replicate, get_or_past, get_or-set_other, get_or-set_same, length-replicate, length-set, map-append}
 use Rattle.std.proofs.lemmas.List.Elements.{Contains-append_cases, Contains-append_left, Contains-append_right}
 use Rattle.std.proofs.lemmas.List.Sums.{sum_by-append, sum_by-cons}
+use Rattle.fc_bytes.specs.Bits.{bits}
 use Rattle.fc_record.specs.declared.Geometry.{Geometry}
 use Rattle.fc_record.specs.Record.{first_bit, end_bit}
 use Rattle.fc_zone.specs.declared.Run.{Run}
@@ -17,20 +18,21 @@ use Rattle.fc_zone.specs.declared.RunKind.TheVariants.{Hole, Id}
 use Rattle.fc_zone.specs.declared.ZoneShape.{ZoneShape}
 use Rattle.fc_zone.specs.Zone.{HasRun, Spells}
 use Rattle.fc_zone.specs.Edits.{HasHoleAt, HasRunAt, HasRunToSplit, HasRunsToMerge}
+use Rattle.fc_zone.proofs.HolderLemmas.{Spells-split}
 use Rattle.fc_zone.proofs.ReadingLemmas.{runs_of_zone}
 use Rattle.fc_newmap.specs.declared.tally.IdTally.{IdTally}
 use Rattle.fc_newmap.specs.Map.{Map, ZoneRun, all_runs, bits_in, has_id, home_zone, id_runs, runs_in, runs_of, search_order, sector_of, shape, zone_numbers}
 use Rattle.fc_newmap.specs.Edits.{IsEdit, KeepsRuns, MergesIn, RelabelsIn, SplitsIn}
 use Rattle.fc_newmap.specs.NewMap.{IsNewMap, IsOfRecord}
 use Rattle.fc_newmap.specs.RunsLaw.{placed}
-use Rattle.fc_newmap.specs.Tally.{HasBits, HasRoom, IsRow, IsTally, IsTallyOf, counted, no_row, no_runs, row_less, row_of, row_with, uncounted, zones_before}
+use Rattle.fc_newmap.specs.Tally.{HasBits, HasRoom, IsBitOf, IsFirst, IsNewest, IsRow, IsTally, IsTallyOf, counted, no_row, no_runs, row_left, row_less, row_of, row_only, row_with, uncounted, zones_before}
 use Rattle.fc_newmap.proofs.ComposeLemmas.{runs_other}
 use Rattle.fc_newmap.proofs.CoverLemmas.{range_cut}
 use Rattle.fc_newmap.proofs.GeometryLemmas.{facts_of_valid}
 use Rattle.fc_newmap.proofs.HeldLemmas.{end_within, geometry_facts, sector_high}
 use Rattle.fc_newmap.proofs.PlaceLemmas.{contains_cases, contains_none, home_low, id_runs_by_zones, in_id_runs, in_range, in_zone, zone_in}
-use Rattle.fc_newmap.proofs.RowLemmas.{Covers, Fits, More, RunsOf, contains_placed, covers_cons, covers_edited, covers_nil, covers_none, fits_fewer, fits_kept, fits_more, fits_none, fits_row, more_back, more_there, next_after, not_both, placed_contains, row_fits, spelled_within}
-use Rattle.fc_zone.proofs.ZoneLemmas.{Contains-head as contains_here}
+use Rattle.fc_newmap.proofs.RowLemmas.{Covers, Fits, More, RunsOf, Spans, before_same, bit_in, contains_cut, contains_placed, covers_cons, covers_edited, covers_nil, covers_none, fits_kept, fits_left, fits_more, fits_none, fits_row, more_back, more_spans, more_there, next_after, not_both, placed_contains, row_fits, spans_cons, spans_edited, spans_nil, spans_none, spans_of, spelled_within, was_or_new}
+use Rattle.fc_zone.proofs.ZoneLemmas.{Contains-head as contains_here, Contains-tail as contains_later}
 
 -- ---- sums
 
@@ -252,29 +254,48 @@ counted_bits g rows z kind start len id low = elim (counted_row g rows z kind st
   | inr mine ↦ (let is = ap (λ (r : IdTally). r.bits) mine.1 in omega (arith, is, share_is id kind len true mine.0))
 ]
 
-uncounted_long : (g : Geometry) (rows : List IdTally) (kind : RunKind) (len : ℕ) → length (uncounted g rows kind len) ≡ length rows
-uncounted_long g rows Hole len = refl
-uncounted_long g rows (Id id) len = length-set rows id (row_less g (row_of rows id) len)
+uncounted_long : (g : Geometry) (rows : List IdTally) (z : ℕ) (kind : RunKind) (start len : ℕ) → length (uncounted g rows z kind start len) ≡ length rows
+uncounted_long g rows z Hole start len = refl
+uncounted_long g rows z (Id id) start len = length-set rows id (row_less g (row_of rows id) (zones_before g id z) start len)
 
 -- the row of an identifier, with a run less
-uncounted_row : (g : Geometry) (rows : List IdTally) (kind : RunKind) (len id : ℕ) → id < length rows
-    → ((has_id id kind ≡ false) × (row_of (uncounted g rows kind len) id ≡ row_of rows id))
-    ⊎ ((has_id id kind ≡ true) × (row_of (uncounted g rows kind len) id ≡ row_less g (row_of rows id) len))
-uncounted_row g rows Hole len id low = inl (refl, refl)
-uncounted_row g rows (Id k) len id low = elim (cases_eq k id) [
+uncounted_row : (g : Geometry) (rows : List IdTally) (z : ℕ) (kind : RunKind) (start len id : ℕ) → id < length rows
+    → ((has_id id kind ≡ false) × (row_of (uncounted g rows z kind start len) id ≡ row_of rows id))
+    ⊎ ((has_id id kind ≡ true) × (row_of (uncounted g rows z kind start len) id ≡ row_less g (row_of rows id) (zones_before g id z) start len))
+uncounted_row g rows z Hole start len id low = inl (refl, refl)
+uncounted_row g rows z (Id k) start len id low = elim (cases_eq k id) [
   | inl same ↦ inr (
     eq-eqb k id same,
-    subst (λ (j : ℕ). row_of (uncounted g rows (Id j) len) id ≡ row_less g (row_of rows id) len) (sym same) (get_or-set_same rows id (row_less g (row_of rows id) len) no_row low),
+    subst (λ (j : ℕ). row_of (uncounted g rows z (Id j) start len) id ≡ row_less g (row_of rows id) (zones_before g id z) start len) (sym same)
+        (get_or-set_same rows id (row_less g (row_of rows id) (zones_before g id z) start len) no_row low),
   )
-  | inr other ↦ inl (ne_eqb k id other, get_or-set_other rows k id (row_less g (row_of rows k) len) no_row (λ h. other (sym h)))
+  | inr other ↦ inl (ne_eqb k id other, get_or-set_other rows k id (row_less g (row_of rows k) (zones_before g k z) start len) no_row (λ h. other (sym h)))
 ]
 
--- it has bits left, or not
-less_none : (g : Geometry) (row : IdTally) (len : ℕ) → row.bits ≡ len → row_less g row len ≡ no_runs g
-less_none g row len e = ap (λ (b : Bool). cond b (no_runs g) (record row { bits = row.bits - len; start = 0 })) (eq-eqb row.bits len e)
+-- it has no bits left, those of the newest run alone, or others
+module _ (g : Geometry) (row : IdTally) (before start len : ℕ) where
+  abbrev less_by : Bool → Bool → IdTally
+  less_by none only =
+      let left = row_left row before start len in
+      cond none (no_runs g) (cond only (row_only left) left)
 
-less_some : (g : Geometry) (row : IdTally) (len : ℕ) → (row.bits ≡ len → ⊥) → row_less g row len ≡ record row { bits = row.bits - len; start = 0 }
-less_some g row len other = ap (λ (b : Bool). cond b (no_runs g) (record row { bits = row.bits - len; start = 0 })) (ne_eqb row.bits len other)
+  less_none : row.bits ≡ len → row_less g row before start len ≡ no_runs g
+  less_none e = ap (λ (b : Bool). less_by b ((row_left row before start len).bits == (row_left row before start len).newest.len)) (eq-eqb row.bits len e)
+
+  less_only : (row.bits ≡ len → ⊥) → (row_left row before start len).bits ≡ (row_left row before start len).newest.len → row_less g row before start len ≡ row_only (row_left row before start len)
+  less_only other e = ap₂ less_by (ne_eqb row.bits len other) (eq-eqb _ _ e)
+
+  less_some : (row.bits ≡ len → ⊥) → ((row_left row before start len).bits ≡ (row_left row before start len).newest.len → ⊥) → row_less g row before start len ≡ row_left row before start len
+  less_some other e = ap₂ less_by (ne_eqb row.bits len other) (ne_eqb _ _ e)
+
+  less_bits_are : (row_less g row before start len).bits ≡ row.bits - len
+  less_bits_are = elim (cases_eq row.bits len) [
+    | inl last ↦ (let now = ap (λ (r : IdTally). r.bits) (less_none last) in omega (arith, now, last))
+    | inr more ↦ elim (cases_eq (row_left row before start len).bits (row_left row before start len).newest.len) [
+      | inl only ↦ ap (λ (r : IdTally). r.bits) (less_only more only)
+      | inr other ↦ ap (λ (r : IdTally). r.bits) (less_some more other)
+    ]
+  ]
 
 -- ---- runs have bits
 
@@ -296,6 +317,141 @@ some_bits m id z run is low c of_id none =
     let zone = is.right z low in
     let within = spelled_within (shape m.geometry z) _ (runs_of m z) (first_bit z) (end_bit m.geometry z) run zone.spelled c in
     omega (arith, among, within.1, none)
+
+-- ---- the newest run alone
+
+-- bits that all are the identifier's
+covered_low : (id z : ℕ) (shape : ZoneShape) (bs : List ℕ) (runs : List Run) (at end from n : ℕ) → Spells shape bs at runs end → ((bit : ℕ) → from ≤ bit → bit < from + n → IsBitOf id (Contains runs) bit) → n ≤ part id z runs
+covered_low id z shape bs [] at end from zero h covered = omega arith
+covered_low id z shape bs [] at end from (suc n) h covered = (let b = covered from (omega arith) (omega arith) in absurd (contains_none b.run b.among))
+covered_low id z shape bs (run ∷ runs) at end from n h covered =
+    let sum = sum_by-cons (bits_of_id id) (z, run) (placed z runs) in
+    let first = h.0 in
+    let later : (bit : ℕ) → at + run.len ≤ bit → IsBitOf id (Contains (run ∷ runs)) bit → IsBitOf id (Contains runs) bit = λ bit past b. elim (contains_cases run runs b.run b.among) [
+      | Ok here ↦ (let low = subst (λ (u : Run). bit < u.start + u.len) (sym here) b.before in absurd (omega (arith, low, first)))
+      | Err rest ↦ bit_in id (Contains (run ∷ runs)) (Contains runs) bit b rest
+    ] in
+    elim (cases_lt from (at + run.len)) [
+      | inl less ↦ elim (cases_eq n 0) [
+        | inl none ↦ omega (arith, none)
+        | inr some ↦ (
+            let b = covered from (omega arith) (omega arith) in
+            let mine : (has_id id run.kind ≡ true) × (run.start ≤ from) = elim (contains_cases run runs b.run b.among) [
+              | Ok here ↦ (ap (λ (u : Run). has_id id u.kind) here ∙ b.of_id, subst (λ (u : Run). u.start ≤ from) (sym here) b.from)
+              | Err rest ↦ (let within = spelled_within shape bs runs (at + run.len) end b.run h.3 rest in let low = b.from in absurd (omega (arith, within.0, low)))
+            ] in
+            let rest = covered_low id z shape bs runs (at + run.len) end (at + run.len) (from + n - (at + run.len)) h.3 (λ bit past to. later bit past (covered bit (omega arith) (omega arith))) in
+            omega (arith, sum, rest, share_is id run.kind run.len true mine.0, mine.1, first))
+      ]
+      | inr past ↦ (let rest = covered_low id z shape bs runs (at + run.len) end from n h.3 (λ bit low to. later bit (omega arith) (covered bit low to)) in omega (arith, sum, rest))
+    ]
+
+one_low : (f : ℕ → ℕ) (z n : ℕ) → z < n → f z ≤ sum_by f (range_with_len 0 n)
+one_low f z n low = let s = sum_one f f z 0 n (omega arith) (omega arith) (λ y other. refl) in omega (arith, s.1.0)
+
+two_low : (f : ℕ → ℕ) (y z n : ℕ) → y < n → z < n → (z ≡ y → ⊥) → f y + f z ≤ sum_by f (range_with_len 0 n)
+two_low f y z n y_low z_low other =
+    let f' : ℕ → ℕ = λ k. cond (k == y) 0 (f k) in
+    let s = sum_one f f' y 0 n (omega arith) (omega arith) (λ k ne. ap (λ (b : Bool). cond b 0 (f k)) (ne_eqb k y ne)) in
+    let low = one_low f' z n z_low in
+    let kept : f' z ≡ f z = ap (λ (b : Bool). cond b 0 (f z)) (ne_eqb z y other) in
+    let none : f' y ≡ 0 = ap (λ (b : Bool). cond b 0 (f y)) (eq-eqb y y refl) in
+    omega (arith, s.1.0, s.1.1, low, kept, none)
+
+-- An identifier has no bits but those of its newest run.
+module _ (m : Map) (id : ℕ) (row : IdTally) (is : IsNewMap m) (fits : Fits m.geometry id (RunsOf m) row) (newest : IsNewest m.geometry id (RunsOf m) row.newest) (all : bits_in (id_runs m id) ≡ row.newest.len) where
+  abbrev bits_at : ℕ → ℕ
+  bits_at y = part id y (runs_of m y)
+
+  sum_is : sum_by bits_at (range_with_len 0 m.geometry.zones) ≡ row.newest.len
+  sum_is = (let facts = geometry_facts m.geometry is.of_record in sym (bits_by_zones m id facts.zones) ∙ all)
+
+  newest_low : row.newest.len ≤ bits_at newest.zone
+  newest_low =
+      let zone = is.right newest.zone newest.low in
+      covered_low id newest.zone (shape m.geometry newest.zone) _ (runs_of m newest.zone) (first_bit newest.zone) (end_bit m.geometry newest.zone) row.newest.start row.newest.len zone.spelled newest.bits
+
+  -- its runs are in that zone
+  only_there : (y : ℕ) (run : Run) → y < m.geometry.zones → Contains (runs_of m y) run → has_id id run.kind ≡ true → y ≡ newest.zone
+  only_there y run low c of_id = elim (cases_eq y newest.zone) [
+    | inl here ↦ here
+    | inr other ↦ (
+        let zone = is.right y low in
+        let within = spelled_within (shape m.geometry y) _ (runs_of m y) (first_bit y) (end_bit m.geometry y) run zone.spelled c in
+        let cut = contains_cut (runs_of m y) run c in
+        let parts : bits_at y ≡ part id y cut.0 + part id y (run ∷ cut.1) = ap (part id y) cut.2 ∙ part-append id y cut.0 (run ∷ cut.1) in
+        let sum = sum_by-cons (bits_of_id id) (y, run) (placed y cut.1) in
+        absurd (omega (arith, two_low bits_at newest.zone y m.geometry.zones newest.low low other, sum_is, newest_low, within.1, parts, sum, share_is id run.kind run.len true of_id)))
+  ]
+
+  -- none begins before it
+  none_before : (run : Run) → Contains (runs_of m newest.zone) run → has_id id run.kind ≡ true → row.newest.start ≤ run.start
+  none_before run c of_id = elim (cases_lt run.start row.newest.start) [
+    | inl less ↦ (
+        let z = newest.zone in
+        let cut = contains_cut (runs_of m z) run c in
+        let front = cut.0 in
+        let rest = cut.1 in
+        let zone = is.right z newest.low in
+        let bs = bits (sector_of m z) in
+        let spelled : Spells (shape m.geometry z) bs (first_bit z) (front ++ run ∷ rest) (end_bit m.geometry z) =
+        subst (λ (runs : List Run). Spells (shape m.geometry z) bs (first_bit z) runs (end_bit m.geometry z)) cut.2 zone.spelled in
+        let split = Spells-split (shape m.geometry z) bs front (run ∷ rest) (first_bit z) (end_bit m.geometry z) spelled in
+        let first = split.2.0 in
+        let within = spelled_within (shape m.geometry z) bs (runs_of m z) (first_bit z) (end_bit m.geometry z) run zone.spelled c in
+        let after : (bit : ℕ) → split.0 + run.len ≤ bit → IsBitOf id (RunsOf m z) bit → IsBitOf id (Contains rest) bit = λ bit past b.
+        elim (Contains-append_cases front (run ∷ rest) b.run (subst (λ (runs : List Run). Contains runs b.run) cut.2 b.among)) [
+          | inl early ↦ (
+              let ends = spelled_within (shape m.geometry z) bs front (first_bit z) split.0 b.run split.1 early in
+              let low = b.before in
+              absurd (omega (arith, ends.2, low)))
+          | inr more ↦ elim (contains_cases run rest b.run more) [
+            | Ok here ↦ (let low = subst (λ (u : Run). bit < u.start + u.len) (sym here) b.before in absurd (omega (arith, low, first)))
+            | Err late ↦ bit_in id (RunsOf m z) (Contains rest) bit b late
+          ]
+        ] in
+        let from : ℕ = max row.newest.start (split.0 + run.len) in
+        let left : row.newest.start + row.newest.len - from ≤ part id z rest =
+        covered_low id z (shape m.geometry z) bs rest (split.0 + run.len) (end_bit m.geometry z) from (row.newest.start + row.newest.len - from) split.2.3 (λ bit low to.
+        let low' : max row.newest.start (split.0 + run.len) ≤ bit = low in
+        let to' : bit < max row.newest.start (split.0 + run.len) + (row.newest.start + row.newest.len - max row.newest.start (split.0 + run.len)) = to in
+        after bit (omega (arith, low')) (newest.bits bit (omega (arith, low')) (omega (arith, low', to')))) in
+        let parts : bits_at z ≡ part id z front + part id z (run ∷ rest) = ap (part id z) cut.2 ∙ part-append id z front (run ∷ rest) in
+        let sum = sum_by-cons (bits_of_id id) (z, run) (placed z rest) in
+        absurd (omega (arith, one_low bits_at z m.geometry.zones newest.low, sum_is, left, within.1, parts, sum, first, share_is id run.kind run.len true of_id)))
+    | inr more ↦ more
+  ]
+
+  pub fits_only : (row.newest.len ≡ 0 → ⊥) → Fits m.geometry id (RunsOf m) (row_only row)
+  fits_only some =
+      let g = m.geometry in
+      let b = newest.bits row.newest.start (omega arith) (omega arith) in
+      let low = none_before b.run b.among b.of_id in
+      let from = b.from in
+      let before = newest.before in
+      let ahead = fits.ahead newest.zone b.run newest.low b.among b.of_id in
+      record {
+        ahead = λ y run y_low c of_id.
+            (let here = ap (zones_before g id) (only_there y run y_low c of_id) ∙ before in
+            let old = fits.ahead y run y_low c of_id in
+            omega (arith, here, old));
+        reach = λ y run y_low c of_id.
+            (let here = ap (zones_before g id) (only_there y run y_low c of_id) ∙ before in
+            let old = fits.reach y run y_low c of_id in
+            omega (arith, here, old));
+        start = λ y y_low e some'.
+            (let here : zones_before g id y ≡ zones_before g id newest.zone = omega (arith, e, before, ahead) in
+            let same = before_same g id y newest.zone y_low newest.low here in
+            let first : IsFirst id (RunsOf m newest.zone) row.newest.start = record {
+              run = b.run;
+              among = b.among;
+              of_id = b.of_id;
+              begins = omega (arith, low, from);
+              least = none_before;
+            } in
+            subst (λ (k : ℕ). IsFirst id (RunsOf m k) row.newest.start) (sym same) first);
+        newest = λ some'. newest;
+      }
 
 -- ---- the pass over all runs
 
@@ -332,6 +488,13 @@ pushed_there id runs run y = λ other in' is. (
     omega arith,
   ),
 )
+
+pushed_spans : (id : ℕ) (runs : List ZoneRun) (run : ZoneRun) (y : ℕ) → Spans id (More (Passed runs) run.0 run.1 y) (Passed (runs ++ run ∷ []) y)
+pushed_spans id runs run y = spans_of id (More (Passed runs) run.0 run.1 y) (Passed (runs ++ run ∷ []) y) (λ other in'. elim in' [
+  | inl old ↦ Contains-append_left runs (run ∷ []) (y, other) old
+  | inr new ↦ Contains-append_right runs (run ∷ []) (y, other)
+      (subst (λ (u : Run). Contains (run ∷ []) (y, u)) (sym new.1) (subst (λ (k : ℕ). Contains (run ∷ []) (k, run.1)) (sym new.0) (contains_here run [])))
+])
 
 pushed_back : (id : ℕ) (runs : List ZoneRun) (run : ZoneRun) (y : ℕ) → Covers id (Passed (runs ++ run ∷ []) y) (More (Passed runs) run.0 run.1 y)
 pushed_back id runs run y = λ other c is. (
@@ -374,12 +537,13 @@ one_fits m runs run rows id zone low fits =
     let g = m.geometry in
     let In = Passed (runs ++ run ∷ []) in
     elim (counted_row g rows run.0 run.1.kind run.1.start run.1.len id low) [
-      | inl other ↦ subst (Fits g id In) (sym other.1) (fits_kept g id (Passed runs) In (row_of rows id) (λ y in'. pushed_old id runs run y) (λ y in'. pushed_none id runs run other.0 y) fits)
+      | inl other ↦ subst (Fits g id In) (sym other.1) (fits_kept g id (Passed runs) In (row_of rows id) (λ y in'. pushed_old id runs run y) (λ y in'. pushed_none id runs run other.0 y)
+          (λ y in'. spans_of id (Passed runs y) (In y) (λ u c. Contains-append_left runs (run ∷ []) (y, u) c)) fits)
       | inr mine ↦ (
           let row = row_with (row_of rows id) (zones_before g id run.0) run.1.start run.1.len in
           subst (Fits g id In) (sym mine.1)
           (fits_kept g id (More (Passed runs) run.0 run.1) In row (λ y in'. pushed_there id runs run y) (λ y in'. pushed_back id runs run y)
-          (fits_more g id run.0 (Passed runs) (row_of rows id) run.1 zone mine.0 fits run.1.len)))
+          (λ y in'. pushed_spans id runs run y) (fits_more g id run.0 (Passed runs) (row_of rows id) run.1 zone mine.0 fits run.1.len refl)))
     ]
 
 pub one_counted : (m : Map) (runs : List ZoneRun) (run : ZoneRun) (g : Geometry) (old new : List IdTally) → run.0 < m.geometry.zones → g ≡ m.geometry → new ≡ counted g old run.0 run.1.kind run.1.start run.1.len → CountsRuns m runs old
@@ -436,6 +600,7 @@ all_counted m passed left rows is none so_far counts =
     λ id low.
     fits_row m id (row_of rows id) (counts.bits id low ∙ ap (sum_by (bits_of_id id)) all ∙ all_bits m id facts.zones)
     (fits_kept m.geometry id (Passed (all_runs m)) (RunsOf m) (row_of rows id) (all_there m id) (all_back m id)
+    (λ y low'. spans_of id (Passed (all_runs m) y) (RunsOf m y) (λ run c. contains_placed y (runs_of m y) run (zone_in m (zone_numbers m.geometry) (y, run) c).1))
     (subst (λ (l : List ZoneRun). Fits m.geometry id (Passed l) (row_of rows id)) all (counts.fits id low)))
 
 -- ---- a tally after an edit
@@ -455,6 +620,7 @@ same_tally m n (Some rows) keeps is = λ id low. (
     (fits_kept m.geometry id (RunsOf m) (RunsOf n) (row_of rows.items id)
     (λ z in' run c of_id. (run, (subst (λ (rs : List Run). Contains rs run) (sym (keeps.runs z)) c, of_id, omega arith)))
     (λ z in' run c of_id. (run, (subst (λ (rs : List Run). Contains rs run) (keeps.runs z) c, of_id, omega arith)))
+    (λ z in'. spans_of id (RunsOf m z) (RunsOf n z) (λ run c. subst (λ (rs : List Run). Contains rs run) (sym (keeps.runs z)) c))
     (row_fits m id (row_of rows.items id) old)))
 
 tally_on : (m n : Map) (old new : Option (Vec IdTally)) (f : List IdTally → List IdTally) → option_map (λ (rows : Vec IdTally). rows.items) new ≡ option_map (λ (rows : Vec IdTally). f rows.items) old
@@ -512,6 +678,7 @@ module _ (m n : Map) (z start : ℕ) (edit : IsEdit m n z) (low : z < m.geometry
         fits_kept m.geometry k (RunsOf m) (RunsOf n) row
         (λ y in'. covers_edited k z (runs_of m) (runs_of n) r.0 (has.0 ∷ []) (new ∷ []) r.1.0 (λ u ne. runs_other m n z u edit ne) cut made (covers_none k has.0 (Contains (new ∷ [])) (ap (has_id k) has.1.1)) y)
         (λ y in'. covers_edited k z (runs_of n) (runs_of m) r.0 (new ∷ []) (has.0 ∷ []) r.1.0 (λ u ne. sym (runs_other m n z u edit ne)) made cut (covers_none k new (Contains (has.0 ∷ [])) other) y)
+        (λ y in'. spans_edited k z (runs_of m) (runs_of n) r.0 (has.0 ∷ []) (new ∷ []) r.1.0 (λ u ne. runs_other m n z u edit ne) cut made (spans_none k has.0 (Contains (new ∷ [])) (ap (has_id k) has.1.1)) y)
         fits
 
     label_mine : (k : ℕ) (row : IdTally) → has_id k (Id id) ≡ true → Fits m.geometry k (RunsOf m) row → Fits m.geometry k (RunsOf n) (row_with row (zones_before m.geometry k z) hole.start hole.len)
@@ -526,7 +693,8 @@ module _ (m n : Map) (z start : ℕ) (edit : IsEdit m n z) (low : z < m.geometry
         (fits_kept m.geometry k (More (RunsOf m) z new) (RunsOf n) (row_with row (zones_before m.geometry k z) new.start hole.len)
         (λ y in'. more_there k z (runs_of m) (runs_of n) r.0 r.1.0 has.0 new others cut made (ap (has_id k) has.1.1) mine y)
         (λ y in'. more_back k z (runs_of m) (runs_of n) r.0 r.1.0 has.0 new others cut made y)
-        (fits_more m.geometry k z (RunsOf m) row new low mine fits hole.len))
+        (λ y in'. more_spans k z (runs_of m) (runs_of n) r.0 r.1.0 has.0 new others cut made (ap (has_id k) has.1.1) y)
+        (fits_more m.geometry k z (RunsOf m) row new low mine fits hole.len (ap (λ (u : Run). u.len) (is r.0 r.1.0 has.0 cut has.1.0))))
 
     label_fits : (rows : List IdTally) (k : ℕ) → k < length rows → Fits m.geometry k (RunsOf m) (row_of rows k) → Fits m.geometry k (RunsOf n) (row_of (counted m.geometry rows z (Id id) hole.start hole.len) k)
     label_fits rows k in' fits = elim (counted_row m.geometry rows z (Id id) hole.start hole.len k in') [
@@ -576,44 +744,71 @@ module _ (m n : Map) (z start : ℕ) (edit : IsEdit m n z) (low : z < m.geometry
         let same : has_id k has.0.kind ≡ has_id k run.kind = ap (λ (u : Run). has_id k u.kind) (sym (is r.0 r.1.0 has.0 cut has.1.0)) in
         covers_edited k z (runs_of m) (runs_of n) r.0 (has.0 ∷ []) (hole ∷ []) r.1.0 (λ u ne. runs_other m n z u edit ne) cut (relabels r.0 r.1.0 has.0 cut has.1.0) (covers_none k has.0 (Contains (hole ∷ [])) (same ∙ other)) y
 
-    release_mine : (k : ℕ) (row : IdTally) → has_id k run.kind ≡ true → IsRow m k row → Fits m.geometry k (RunsOf n) (row_less m.geometry row run.len)
-    release_mine k row mine says = elim (cases_eq row.bits run.len) [
-      | inl last ↦ (
-          let none : bits_in (id_runs n k) ≡ 0 = (let bits = says.bits in omega (arith, bits, bits_less k, share_is k run.kind run.len true mine, last)) in
-          subst (Fits m.geometry k (RunsOf n)) (sym (less_none m.geometry row run.len last))
-          (fits_none m.geometry k (RunsOf n) (λ y other in' c of_id. some_bits n k y other edit.map (subst (λ (g : Geometry). y < g.zones) (sym edit.geometry) in') c of_id none)))
-      | inr more ↦ (
-          let less : IdTally = record row { bits = row.bits - run.len; start = 0 } in
-          subst (Fits m.geometry k (RunsOf n)) (sym (less_some m.geometry row run.len more))
-          (fits_fewer m.geometry k (RunsOf m) (RunsOf n) row less refl refl refl (λ y in'. release_back k y) (row_fits m k row says)))
-    ]
+    release_spans : (k y : ℕ) → has_id k run.kind ≡ false → Spans k (RunsOf m y) (RunsOf n y)
+    release_spans k y other =
+        let r = has.1.1 in
+        let cut = cut_of has.0 r in
+        let hole : Run = record has.0 { kind = Hole } in
+        let same : has_id k has.0.kind ≡ has_id k run.kind = ap (λ (u : Run). has_id k u.kind) (sym (is r.0 r.1.0 has.0 cut has.1.0)) in
+        spans_edited k z (runs_of m) (runs_of n) r.0 (has.0 ∷ []) (hole ∷ []) r.1.0 (λ u ne. runs_other m n z u edit ne) cut (relabels r.0 r.1.0 has.0 cut has.1.0) (spans_none k has.0 (Contains (hole ∷ [])) (same ∙ other)) y
 
-    release_fits : (rows : List IdTally) (k : ℕ) → k < length rows → IsRow m k (row_of rows k) → Fits m.geometry k (RunsOf n) (row_of (uncounted m.geometry rows run.kind run.len) k)
-    release_fits rows k in' says = elim (uncounted_row m.geometry rows run.kind run.len k in') [
+    -- no other run goes
+    release_kept : (k y : ℕ) (other : Run) → Contains (runs_of m y) other → More (RunsOf n) z run y other
+    release_kept k y other c =
+        let r = has.1.1 in
+        let cut = cut_of has.0 r in
+        let hole : Run = record has.0 { kind = Hole } in
+        subst (λ (u : Run). More (RunsOf n) z u y other) (sym (is r.0 r.1.0 has.0 cut has.1.0))
+        (was_or_new k z (runs_of n) (runs_of m) r.0 r.1.0 hole has.0 (λ u ne. sym (runs_other m n z u edit ne)) (relabels r.0 r.1.0 has.0 cut has.1.0) cut y other c)
+
+    release_mine : (k : ℕ) (row : IdTally) → has_id k run.kind ≡ true → IsRow m k row → Fits m.geometry k (RunsOf n) (row_less m.geometry row (zones_before m.geometry k z) run.start run.len)
+    release_mine k row mine says =
+        let g = m.geometry in
+        let before = zones_before g k z in
+        let bits = says.bits in
+        let share = share_is k run.kind run.len true mine in
+        let less = bits_less k in
+        elim (cases_eq row.bits run.len) [
+          | inl last ↦ (
+              let none : bits_in (id_runs n k) ≡ 0 = omega (arith, bits, less, share, last) in
+              subst (Fits g k (RunsOf n)) (sym (less_none g row before run.start run.len last))
+              (fits_none g k (RunsOf n) (λ y other in' c of_id. some_bits n k y other edit.map (subst (λ (h : Geometry). y < h.zones) (sym edit.geometry) in') c of_id none)))
+          | inr more ↦ (
+              let left = row_left row before run.start run.len in
+              let fits : Fits g k (RunsOf n) left = fits_left g k z (RunsOf m) (RunsOf n) row run (release_back k) (release_kept k) (row_fits m k row says) in
+              elim (cases_eq left.bits left.newest.len) [
+                | inl only ↦ (
+                    let fits' : Fits n.geometry k (RunsOf n) left = subst (λ (h : Geometry). Fits h k (RunsOf n) left) (sym edit.geometry) fits in
+                    let all : bits_in (id_runs n k) ≡ left.newest.len = omega (arith, bits, less, share, only) in
+                    let some : left.newest.len ≡ 0 → ⊥ = λ none. more (omega (arith, bits, less, share, only, none)) in
+                    subst (Fits g k (RunsOf n)) (sym (less_only g row before run.start run.len more only))
+                    (subst (λ (h : Geometry). Fits h k (RunsOf n) (row_only left)) edit.geometry (fits_only n k left edit.map fits' (fits'.newest some) all some)))
+                | inr other ↦ subst (Fits g k (RunsOf n)) (sym (less_some g row before run.start run.len more other)) fits
+              ])
+        ]
+
+    release_fits : (rows : List IdTally) (k : ℕ) → k < length rows → IsRow m k (row_of rows k) → Fits m.geometry k (RunsOf n) (row_of (uncounted m.geometry rows z run.kind run.start run.len) k)
+    release_fits rows k in' says = elim (uncounted_row m.geometry rows z run.kind run.start run.len k in') [
       | inl other ↦ subst (Fits m.geometry k (RunsOf n)) (sym other.1)
-          (fits_kept m.geometry k (RunsOf m) (RunsOf n) (row_of rows k) (λ y low'. release_there k y other.0) (λ y low'. release_back k y) (row_fits m k (row_of rows k) says))
+          (fits_kept m.geometry k (RunsOf m) (RunsOf n) (row_of rows k) (λ y low'. release_there k y other.0) (λ y low'. release_back k y) (λ y low'. release_spans k y other.0) (row_fits m k (row_of rows k) says))
       | inr mine ↦ subst (Fits m.geometry k (RunsOf n)) (sym mine.1) (release_mine k (row_of rows k) mine.0 says)
     ]
 
-    less_bits : (rows : List IdTally) (k : ℕ) → k < length rows → IsRow m k (row_of rows k) → (row_of (uncounted m.geometry rows run.kind run.len) k).bits ≡ bits_in (id_runs n k)
-    less_bits rows k in' says = elim (uncounted_row m.geometry rows run.kind run.len k in') [
-      | inl other ↦ (let bits = says.bits in omega (arith, ap (λ (r : IdTally). r.bits) other.1, bits, bits_less k, share_is k run.kind run.len false other.0))
-      | inr mine ↦ (
-          let bits = says.bits in
-          let is' = ap (λ (r : IdTally). r.bits) mine.1 in
-          elim (cases_eq (row_of rows k).bits run.len) [
-            | inl last ↦ (let now = ap (λ (r : IdTally). r.bits) (less_none m.geometry (row_of rows k) run.len last) in omega (arith, is', now, bits, bits_less k, share_is k run.kind run.len true mine.0))
-            | inr more ↦ (let now = ap (λ (r : IdTally). r.bits) (less_some m.geometry (row_of rows k) run.len more) in omega (arith, is', now, bits, bits_less k, share_is k run.kind run.len true mine.0))
-          ])
-    ]
+    less_bits : (rows : List IdTally) (k : ℕ) → k < length rows → IsRow m k (row_of rows k) → (row_of (uncounted m.geometry rows z run.kind run.start run.len) k).bits ≡ bits_in (id_runs n k)
+    less_bits rows k in' says =
+        let bits = says.bits in
+        elim (uncounted_row m.geometry rows z run.kind run.start run.len k in') [
+          | inl other ↦ omega (arith, ap (λ (r : IdTally). r.bits) other.1, bits, bits_less k, share_is k run.kind run.len false other.0)
+          | inr mine ↦ omega (arith, ap (λ (r : IdTally). r.bits) mine.1 ∙ less_bits_are m.geometry (row_of rows k) (zones_before m.geometry k z) run.start run.len, bits, bits_less k, share_is k run.kind run.len true mine.0)
+        ]
 
-    pub release_tally : (g : Geometry) (old new : Option (Vec IdTally)) → g ≡ m.geometry → option_map (λ (rows : Vec IdTally). rows.items) new ≡ option_map (λ (rows : Vec IdTally). uncounted g rows.items run.kind run.len) old
+    pub release_tally : (g : Geometry) (old new : Option (Vec IdTally)) → g ≡ m.geometry → option_map (λ (rows : Vec IdTally). rows.items) new ≡ option_map (λ (rows : Vec IdTally). uncounted g rows.items z run.kind run.start run.len) old
         → IsTallyOf old m → IsTallyOf new n
-    release_tally g old new same e = tally_on m n old new (λ rows. uncounted g rows run.kind run.len) e (λ rows tallied k in'.
-        let in'' : k < length rows = omega (arith, in', uncounted_long g rows run.kind run.len) in
+    release_tally g old new same e = tally_on m n old new (λ rows. uncounted g rows z run.kind run.start run.len) e (λ rows tallied k in'.
+        let in'' : k < length rows = omega (arith, in', uncounted_long g rows z run.kind run.start run.len) in
         let row = tallied k in'' in
-        subst (λ (h : Geometry). IsRow n k (row_of (uncounted h rows run.kind run.len) k)) (sym same)
-        (row_after m n k (row_of (uncounted m.geometry rows run.kind run.len) k) edit.geometry (less_bits rows k in'' row) (release_fits rows k in'' row)))
+        subst (λ (h : Geometry). IsRow n k (row_of (uncounted h rows z run.kind run.start run.len) k)) (sym same)
+        (row_after m n k (row_of (uncounted m.geometry rows z run.kind run.start run.len) k) edit.geometry (less_bits rows k in'' row) (release_fits rows k in'' row)))
 
   -- a run is cut in two
   pub split_tally : (len : ℕ) (tally : Option (Vec IdTally)) → HasRunToSplit (shape m.geometry z) (sector_of m z) start len → SplitsIn m n z start len → IsTallyOf tally m → IsTallyOf tally n
@@ -633,10 +828,16 @@ module _ (m n : Map) (z start : ℕ) (edit : IsEdit m n z) (low : z < m.geometry
       let back : Covers k (Contains (one ∷ two ∷ [])) (Contains (has.0 ∷ [])) =
       covers_cons k one (two ∷ []) (Contains (has.0 ∷ [])) (λ is. (has.0, (contains_here has.0 [], is, omega arith)))
       (covers_cons k two [] (Contains (has.0 ∷ [])) (λ is. (has.0, (contains_here has.0 [], is, omega arith))) (covers_nil k (Contains (has.0 ∷ [])))) in
+      let spans : Spans k (Contains (has.0 ∷ [])) (Contains (one ∷ two ∷ [])) =
+      spans_cons k has.0 [] (Contains (one ∷ two ∷ [])) (λ is bit from to. elim (cases_lt bit (has.0.start + len)) [
+        | inl less ↦ record { run = one; among = contains_here one (two ∷ []); of_id = is; from = from; before = less }
+        | inr past ↦ record { run = two; among = contains_later one (two ∷ []) two (contains_here two []); of_id = is; from = past; before = omega arith }
+      ]) (spans_nil k (Contains (one ∷ two ∷ []))) in
       row_after m n k (row_of rows.items k) edit.geometry (row.bits ∙ sym (bits_split m n z k len r.0 r.1.0 has.0 edit low cut (omega (arith, room)) here))
       (fits_kept m.geometry k (RunsOf m) (RunsOf n) (row_of rows.items k)
       (λ y low'. covers_edited k z (runs_of m) (runs_of n) r.0 (has.0 ∷ []) (one ∷ two ∷ []) r.1.0 (λ u ne. runs_other m n z u edit ne) cut made there y)
       (λ y low'. covers_edited k z (runs_of n) (runs_of m) r.0 (one ∷ two ∷ []) (has.0 ∷ []) r.1.0 (λ u ne. sym (runs_other m n z u edit ne)) made cut back y)
+      (λ y low'. spans_edited k z (runs_of m) (runs_of n) r.0 (has.0 ∷ []) (one ∷ two ∷ []) r.1.0 (λ u ne. runs_other m n z u edit ne) cut made spans y)
       (row_fits m k (row_of rows.items k) row))
 
   -- two runs are joined
@@ -653,11 +854,17 @@ module _ (m n : Map) (z start : ℕ) (edit : IsEdit m n z) (low : z < m.geometry
       let order = next_after (shape m.geometry z) _ r.0 r.1.0 (first_bit z) (end_bit m.geometry z) has.0 has.1 zone.spelled in
       let there : Covers k (Contains (has.0 ∷ has.1 ∷ [])) (Contains (all ∷ [])) =
       covers_cons k has.0 (has.1 ∷ []) (Contains (all ∷ [])) (λ is. (all, (contains_here all [], is, omega arith)))
-      (covers_cons k has.1 [] (Contains (all ∷ [])) (λ is. (all, (contains_here all [], ap (has_id k) has.3 ∙ is, order))) (covers_nil k (Contains (all ∷ [])))) in
+      (covers_cons k has.1 [] (Contains (all ∷ [])) (λ is. (all, (contains_here all [], ap (has_id k) has.3 ∙ is, omega (arith, order)))) (covers_nil k (Contains (all ∷ [])))) in
       let back : Covers k (Contains (all ∷ [])) (Contains (has.0 ∷ has.1 ∷ [])) =
       covers_cons k all [] (Contains (has.0 ∷ has.1 ∷ [])) (λ is. (has.0, (contains_here has.0 (has.1 ∷ []), is, omega arith))) (covers_nil k (Contains (has.0 ∷ has.1 ∷ []))) in
+      let spans : Spans k (Contains (has.0 ∷ has.1 ∷ [])) (Contains (all ∷ [])) =
+      spans_cons k has.0 (has.1 ∷ []) (Contains (all ∷ [])) (λ is bit from to. record { run = all; among = contains_here all []; of_id = is; from = from; before = omega arith })
+      (spans_cons k has.1 [] (Contains (all ∷ []))
+      (λ is bit from to. record { run = all; among = contains_here all []; of_id = ap (has_id k) has.3 ∙ is; from = omega (arith, order); before = omega (arith, order) })
+      (spans_nil k (Contains (all ∷ [])))) in
       row_after m n k (row_of rows.items k) edit.geometry (row.bits ∙ sym (bits_merged m n z k r.0 r.1.0 has.0 has.1 edit low cut has.3 here))
       (fits_kept m.geometry k (RunsOf m) (RunsOf n) (row_of rows.items k)
       (λ y low'. covers_edited k z (runs_of m) (runs_of n) r.0 (has.0 ∷ has.1 ∷ []) (all ∷ []) r.1.0 (λ u ne. runs_other m n z u edit ne) cut made there y)
       (λ y low'. covers_edited k z (runs_of n) (runs_of m) r.0 (all ∷ []) (has.0 ∷ has.1 ∷ []) r.1.0 (λ u ne. sym (runs_other m n z u edit ne)) made cut back y)
+      (λ y low'. spans_edited k z (runs_of m) (runs_of n) r.0 (has.0 ∷ has.1 ∷ []) (all ∷ []) r.1.0 (λ u ne. runs_other m n z u edit ne) cut made spans y)
       (row_fits m k (row_of rows.items k) row))

@@ -1,5 +1,5 @@
 -- A tally of a map's runs by their identifiers.
-use Rattle.std.specs.Prelude.{◌≡◌, ◌<◌, ◌≤◌, ℕ, ◌+◌, ◌-◌, ◌*◌, ◌==◌, nat_le, nat_lt, min, max, Bool, true, false, if◌then◌else◌, List, Contains, length, slice_index_or, slice_set, Option}
+use Rattle.std.specs.Prelude.{◌≡◌, ◌<◌, ◌≤◌, ℕ, ◌+◌, ◌-◌, ◌*◌, ◌==◌, ◌&&◌, nat_le, nat_lt, min, max, Bool, true, false, if◌then◌else◌, List, Contains, length, slice_index_or, slice_set, Option}
 use Rattle.std.specs.List.{list_any}
 use Rattle.std.specs.Option.{IfSome}
 use Rattle.std.specs.Global.{Vec}
@@ -8,17 +8,22 @@ use Rattle.fc_zone.specs.declared.Run.{Run}
 use Rattle.fc_zone.specs.declared.RunKind.{RunKind}
 use Rattle.fc_zone.specs.declared.RunKind.TheVariants.{Hole, Id}
 use Rattle.fc_newmap.specs.declared.tally.IdTally.{IdTally}
+use Rattle.fc_newmap.specs.declared.tally.NewestRun.{NewestRun}
 use Rattle.fc_newmap.specs.declared.tally.Search.{Search}
 use Rattle.fc_newmap.specs.Map.{Map, bits_in, has_id, home_zone, id_runs, runs_of}
 use Rattle.fc_newmap.specs.NewMap.{IsHeld, map_in}
 
+-- no newest run
+abbrev pub no_newest : NewestRun
+no_newest = record { before = 0; start = 0; len = 0 }
+
 -- no row
 abbrev pub no_row : IdTally
-no_row = record { bits = 0; ahead = 0; reach = 0; start = 0 }
+no_row = record { bits = 0; ahead = 0; reach = 0; start = 0; newest = no_newest }
 
 -- the row of an identifier without runs
 abbrev pub no_runs : Geometry → IdTally
-no_runs g = record { bits = 0; ahead = g.zones; reach = 0; start = 0 }
+no_runs g = record { bits = 0; ahead = g.zones; reach = 0; start = 0; newest = no_newest }
 
 -- the row of an identifier
 abbrev pub row_of : List IdTally → ℕ → IdTally
@@ -58,6 +63,22 @@ abbrev pub IsStart : Map → ℕ → ℕ → ℕ → Type 0
 IsStart m id n start =
     (z : ℕ) → z < m.geometry.zones → zones_before m.geometry id z ≡ n → (start ≡ 0 → ⊥) → IsFirstIn m id z start
 
+-- The bit is in one of these runs, of the identifier.
+pub record IsBitOf (id : ℕ) (In : Run → Type 0) (bit : ℕ) : Type 0 where
+  pub run : Run
+  pub among : In run
+  pub of_id : has_id id run.kind ≡ true
+  pub from : run.start ≤ bit
+  pub before : bit < run.start + run.len
+
+-- In the zone after so many zones of the search the `len` bits from `start` on are all in runs of the identifier, where
+-- each zone has these runs.
+pub record IsNewest (g : Geometry) (id : ℕ) (In : ℕ → Run → Type 0) (newest : NewestRun) : Type 0 where
+  pub zone : ℕ
+  pub low : zone < g.zones
+  pub before : zones_before g id zone ≡ newest.before
+  pub bits : (bit : ℕ) → newest.start ≤ bit → bit < newest.start + newest.len → IsBitOf id (In zone) bit
+
 -- The row says what is so of its identifier.
 pub record IsRow (m : Map) (id : ℕ) (row : IdTally) : Type 0 where
   -- the bits of all its runs
@@ -65,6 +86,7 @@ pub record IsRow (m : Map) (id : ℕ) (row : IdTally) : Type 0 where
   pub ahead : IsAhead m id row.ahead
   pub reach : IsReach m id row.reach
   pub start : IsStart m id row.ahead row.start
+  pub newest : (row.newest.len ≡ 0 → ⊥) → IsNewest m.geometry id (λ z. Contains (runs_of m z)) row.newest
 
 -- The rows are those of identifiers from 0 on.
 abbrev pub IsTally : Map → List IdTally → Type 0
@@ -102,6 +124,7 @@ row_with row before start len = record {
   ahead = min row.ahead before;
   reach = max row.reach (before + 1);
   start = first_start row before start;
+  newest = record { before = before; start = start; len = len };
 }
 
 -- the rows with a run more, of this kind and in zone z
@@ -109,14 +132,46 @@ abbrev pub counted : Geometry → List IdTally → ℕ → RunKind → ℕ → �
 counted g rows z Hole start len = rows
 counted g rows z (Id id) start len = slice_set rows id (row_with (row_of rows id) (zones_before g id z) start len)
 
--- a row with a run less
-abbrev pub row_less : Geometry → IdTally → ℕ → IdTally
-row_less g row len = if row.bits == len then no_runs g else record row { bits = row.bits - len; start = 0 }
+-- where the first run begins when a run goes that began at `start` in a zone after `before` zones of the search: not
+-- known, if that was the first
+abbrev pub start_left : IdTally → ℕ → ℕ → ℕ
+start_left row before start = if (before == row.ahead) && (start == row.start) then 0 else row.start
 
--- the rows with a run less
-abbrev pub uncounted : Geometry → List IdTally → RunKind → ℕ → List IdTally
-uncounted g rows Hole len = rows
-uncounted g rows (Id id) len = slice_set rows id (row_less g (row_of rows id) len)
+-- Such a run, of `len` bits, and the newest have bits in common: one of them begins in the other.
+abbrev pub meets : NewestRun → ℕ → ℕ → ℕ → Bool
+meets newest before start len =
+    (before == newest.before) && (if nat_le start newest.start then nat_lt newest.start (start + len) else nat_lt start (newest.start + newest.len))
+
+-- the newest run when such a run goes: not known, if they have bits in common
+abbrev pub newest_left : NewestRun → ℕ → ℕ → ℕ → NewestRun
+newest_left newest before start len = if meets newest before start len then no_newest else newest
+
+-- a row of an identifier all of whose bits are those of the newest run
+abbrev pub row_only : IdTally → IdTally
+row_only row = record row {
+  ahead = max row.ahead row.newest.before;
+  reach = min row.reach (row.newest.before + 1);
+  start = row.newest.start;
+}
+
+-- a row with such a run less, and some bits left
+abbrev pub row_left : IdTally → ℕ → ℕ → ℕ → IdTally
+row_left row before start len = record row {
+  bits = row.bits - len;
+  start = start_left row before start;
+  newest = newest_left row.newest before start len;
+}
+
+-- a row with such a run less
+abbrev pub row_less : Geometry → IdTally → ℕ → ℕ → ℕ → IdTally
+row_less g row before start len =
+    let left = row_left row before start len in
+    if row.bits == len then no_runs g else if left.bits == left.newest.len then row_only left else left
+
+-- the rows with a run less, of this kind and in zone z
+abbrev pub uncounted : Geometry → List IdTally → ℕ → RunKind → ℕ → ℕ → List IdTally
+uncounted g rows z Hole start len = rows
+uncounted g rows z (Id id) start len = slice_set rows id (row_less g (row_of rows id) (zones_before g id z) start len)
 
 -- The row of a run's identifier has room for its bits.
 abbrev pub HasRoom : Geometry → List IdTally → RunKind → ℕ → Type 0

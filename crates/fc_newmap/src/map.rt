@@ -156,7 +156,7 @@ impl NewMap {
         let size = self.geometry.sector as usize;
         let run = self.run_from(z, start);
         fc_zone::release(&mut self.zones[from..from + size], &shape, start);
-        uncount(&mut self.tally, &self.geometry, run.kind, run.len);
+        uncount(&mut self.tally, &self.geometry, z, run);
     }
 
     /// Cuts the run of a zone that begins at `start` into two of its kind, the first of `len` bits. Both parts have at least

@@ -1,13 +1,15 @@
 // A tally of a map's runs by their identifiers, kept while the map is edited.
 
-ghost use Rattle.std.specs.Prelude.{◌≡◌, ◌<◌, ◌≤◌, ◌⊎◌, ◌+◌, ◌^◌, ℕ, false, IfOk, IfSome, IsFalse};
+ghost use Rattle.std.specs.Prelude.{◌≡◌, ◌<◌, ◌≤◌, ◌⊎◌, ◌+◌, ◌^◌, ℕ, true, false, IfOk, IfSome, IsFalse};
 ghost use Rattle.std.specs.List.{list_any};
 ghost use Rattle.std.specs.Option.{option_map};
 ghost use Rattle.fc_zone.specs.declared.RunKind.TheVariants.{Id};
 ghost use Rattle.fc_record.specs.Record.{id_limit};
 ghost use Rattle.fc_newmap.specs.Map.{bits_in, has_id, id_runs, runs_of};
 ghost use Rattle.fc_newmap.specs.NewMap.{IsOfRecord};
-ghost use Rattle.fc_newmap.specs.Tally.{HasBits, HasRoom, IsRow, IsSearch, IsTally, counted, first_start, has_run_of, no_runs, row_less, uncounted, zones_before};
+ghost use Rattle.fc_newmap.specs.Tally.{HasBits, HasRoom, IsRow, IsSearch, IsTally, counted, has_run_of, uncounted, zones_before};
+
+mod rows;
 
 use crate::NewMap;
 use crate::runs::{home_zone, zone_up};
@@ -15,6 +17,7 @@ use crate::walk::Walk;
 use fc_device::NoMemory;
 use fc_record::Geometry;
 use fc_zone::{Run, RunKind};
+use rows::{first_start, no_runs, row_less};
 use std::alloc::Global;
 
 /// What the runs of one identifier come to, and in which zones they are.
@@ -28,6 +31,19 @@ pub struct IdTally {
     pub reach: u16,
     /// Where the first of them begins in the zone after those of `ahead`, or 0 if that isn't known.
     pub start: u32,
+    /// The run that was counted last. Once its bits are all that are left, it says where the runs are.
+    pub newest: NewestRun,
+}
+
+/// A run that was counted, and all of whose bits are the identifier's still. It can have been split or merged since.
+#[derive(Clone, Copy)]
+pub struct NewestRun {
+    /// The search for the identifier comes to so many zones before that of the run.
+    pub before: u16,
+    /// Where it begins.
+    pub start: u32,
+    /// Its bits, or 0 if no such run is known.
+    pub len: u32,
 }
 
 /// Where a search for the runs of an identifier begins, and how far it goes.
@@ -66,31 +82,6 @@ fn zones_before(g: &Geometry, id: u32, z: u16) -> u16
     }
 }
 
-// The row of an identifier without runs.
-fn no_runs(g: &Geometry) -> IdTally
-    ensures { result ≡ no_runs g.now }
-{
-    IdTally {
-        bits: 0,
-        ahead: g.zones,
-        reach: 0,
-        start: 0,
-    }
-}
-
-// Where the first run begins, with a run more that begins at `start` in a zone after `before` zones of the search.
-fn first_start(row: IdTally, before: u16, start: u32) -> u32
-    ensures { result ≡ first_start row before start }
-{
-    if before < row.ahead {
-        start
-    } else if before == row.ahead {
-        row.start.min(start)
-    } else {
-        row.start
-    }
-}
-
 // Counts a run of an identifier, if the rows reach so far.
 fn count_in(rows: &mut Vec<IdTally>, g: &Geometry, z: u16, id: u32, run: Run)
     requires record { IsOfRecord g.now }
@@ -105,6 +96,11 @@ fn count_in(rows: &mut Vec<IdTally>, g: &Geometry, z: u16, id: u32, run: Run)
             ahead: row.ahead.min(before),
             reach: row.reach.max(before + 1),
             start: first_start(*row, before, run.start),
+            newest: NewestRun {
+                before,
+                start: run.start,
+                len: run.len,
+            },
         };
     }
 }
@@ -133,37 +129,28 @@ pub fn count(tally: &mut Option<Vec<IdTally>>, g: &Geometry, z: u16, id: u32, ru
     }
 }
 
-// A row with a run less. Which of the others is the first isn't known.
-fn row_less(g: &Geometry, row: IdTally, len: u32) -> IdTally
-    requires { len ≤ row.bits }
-    ensures { result ≡ row_less g.now row len }
-{
-    if row.bits == len {
-        return no_runs(g);
-    }
-    let mut left = row;
-    left.bits -= len;
-    left.start = 0;
-    left
-}
-
 // Counts a run of an identifier no more, if the rows reach so far.
-fn uncount_in(rows: &mut Vec<IdTally>, g: &Geometry, id: u32, len: u32)
-    requires { HasBits rows.old.items (Id id) len }
-    ensures { rows.new.items ≡ uncounted g.now rows.old.items (Id id) len }
+fn uncount_in(rows: &mut Vec<IdTally>, g: &Geometry, z: u16, id: u32, run: Run)
+    requires record { IsOfRecord g.now }
+    requires zone { z < g.now.zones }
+    requires bits { HasBits rows.old.items (Id id) run.len }
+    ensures { rows.new.items ≡ uncounted g.now rows.old.items z (Id id) run.start run.len }
 {
+    let before = zones_before(g, id, z);
     if let Some(row) = rows.get_mut(id as usize) {
-        *row = row_less(g, *row, len);
+        *row = row_less(g, *row, before, run);
     }
 }
 
 /// Counts a run that is gone no more, if there is a tally.
-pub fn uncount(tally: &mut Option<Vec<IdTally>>, g: &Geometry, kind: RunKind, len: u32)
-    requires { IfSome tally.old (λ rows. HasBits rows.items kind len) }
-    ensures { option_map (λ rows. rows.items) tally.new ≡ option_map (λ rows. uncounted g.now rows.items kind len) tally.old }
+pub fn uncount(tally: &mut Option<Vec<IdTally>>, g: &Geometry, z: u16, run: Run)
+    requires record { IsOfRecord g.now }
+    requires zone { z < g.now.zones }
+    requires bits { IfSome tally.old (λ rows. HasBits rows.items run.kind run.len) }
+    ensures { option_map (λ rows. rows.items) tally.new ≡ option_map (λ rows. uncounted g.now rows.items z run.kind run.start run.len) tally.old }
 {
-    if let (Some(rows), RunKind::Id(id)) = (tally, kind) {
-        uncount_in(rows, g, id, len);
+    if let (Some(rows), RunKind::Id(id)) = (tally, run.kind) {
+        uncount_in(rows, g, z, id, run);
     }
 }
 
@@ -275,6 +262,18 @@ impl NewMap {
             Some(row) => next_zone_by(g, id, row, z),
             None => z,
         }
+    }
+
+    /// A zone that has runs of an identifier: the only one, by the map's tally. `None` says nothing. Costs no search.
+    pub fn only_zone_of(&self, id: u32) -> Option<u16>
+        ensures { IfSome result (λ z. (z < self.now.geometry.zones) × (has_run_of self.now id z ≡ true)) }
+    {
+        let g = self.geometry();
+        let row = self.row(id)?;
+        if row.bits == 0 || row.ahead >= g.zones || row.reach != row.ahead + 1 {
+            return None;
+        }
+        Some(zone_up(g, home_zone(g, id), row.ahead))
     }
 
     /// Makes the tally of the runs of all identifiers, in one pass over the runs, unless there is one. If memory is short,

@@ -1,16 +1,19 @@
 -- Which zones change, as a list.
-use Rattle.std.proofs.Common.{◌≡◌, ◌<◌, ◌≤◌, ℕ, zero, suc, ◌+◌, ◌-◌, Bool, true, false, cond, List, [], ◌∷◌, ◌++◌, length, Contains, inl, inr, refl, sym, ap, subst, ◌∙◌, arith, append_assoc}
+use Rattle.std.proofs.Common.{◌≡◌, ◌<◌, ◌≤◌, ℕ, zero, suc, ◌+◌, ◌-◌, Bool, true, false, cond, List, [], ◌∷◌, ◌++◌, length, Contains, inl, inr, refl, sym, ap, subst, ◌∙◌, arith, append_assoc, ◌==◌, eq-eqb, eqb, get_or, Option, Some, None}
 use Rattle.std.specs.Prelude.{filter, ◌||◌, OnOk, Result, Ok, Err}
 use Rattle.std.specs.List.{list_any, range_with_len}
+use Rattle.std.specs.Option.{IfSome, option_eq}
 use Rattle.std.proofs.lemmas.List.{append-nil}
 use Rattle.std.proofs.lemmas.List.FromFn.{get_or-range_with_len, length-range_with_len}
 use Rattle.std.proofs.lemmas.List.Elements.{Contains-append_right}
 use Rattle.fc_zone.specs.declared.Run.{Run}
-use Rattle.fc_newmap.specs.Map.{ZoneRun}
+use Rattle.fc_zone.specs.declared.RunKind.{RunKind}
+use Rattle.fc_zone.specs.declared.RunKind.TheVariants.{Hole, Id}
+use Rattle.fc_newmap.specs.Map.{ZoneRun, has_id}
 use Rattle.fc_newmap.specs.RunsLaw.{placed}
 use Rattle.fc_image.specs.effects.Steady.{has_id_that}
 use Rattle.fc_plan.specs.Giving.{has_run_of, is_one_of}
-use Rattle.std.proofs.lemmas.Bool.{cases_Bool as either_test}
+use Rattle.std.proofs.lemmas.Bool.{cases_Bool as either_test, eqb-true, or_left, or_right}
 
 -- ---- the runs of a zone
 
@@ -20,6 +23,29 @@ goes ids p = has_id_that (is_one_of ids) p.1.kind
 pub any_placed : (ids : List ℕ) (z : ℕ) (runs : List Run) → list_any (goes ids) (placed z runs ++ []) ≡ has_run_of ids runs
 any_placed ids z [] = refl
 any_placed ids z (run ∷ runs) = ap (λ (b : Bool). has_id_that (is_one_of ids) run.kind || b) (any_placed ids z runs)
+
+is_one_at : (ids : List ℕ) (k i : ℕ) → i < length ids → k ≡ get_or ids i 0 → is_one_of ids k ≡ true
+is_one_at [] k i low e = absurd (omega arith)
+is_one_at (id ∷ ids) k zero low e = or_left (id == k) (is_one_of ids k) (eq-eqb id k (sym e))
+is_one_at (id ∷ ids) k (suc i) low e = or_right (id == k) (is_one_of ids k) (is_one_at ids k i (omega arith) e)
+
+kind_at : (ids : List ℕ) (kind : RunKind) (i : ℕ) → i < length ids → has_id (get_or ids i 0) kind ≡ true → has_id_that (is_one_of ids) kind ≡ true
+kind_at ids Hole i low e = absurd (cc)
+kind_at ids (Id k) i low e = is_one_at ids k i low (eqb-true k (get_or ids i 0) e)
+
+-- one of the identifiers has a run there
+pub run_of_one : (ids : List ℕ) (runs : List Run) (i : ℕ) → i < length ids → list_any (λ run. has_id (get_or ids i 0) run.kind) runs ≡ true → has_run_of ids runs ≡ true
+run_of_one ids [] i low e = absurd (cc)
+run_of_one ids (run ∷ runs) i low e = elim (either_test (has_id (get_or ids i 0) run.kind)) [
+  | inl is ↦ or_left (has_id_that (is_one_of ids) run.kind) (has_run_of ids runs) (kind_at ids run.kind i low is)
+  | inr none ↦ or_right (has_id_that (is_one_of ids) run.kind) (has_run_of ids runs)
+      (run_of_one ids runs i low (sym (ap (λ (b : Bool). b || list_any (λ r. has_id (get_or ids i 0) r.kind) runs) none) ∙ e))
+]
+
+-- what holds of an answer holds of the zone that it is
+pub told_zone : (P : ℕ → Type 0) (only : Option ℕ) (z : ℕ) → IfSome only P → true ≡ option_eq eqb only (Some z) → P z
+told_zone P None z none e = absurd (cc)
+told_zone P (Some y) z is e = subst P (eqb-true y z (sym e)) is
 
 -- ---- a row of numbers
 

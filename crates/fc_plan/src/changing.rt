@@ -1,6 +1,6 @@
 // Which zones a command changes.
 
-ghost use Rattle.std.specs.Prelude.{◌≡◌, ◌<◌, ◌≤◌, ◌++◌, ◌∷◌, [], if◌then◌else◌, ℕ, List, AllPairs, Contains, OnErr, OnOk, false, filter};
+ghost use Rattle.std.specs.Prelude.{◌≡◌, ◌<◌, ◌≤◌, ◌++◌, ◌∷◌, [], if◌then◌else◌, ℕ, List, AllPairs, Contains, IsTrue, OnErr, OnOk, true, false, filter};
 ghost use Rattle.fc_image.specs.effects.Placed.{BeginsBefore};
 ghost use Rattle.fc_image.specs.effects.Steady.{has_id_that};
 ghost use Rattle.fc_newmap.specs.Map.{runs_of, zone_numbers};
@@ -25,8 +25,21 @@ fn is_of(ids: &[u32], kind: RunKind) -> bool
     }
 }
 
-// Whether a zone has a run of one of some identifiers.
-fn has_run_of(map: &NewMap, z: u16, ids: &[u32]) -> bool
+// Whether the map's tally says that a zone has a run of one of some identifiers. `false` says nothing. Costs no search.
+fn is_said_to_have(map: &NewMap, z: u16, ids: &[u32]) -> bool
+    requires { z < map.now.geometry.zones }
+    ensures { IsTrue result → has_run_of ids.now (runs_of map.now z) ≡ true }
+{
+    for i in 0..ids.len() {
+        if map.only_zone_of(ids[i]) == Some(z) {
+            return true;
+        }
+    }
+    false
+}
+
+// Whether a pass over a zone comes to a run of one of some identifiers.
+fn meets_run_of(map: &NewMap, z: u16, ids: &[u32]) -> bool
     requires { z < map.now.geometry.zones }
     ensures { result ≡ has_run_of ids.now (runs_of map.now z) }
 {
@@ -37,6 +50,14 @@ fn has_run_of(map: &NewMap, z: u16, ids: &[u32]) -> bool
         }
     }
     false
+}
+
+// Whether a zone has a run of one of some identifiers. The pass over it is saved where the tally knows.
+fn has_run_of(map: &NewMap, z: u16, ids: &[u32]) -> bool
+    requires { z < map.now.geometry.zones }
+    ensures { result ≡ has_run_of ids.now (runs_of map.now z) }
+{
+    is_said_to_have(map, z, ids) || meets_run_of(map, z, ids)
 }
 
 // Whether something is taken or given back in a zone.

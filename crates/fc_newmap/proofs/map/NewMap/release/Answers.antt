@@ -46,9 +46,9 @@ has_runs c =
 tally_was : (c : After-release) → IsTallyOf c.self.inside.tally c.args.self.now
 tally_was c = subst (IsTallyOf c.self.inside.tally) c.self.view_is c.self.invariant.tally
 
-pub uncount-requires : goal.uncount-requires
-uncount-requires c =
-    let before = (goal.at.uncount-requires c).After-release in
+pub uncount-requires-clause-bits : goal.uncount-requires-clause-bits
+uncount-requires-clause-bits c =
+    let before = (goal.at.uncount-requires-clause-bits c).After-release in
     release_bits c.args.self.now (edited before) c.args.z c.args.start (is_edit before) c.requires.zone c.run_from-run.result c.requires.run c.run_from-run.ensures.value (has_runs before) c.self.inside.tally (tally_was before)
 
 pub invariant_of-self : goal.invariant_of-self

@@ -4,7 +4,7 @@ use Rattle.std.specs.List.{list_any}
 use Rattle.fc_newmap.specs.Map.{runs_of}
 use Rattle.fc_newmap.specs.RunsLaw.{placed}
 use Rattle.fc_plan.proofs.Changes.{any_placed, goes}
-use Rattle.fc_plan.proofs.changing.has_run_of.Goals as goal
+use Rattle.fc_plan.proofs.changing.meets_run_of.Goals as goal
 
 pub loop-run-init : goal.loop-run-init
 loop-run-init c = (placed c.args.z (runs_of c.args.map.now c.args.z) ++ [], c.from_zone-walk.ensures.stands, any_placed c.args.ids.now c.args.z (runs_of c.args.map.now c.args.z))
