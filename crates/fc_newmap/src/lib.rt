@@ -10,6 +10,7 @@ mod map;
 mod places;
 mod runs;
 mod shapes;
+mod starts;
 mod sums;
 mod tally;
 mod unused;

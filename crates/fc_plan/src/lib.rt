@@ -2,6 +2,7 @@
 #![tactic(auto)]
 
 mod applying;
+mod beginnings;
 mod changing;
 mod fitting;
 mod giving;

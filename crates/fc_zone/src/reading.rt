@@ -5,7 +5,7 @@ ghost use Rattle.fc_bytes.specs.Bits.{bits};
 ghost use Rattle.fc_zone.specs.Cursor.{HasLeft};
 ghost use Rattle.fc_zone.specs.Edits.{HasRunAt};
 ghost use Rattle.fc_zone.specs.Reading.{run_of, runs_of, zone_of};
-ghost use Rattle.fc_zone.specs.Zone.{HasRun, IsFault, IsOnSector, IsRun, IsShapeOf, IsZone, Zone, field_at};
+ghost use Rattle.fc_zone.specs.Zone.{EndsInHole, HasRun, IsFault, IsOnSector, IsRun, IsShapeOf, IsZone, Zone, field_at};
 
 use crate::links::{first_hole, holder_before, hole_from, next_hole};
 use crate::{Run, RunKind, ZoneFault, ZoneShape};
@@ -140,6 +140,24 @@ pub fn run_beginning(b: &[u8], shape: &ZoneShape, start: u32) -> Run
     let len = end_of(b, shape, start) - start;
     let kind = kind_at(b, shape, start);
     Run { start, len, kind }
+}
+
+/// The run right before the one that begins at `start`, if it is a hole. The chain of holes is followed up to it; no run
+/// but this hole is read.
+pub fn hole_before(b: &[u8], shape: &ZoneShape, start: u32) -> Option<Run>
+    requires shape { IsShapeOf b.now shape.now }
+    requires run { HasRunAt shape.now b.now start }
+    ensures { (front rest : List Run) (run : Run) → Zone shape.now b.now (front ++ run ∷ rest) → run.start ≡ start → EndsInHole front result }
+{
+    let hole = holder_before(b, shape, start)?;
+    if end_of(b, shape, hole) != start {
+        return None;
+    }
+    Some(Run {
+        start: hole,
+        len: start - hole,
+        kind: RunKind::Hole,
+    })
 }
 
 /// The first run of a zone that `check_zone` passes, and `None` if the zone has no bits.
