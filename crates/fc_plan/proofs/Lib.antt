@@ -18,8 +18,8 @@ pub mod FirstFit
 pub mod Fronts
 pub mod Moved
 pub mod NoIds
-pub mod IdBits
-pub mod Starts
+mod IdBits
+mod Starts
 pub mod Applies
 pub mod Changes
 pub mod InOrder

@@ -8,7 +8,6 @@ use Rattle.std.proofs.lemmas.List.Elements.{Contains-append_left}
 use Rattle.fc_bytes.specs.Bits.{bits}
 use Rattle.fc_record.specs.Record.{first_bit, end_bit}
 use Rattle.fc_zone.specs.declared.Run.{Run}
-use Rattle.fc_zone.specs.Edits.{HasRunAt}
 use Rattle.fc_zone.specs.Zone.{EndsInHole}
 use Rattle.fc_newmap.specs.Map.{Map, has_id, runs_of, sector_of, shape}
 use Rattle.fc_newmap.specs.NewMap.{IsNewMap}
@@ -23,9 +22,6 @@ use Rattle.fc_plan.proofs.NoIds.{no_run_of}
 pub record IsLeast (m : Map) (ids : List ℕ) (z count : ℕ) (first : Option ℕ) : Type 0 where
   pub among : IfSome first (λ start. (run : Run) × (Contains (runs_of m z) run × (run.start ≡ start)))
   pub least : (j : ℕ) → j < count → (run : Run) → Contains (runs_of m z) run → has_id (get_or ids j 0) run.kind ≡ true → MatchOption first ⊥ (λ start. start ≤ run.start)
-
-pub least_start : (m : Map) (ids : List ℕ) (z : ℕ) → IsLeast m ids z 0 None
-least_start m ids z = record { among = tt; least = λ j low run c of_id. absurd (omega arith) }
 
 -- an identifier has no run there
 pub least_other : (m : Map) (ids : List ℕ) (z i : ℕ) (first : Option ℕ) → IsLeast m ids z i first → list_any (λ run. has_id (get_or ids i 0) run.kind) (runs_of m z) ≡ false → IsLeast m ids z (i + 1) first
@@ -77,10 +73,6 @@ begin_at m ids z count (Some start) is low all least =
           let from : start ≤ other.start = least.least j (omega arith) other there of_id in
           not_below start other.start from (omega arith)));
     }
-
--- a run of the zone begins there
-pub begins_there : (m : Map) (ids : List ℕ) (z start : ℕ) → IsNewMap m → z < m.geometry.zones → BeginAt ids (runs_of m z) start → HasRunAt (shape m.geometry z) (sector_of m z) start
-begins_there m ids z start is low at = (at.run, (at.begins, (at.front, (at.rest, zone_cut m z (at.front ++ at.run ∷ at.rest) is low at.cut))))
 
 -- no runs end with no hole
 pub none_ends : EndsInHole [] None

@@ -1,8 +1,7 @@
 -- Old maps as they are read from the front of an image.
-use Rattle.std.proofs.Common.{◌≡◌, ◌<◌, ◌≤◌, ◌∷◌, ◌+◌, ◌-◌, ◌*◌, ◌/◌, ◌%◌, ◌⊎◌, inl, inr, ℕ, zero, suc, Bool, true, false, cond, List, [], length, take, drop, refl, sym, ap, ap₂, subst, ◌∙◌, arith}
+use Rattle.std.proofs.Common.{◌≡◌, ◌<◌, ◌≤◌, ◌∷◌, ◌+◌, ◌-◌, ◌*◌, ◌/◌, ◌%◌, ◌⊎◌, inl, inr, ℕ, Bool, true, false, cond, List, [], length, take, drop, refl, sym, ap, subst, ◌∙◌, arith}
 use Rattle.std.specs.Prelude.{nat_le, Option, Some, None, Result, Ok, Err, if◌then◌else◌, ◌==◌, ◌&&◌, ◌++◌}
-use Rattle.byteorder.specs.Endian.{little_number}
-use Rattle.std.proofs.lemmas.List.{get_or-take, drop-take, take-take, length-take-le}
+use Rattle.std.proofs.lemmas.List.{drop-take, take-take, length-take-le}
 use Rattle.std.proofs.lemmas.Bool.{and_from, leb-true, and_parts}
 use Rattle.fc_bytes.specs.Words.{bytes_at, u24_at}
 use Rattle.fc_bytes.specs.Checks.{is_half_right}
@@ -11,14 +10,14 @@ use Rattle.fc_record.specs.declared.Kind.TheVariants.{DiscL}
 use Rattle.fc_record.specs.Kinds.{fits_kind, is_old_map, old_units}
 use Rattle.fc_oldmap.specs.declared.Hole.{Hole}
 use Rattle.fc_oldmap.specs.declared.OldMapFault.TheVariants.{Check, Bad}
-use Rattle.fc_oldmap.specs.OldMap.{OldMapContent, free_end, free_space, hole_fault, holes_of, is_free_end, map_units, old_map, stored_hole, stored_holes, wrong_hole}
-use Rattle.fc_oldmap.specs.Holes.{AreHoles, hole}
-use Rattle.fc_oldmap.proofs.ReadLemmas.{AreHoles-right, holes_of-more as holes_step}
+use Rattle.fc_oldmap.specs.OldMap.{OldMapContent, free_end, free_space, hole_fault, is_free_end, map_units, old_map, stored_holes, wrong_hole}
+use Rattle.fc_oldmap.specs.Holes.{AreHoles}
+use Rattle.fc_oldmap.proofs.ReadLemmas.{AreHoles-right}
 use Rattle.fc_image.specs.declared.ImageFault.{ImageFault}
 use Rattle.fc_image.specs.declared.ImageFault.TheVariants as faults
 use Rattle.fc_image.specs.Layout.{Layout}
 use Rattle.fc_image.specs.Opening.{MapAndRoot, holes_or, old_layout}
-use Rattle.fc_changes.proofs.lemmas.old.MapLemmas.{little_front, end_front, few, fault_by, u24_front, right_end, hole_front, holes_front, space_front, fault_front}
+use Rattle.fc_changes.proofs.lemmas.old.MapLemmas.{u24_front, right_end, space_front, fault_front}
 
 -- ---- what reading answers
 

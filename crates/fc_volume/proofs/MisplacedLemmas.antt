@@ -7,18 +7,15 @@ use Rattle.std.specs.FinMap.{FinMap}
 use Rattle.std.proofs.lemmas.Bool.{eqb-true, eqb-false, eq-eqb, ne_eqb, leb-true, ltb-true, le-leb, lt-ltb, cases_lt, or_cases, or_left, or_right, and_from as and_true, and_parts as and_first}
 use Rattle.std.proofs.lemmas.List.Folds.{list_any-append}
 use Rattle.std.proofs.lemmas.List.Sorted.{list_any-IsPermutation}
-use Rattle.std.proofs.lemmas.Nat.{mul-le, pow_pos}
 use Rattle.fc_device.specs.declared.disk.Extent.{Extent}
 use Rattle.fc_objects.specs.Extents.{extent_sectors}
 use Rattle.fc_record.specs.declared.Geometry.{Geometry}
-use Rattle.fc_record.specs.declared.DiscRecord.{DiscRecord}
 use Rattle.fc_record.specs.declared.Kind.{Kind}
-use Rattle.fc_record.specs.Record.{geometry, is_valid}
+use Rattle.fc_record.specs.Record.{geometry}
 use Rattle.fc_zone.specs.declared.RunKind.{RunKind}
 use Rattle.fc_zone.specs.declared.RunKind.TheVariants as kinds
 use Rattle.fc_newmap.specs.Map.{Map, ZoneRun, all_runs, extent_of, map_sectors, run_sectors, sectors_of}
 use Rattle.fc_newmap.specs.NewMap.{IsNewMap, IsOfRecord}
-use Rattle.fc_newmap.proofs.GeometryLemmas.{facts_of_valid}
 use Rattle.fc_newmap.proofs.HeldLemmas.{geometry_facts}
 use Rattle.fc_alloc.specs.declared.owner.Owner.{Owner}
 use Rattle.fc_alloc.specs.Owners.{is_id_owned, owns}

@@ -17,7 +17,7 @@ use Rattle.fc_writing.proofs.CopyLemmas.{chooses_first}
 use Rattle.fc_writing.proofs.StepLemmas.{committed, geometry_is, not_more, ready, step_done, zones_low}
 use Rattle.fc_writing.proofs.steps.make_step.Given.{Over}
 use Rattle.fc_writing.proofs.steps.make_step.Goals as goal
-use Rattle.fc_writing.proofs.steps.make_step.Goals.{After-edit, After-commit_zones}
+use Rattle.fc_writing.proofs.steps.make_step.Goals.{After-edit}
 
 pub returns-in-Nothing-clause-map : goal.returns-in-Nothing-clause-map
 returns-in-Nothing-clause-map g c = subst (λ (s : MapStep). HasStepped c.args.map.now c.args.map.now s) (sym c.in-Nothing.is) refl
