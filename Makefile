@@ -50,9 +50,10 @@ demo: kit
 	cd crates/fcore && rt try --data hello.adf=data/hello.adf --cases ../../demo/fcore
 	cd crates/fconvert && rt try --data hello.adf=../fcore/data/hello.adf --cases ../../demo/fconvert
 
-# The gate: every proof, must-fail edit, test and program; then the program that it built, over real files. As many checks run at once
-# as there are processors, and 4 GB of memory for each. (Left alone, rt plans with 12 GB for fc_volume, whose checks take 3.)
-LANES = $(shell awk -v most=$$(nproc) '/MemAvailable/ {n = int($$2 / 4000000); print n < 1 ? 1 : n < most ? n : most}' /proc/meminfo)
+# The gate: every proof, must-fail edit, test and program; then the program that it built, over real files. One check more runs at once than
+# there are processors, since rt takes the sums of libraries in one thread; each has 4 GB of memory. (Left alone, rt plans with 12 GB for
+# fc_volume, whose checks take 3.)
+LANES = $(shell awk -v most=$$(($$(nproc) + 1)) '/MemAvailable/ {n = int($$2 / 4000000); print n < 1 ? 1 : n < most ? n : most}' /proc/meminfo)
 
 # The last line that `times` prints says what the gate took of processors, as docs/ARCHITECTURE.md has it.
 test: kit

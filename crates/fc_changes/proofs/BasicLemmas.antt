@@ -11,16 +11,13 @@ use Rattle.fc_image.proofs.EntriesLemmas.{at_place as place_of}
 use Rattle.std.proofs.lemmas.Bool.{or_left}
 pub use Rattle.fc_zone.proofs.ZoneLemmas.{Contains-head as first_in}
 pub use Rattle.fc_image.proofs.EntriesLemmas.{later as next_in}
+pub use Rattle.fc_plan.proofs.IdBits.{or_false}
 
 -- ---- tests
 
 pub clash : (b : Bool) → b ≡ true → b ≡ false → ⊥
 clash true y n = cc
 clash false y n = cc
-
-pub or_false : (b : Bool) → (b || false) ≡ b
-or_false true = refl
-or_false false = refl
 
 pub and_false : (b : Bool) → (b && false) ≡ false
 and_false true = refl

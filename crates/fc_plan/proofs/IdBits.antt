@@ -34,14 +34,14 @@ same_test a b = elim (cases_eq a b) [
   | inr ne ↦ ne_eqb a b ne ∙ sym (ne_eqb b a (λ e. ne (sym e)))
 ]
 
-or_none : (b : Bool) → (b || false) ≡ b
-or_none true = refl
-or_none false = refl
+pub or_false : (b : Bool) → (b || false) ≡ b
+or_false true = refl
+or_false false = refl
 
 kind_more : (ids : List ℕ) (id : ℕ) (kind : RunKind) → has_id_that (is_one_of (ids ++ id ∷ [])) kind ≡ (has_id_that (is_one_of ids) kind || has_id id kind)
 kind_more ids id Hole = refl
 kind_more ids id (Id k) =
-    list_any-append (λ j. j == k) ids (id ∷ []) ∙ ap (λ (b : Bool). is_one_of ids k || b) (or_none (id == k) ∙ same_test id k)
+    list_any-append (λ j. j == k) ids (id ∷ []) ∙ ap (λ (b : Bool). is_one_of ids k || b) (or_false (id == k) ∙ same_test id k)
 
 either_bits : (a b : Bool) (n : ℕ) → cond (a || b) n 0 ≤ cond a n 0 + cond b n 0
 either_bits true b n = omega arith
@@ -59,7 +59,7 @@ runs_more ids id z (run ∷ runs) =
 
 -- ---- how many there can be
 
-if_of_low : (b : Bool) (n : ℕ) → cond b n 0 ≤ n
+pub if_of_low : (b : Bool) (n : ℕ) → cond b n 0 ≤ n
 if_of_low true n = omega arith
 if_of_low false n = omega arith
 

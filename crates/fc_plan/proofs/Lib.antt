@@ -18,7 +18,7 @@ pub mod FirstFit
 pub mod Fronts
 pub mod Moved
 pub mod NoIds
-mod IdBits
+pub mod IdBits
 mod Starts
 pub mod Applies
 pub mod Changes

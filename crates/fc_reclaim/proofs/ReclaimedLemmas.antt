@@ -65,7 +65,3 @@ passed_on goes used z m now chain run rest count low is then edit true result te
 passed_on goes used z m now chain run rest count low is then edit false result test runs stays same =
     subst (λ (k : ℕ). IsPassing goes z m then result rest k) (let e : count ≡ count + 0 = omega arith in e)
     (subst (λ (o : Option Run). IsPassing goes z m then o rest count) (sym (stays refl)) (stay goes used z m now chain run rest count low is then edit (sym test) (same refl)))
-
-pub at_most : (flag : Bool) (len : ℕ) → cond flag len 0 ≤ len
-at_most true len = omega arith
-at_most false len = omega arith

@@ -29,10 +29,7 @@ use Rattle.fc_safe.specs.FirstNeeds.{Stir, longer_of, moving_out, node_of, stir_
 use Rattle.fc_safe.specs.Views.{IsNodeOf, IsViewOf, StirsAs}
 use Rattle.fc_safe.proofs.ListLemmas.{same_test}
 use Rattle.fc_laws.proofs.lemmas.agree.WalkedLemmas.{same_number as one_number}
-
-or_none : (b : Bool) → (b || false) ≡ b
-or_none true = refl
-or_none false = refl
+use Rattle.fc_plan.proofs.IdBits.{or_false as or_none}
 
 -- ---- the target, by numbers and by paths
 

@@ -11,7 +11,8 @@ use Rattle.fc_plan.proofs.Walks.{shape_of_zone, shaped, stands_in_map, started_i
 use Rattle.fc_reclaim.specs.Lost.{goes_back}
 use Rattle.fc_reclaim.specs.Zone.{left_after}
 use Rattle.fc_reclaim.proofs.PassLemmas.{IsPassing, follows, passing_end, passing_start}
-use Rattle.fc_reclaim.proofs.ReclaimedLemmas.{at_most, goes_used, in_zone, passed_on}
+use Rattle.fc_plan.proofs.IdBits.{if_of_low as at_most}
+use Rattle.fc_reclaim.proofs.ReclaimedLemmas.{goes_used, in_zone, passed_on}
 use Rattle.fc_reclaim.proofs.zone.reclaim_in.Goals as goal
 use Rattle.fc_reclaim.proofs.zone.reclaim_in.Goals.{In-Some}
 
