@@ -24,7 +24,7 @@ RUN = os.path.join(TOP, "tools", "run")
 PAGES = {  # case: the words of its tool
     "quotations": ["checks/quotations"], "rooms": ["checks/rooms"], "definitions": ["checks/definitions", "--check"],
     "faults": ["checks/faults", "--check"], "bounds": ["checks/bounds"], "copies": ["checks/copies"], "licence": ["checks/licence"],
-    "imports": ["checks/imports"], "annotations": ["checks/annotations"], "jobs": ["checks/jobs", "--check"],
+    "dependencies": ["checks/dependencies"], "imports": ["checks/imports"], "annotations": ["checks/annotations"], "jobs": ["checks/jobs", "--check"],
 }
 
 
