@@ -198,8 +198,9 @@ class Stopped(BaseException):
         self.number = number
 
 
-def catch_signals() -> None:
-    numbers = [number for number in (signal.SIGINT, signal.SIGTERM, signal.SIGHUP)
+def catch_signals() -> List[int]:
+    """A signal removes what isn't finished, and ends the job as `Stopped`. The signals that do, which are those that weren't ignored."""
+    numbers = [int(number) for number in (signal.SIGINT, signal.SIGTERM, signal.SIGHUP)
                if signal.getsignal(number) is not signal.SIG_IGN]
 
     def stop(number: int, _: object) -> NoReturn:
@@ -208,14 +209,32 @@ def catch_signals() -> None:
         remove_unfinished()
         raise Stopped(number)
 
+    sys.unraisablehook = end_unraised
     for number in numbers:
         signal.signal(number, stop)
+    return numbers
+
+
+def end_unraised(what: sys.UnraisableHookArgs) -> None:
+    """Where Python would drop a `Stopped`, as it does in a destructor, the program ends all the same."""
+    if isinstance(what.exc_value, Stopped):
+        clear_progress()
+        end_by(what.exc_value.number)
+    sys.__unraisablehook__(what)
+
+
+def leave_signals(numbers: List[int]) -> None:
+    """The job is done: from now on a signal ends the program at once, without a word of Python's, which is at its own end."""
+    before = signal.pthread_sigmask(signal.SIG_BLOCK, numbers)
+    for number in numbers:
+        signal.signal(number, signal.SIG_DFL)
+    signal.pthread_sigmask(signal.SIG_SETMASK, before)
 
 
 def end_by(number: int) -> NoReturn:
     """Ends as the signal would have ended the program, so that a shell sees it."""
-    clear_progress()
     signal.signal(number, signal.SIG_DFL)
+    signal.pthread_sigmask(signal.SIG_UNBLOCK, [number])
     os.kill(os.getpid(), number)
     raise SystemExit(128 + number)
 
@@ -226,12 +245,21 @@ def main(arguments: List[str]) -> int:
         return FAILED
     words = parser(*arguments[:1]).parse_args(arguments)
     try:
-        catch_signals()
+        numbers = catch_signals()
+        status = run(words)
+        leave_signals(numbers)
+        return status
+    except Stopped as stopped:
+        clear_progress()
+        end_by(stopped.number)
+
+
+def run(words: argparse.Namespace) -> int:
+    """Does the job, and says why it can't be done; its status."""
+    try:
         status: int = words.run(words)
         sys.stdout.flush()
         return status
-    except Stopped as stopped:
-        end_by(stopped.number)
     except Trouble as trouble:
         tell(str(trouble))
         return trouble.status
