@@ -1,5 +1,5 @@
 -- Identifiers that lose their last owner.
-use Rattle.std.proofs.Common.{◌≡◌, ◌&&◌, ◌||◌, ◌==◌, inl, inr, ℕ, zero, suc, Bool, true, false, cond, List, [], ◌∷◌, ◌++◌, refl, sym, ap, ap₂, subst, ◌∙◌, arith, eq-eqb, Some, None, Option}
+use Rattle.std.proofs.Common.{◌≡◌, ◌&&◌, ◌||◌, ◌==◌, inl, inr, ℕ, zero, suc, Bool, true, false, cond, List, [], ◌∷◌, ◌++◌, length, refl, sym, ap, ap₂, subst, ◌∙◌, arith, eq-eqb, Some, None, Option}
 use Rattle.std.specs.Prelude.{Contains, not}
 use Rattle.std.specs.List.{find, flat_map, list_any}
 use Rattle.std.proofs.lemmas.Bool.{and_parts, cases_Bool, eqb-true}
@@ -31,6 +31,28 @@ none_stays owners leaving node id leaves none = elim (cases_Bool (list_any (rema
     by false o at same stays e =
         let there : has_other owners node id ≡ true = any_of (λ (p : Owner). (p.id == id) && not (p.node == node)) owners o at (ap₂ (λ (a b : Bool). a && not b) same e) in
         let bad : true ≡ false = sym there ∙ none in cc
+
+-- If it alone leaves, another node's owner stays.
+pub one_stays : (owners : List Owner) (leaving : List ℕ) (node id : ℕ) → is_one_of leaving node ≡ true → length leaving ≡ 1 → has_other owners node id ≡ true → list_any (remains leaving id) owners ≡ true
+one_stays owners [] node id leaves long other = absurd (omega (arith, long))
+one_stays owners (x ∷ y ∷ more) node id leaves long other = absurd (omega (arith, long))
+one_stays owners (x ∷ []) node id leaves long other =
+    let r = found_of (λ (o : Owner). (o.id == id) && not (o.node == node)) owners other in
+    let both = and_parts (r.0.id == id) (not (r.0.node == node)) r.2 in
+    any_of (remains (x ∷ []) id) owners r.0 r.1 (by (is_one_of (x ∷ []) r.0.node) r.0 both.0 both.1 refl)
+  where
+    only : (k : ℕ) → is_one_of (x ∷ []) k ≡ true → x ≡ k
+    only k e = go (x == k) refl e
+      where
+        go : (b : Bool) → (x == k) ≡ b → (b || false) ≡ true → x ≡ k
+        go true same h = eqb-true x k same
+        go false same h = absurd (cc)
+
+    by : (b : Bool) → (o : Owner) → (o.id == id) ≡ true → not (o.node == node) ≡ true → is_one_of (x ∷ []) o.node ≡ b → ((o.id == id) && not (is_one_of (x ∷ []) o.node)) ≡ true
+    by true o same differs e =
+        let equal : (o.node == node) ≡ true = eq-eqb o.node node (sym (only o.node e) ∙ only node leaves) in
+        let bad : false ≡ true = sym (ap not equal) ∙ differs in absurd (cc)
+    by false o same differs e = ap₂ (λ (a b : Bool). a && not b) same e
 
 module _ (owners : List Owner) (leaving : List ℕ) (shared : Option ℕ) (own : HaveOwnNodes owners) where
   -- the identifiers that are found

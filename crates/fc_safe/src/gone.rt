@@ -16,13 +16,17 @@ use fc_newmap::MAP_ID;
 use fc_placing::has_other;
 use std::alloc::Global;
 
-// Whether an owner stays in the identifier of one that leaves it. The owners are gone over only if another node's has it.
+// Whether an owner stays in the identifier of one that leaves it. The owners are gone over only if another node's has it, and several
+// leave theirs.
 fn has_staying(owners: &Owners, own: Owner, leaving: &[u64]) -> bool
     requires { is_one_of leaving.now own.node ≡ true }
     ensures { result ≡ list_any (remains leaving.now own.id) owners.now }
 {
     if !has_other(owners, own.node, own.id) {
         return false;
+    }
+    if leaving.len() == 1 {
+        return true;
     }
     owners
         .list()
