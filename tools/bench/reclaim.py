@@ -21,7 +21,7 @@ from tools.files import built_shim
 from tools.images.fragmented import Fragmenter, hard_disc
 from tools.images.volumes import NewVolume
 
-LOST = 10000
+LOST, ROUNDS = 10000, 7
 
 
 def losing() -> NewVolume:
@@ -36,11 +36,18 @@ def losing() -> NewVolume:
     return volume
 
 
+def copied(image: str, work: str) -> None:
+    """Copies an image, onto the disk: what is timed later has its own writes to sync, and not the copy."""
+    shutil.copyfile(image, work)
+    with open(work, "r+b") as file:
+        os.fsync(file.fileno())
+
+
 def seconds(program: str, image: str, script: bytes) -> float:
-    """The least of three runs, each over a copy."""
+    """The least of ROUNDS runs, each over a copy."""
     taken = []
-    for turn in range(3):
-        shutil.copyfile(image, image + ".work")
+    for turn in range(ROUNDS):
+        copied(image, image + ".work")
         start = time.monotonic()
         subprocess.run([program, image + ".work"], input=script, stdout=subprocess.DEVNULL, check=True)
         taken.append(time.monotonic() - start)
@@ -63,7 +70,7 @@ def main(program: str) -> bool:
         image, record = (os.path.join(folder, name) for name in ("image", "record"))
         volume = losing()
         runs = written(image, volume)
-        shutil.copyfile(image, image + ".work")
+        copied(image, image + ".work")
         told = subprocess.run([program, image + ".work"], input=b"reclaim\n", stdout=subprocess.PIPE, check=True,
                               env={"LD_PRELOAD": built_shim(folder), "OUTSIDE_RECORD": record}).stdout
         moved, syncs = totals(record)
