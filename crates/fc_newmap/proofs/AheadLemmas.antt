@@ -61,7 +61,7 @@ up_low g y n low few =
     ]
 
 -- how many zones the search comes to before it
-before_up : (g : Geometry) (id n : ℕ) → n < g.zones → zones_before g id (zone_up g (home_zone g id) n) ≡ n
+pub before_up : (g : Geometry) (id n : ℕ) → n < g.zones → zones_before g id (zone_up g (home_zone g id) n) ≡ n
 before_up g id n few =
     let home = home_zone g id in
     let low = home_low g id (omega arith) in

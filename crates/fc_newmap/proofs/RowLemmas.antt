@@ -1,7 +1,7 @@
 -- What a row of a tally says of the places of an identifier's runs, and of which runs it says it still.
-use Rattle.std.proofs.Common.{◌≡◌, ◌<◌, ◌≤◌, ℕ, ◌+◌, ◌-◌, Bool, true, false, cond, List, [], ◌∷◌, ◌++◌, refl, sym, ap, subst, ◌∙◌, inl, inr, arith, eq-eqb, ap₂, min, max}
+use Rattle.std.proofs.Common.{◌≡◌, ◌<◌, ◌≤◌, ℕ, ◌+◌, ◌-◌, Bool, true, false, cond, List, [], ◌∷◌, ◌++◌, refl, sym, ap, subst, ◌∙◌, inl, inr, arith, eq-eqb, ap₂, min, max, zero, suc, get_or, drop}
 use Rattle.std.specs.Prelude.{◌⊎◌, ◌&&◌, ◌==◌, Contains, Ok, Err, nat_le, nat_lt}
-use Rattle.std.specs.List.{list_any}
+use Rattle.std.specs.List.{list_any, range_with_len}
 use Rattle.std.proofs.lemmas.Bool.{cases_eq, cases_lt, ne_eqb, lt-ltb, le-ltb, le-leb, lt-leb, false_from_ne_true, or_parts as neither, or_from as none_of_both}
 use Rattle.std.proofs.lemmas.List.Elements.{Contains-append_cases, Contains-append_left, Contains-append_right}
 use Rattle.fc_record.specs.declared.Geometry.{Geometry}
@@ -11,10 +11,13 @@ use Rattle.fc_zone.specs.Zone.{Spells}
 use Rattle.fc_zone.proofs.HolderLemmas.{Spells-split}
 use Rattle.fc_newmap.specs.declared.tally.IdTally.{IdTally}
 use Rattle.fc_newmap.specs.declared.tally.NewestRun.{NewestRun}
-use Rattle.fc_newmap.specs.Map.{Map, ZoneRun, bits_in, has_id, home_zone, id_runs, runs_of}
+use Rattle.fc_record.specs.Record.{end_bit, first_bit}
+use Rattle.fc_newmap.specs.Map.{Map, ZoneRun, all_runs, bits_in, has_id, home_zone, id_runs, runs_in, runs_of, shape}
+use Rattle.fc_newmap.specs.NewMap.{IsNewMap}
+use Rattle.fc_newmap.proofs.ComposeLemmas.{zone_cut}
 use Rattle.fc_newmap.specs.RunsLaw.{placed}
-use Rattle.fc_newmap.specs.Tally.{IsBitOf, IsFirst, IsNewest, IsRow, first_start, meets, newest_left, no_newest, no_runs, row_left, row_with, start_left, zones_before}
-use Rattle.fc_newmap.proofs.PlaceLemmas.{contains_cases, contains_none, home_low}
+use Rattle.fc_newmap.specs.Tally.{AreApart, IsBitOf, IsFirst, IsNewest, IsRow, first_start, former_of, meets, newest_left, newest_of, no_newest, no_runs, row_left, row_with, start_left, zones_before}
+use Rattle.fc_newmap.proofs.PlaceLemmas.{contains_cases, contains_none, home_low, range_in, zone_in}
 use Rattle.fc_zone.proofs.ZoneLemmas.{Contains-head as contains_here, Contains-tail as contains_later}
 
 -- ---- runs of an identifier among others
@@ -83,6 +86,8 @@ pub record Fits (g : Geometry) (id : ℕ) (In : ℕ → Run → Type 0) (row : I
   pub reach : (z : ℕ) (run : Run) → z < g.zones → In z run → has_id id run.kind ≡ true → zones_before g id z < row.reach
   pub start : (z : ℕ) → z < g.zones → zones_before g id z ≡ row.ahead → (row.start ≡ 0 → ⊥) → IsFirst id (In z) row.start
   pub newest : (row.newest.len ≡ 0 → ⊥) → IsNewest g id In row.newest
+  pub former : (row.former.len ≡ 0 → ⊥) → IsNewest g id In row.former
+  pub apart : AreApart row.newest row.former
 
 abbrev pub RunsOf : Map → ℕ → Run → Type 0
 RunsOf m z = Contains (runs_of m z)
@@ -101,6 +106,8 @@ row_fits m id row is = record {
       ];
   start = is.start;
   newest = is.newest;
+  former = is.former;
+  apart = is.apart;
 }
 
 pub not_below : (a b : ℕ) → a ≤ b → b < a → ⊥
@@ -115,6 +122,8 @@ fits_row m id row bits fits = record {
       any_none id (runs_of m z) (λ run c is. not_below row.reach (zones_before m.geometry id z) more (fits.reach z run low c is));
   start = fits.start;
   newest = fits.newest;
+  former = fits.former;
+  apart = fits.apart;
 }
 
 pub fits_none : (g : Geometry) (id : ℕ) (In : ℕ → Run → Type 0) → ((z : ℕ) (run : Run) → z < g.zones → In z run → has_id id run.kind ≡ true → ⊥) → Fits g id In (no_runs g)
@@ -123,6 +132,8 @@ fits_none g id In none = record {
   reach = λ z run low in' is. absurd (none z run low in' is);
   start = λ z low e some. absurd (some refl);
   newest = λ some. absurd (some refl);
+  former = λ some. absurd (some refl);
+  apart = λ bit same from to from' to'. absurd (omega (arith, from, to));
 }
 
 newest_kept : (g : Geometry) (id : ℕ) (In Those : ℕ → Run → Type 0) (newest : NewestRun) → ((z : ℕ) → z < g.zones → Spans id (In z) (Those z)) → IsNewest g id In newest → IsNewest g id Those newest
@@ -141,6 +152,8 @@ fits_kept g id In Those row there back spans fits = record {
   reach = λ z run low in' is. (let x = back z low run in' is in fits.reach z x.0 low x.1.0 x.1.1);
   start = λ z low e some. first_kept id row.start (In z) (Those z) (there z low) (back z low) (fits.start z low e some);
   newest = λ some. newest_kept g id In Those row.newest spans (fits.newest some);
+  former = λ some. newest_kept g id In Those row.former spans (fits.former some);
+  apart = fits.apart;
 }
 
 -- ---- a run more
@@ -166,6 +179,10 @@ before_same g id y z in' low e =
 
     above : (home z : ℕ) → home ≤ z → cond (nat_le home z) (z - home) (g.zones - home + z) ≡ z - home
     above home z h = ap (λ (b : Bool). cond b (z - home) (g.zones - home + z)) (le-leb home z h)
+
+-- No bit of the run in the zone is the identifier's.
+abbrev pub IsNew : Geometry → ℕ → ℕ → (ℕ → Run → Type 0) → Run → Type 0
+IsNew g id z In run = (bit : ℕ) → run.start ≤ bit → bit < run.start + run.len → IsBitOf id (In z) bit → ⊥
 
 -- those runs, and one more in a zone
 abbrev pub More : (ℕ → Run → Type 0) → ℕ → Run → ℕ → Run → Type 0
@@ -275,8 +292,18 @@ module _ (g : Geometry) (id z : ℕ) (In : ℕ → Run → Type 0) (row : IdTall
       above : (a b : ℕ) → a ≤ b → (b ≡ a → ⊥) → a < b
       above a b h other = omega arith
 
-  pub fits_more : (len : ℕ) → len ≡ run.len → Fits g id (More In z run) (row_with row (zones_before g id z) run.start len)
-  fits_more len whole = record {
+  -- the newest has no bits of this one, and stays
+  newest_apart : (len : ℕ) → len ≡ run.len → IsNew g id z In run → AreApart (record { before = zones_before g id z; start = run.start; len = len }) row.newest
+  newest_apart len whole new bit same from to from' to' =
+      let newest = fits.newest (λ none. omega (arith, none, from', to')) in
+      let here = before_same g id newest.zone z newest.low low (newest.before ∙ sym same) in
+      new bit from (subst (λ (n : ℕ). bit < run.start + n) whole to) (subst (λ (y : ℕ). IsBitOf id (In y) bit) here (newest.bits bit from' to'))
+
+  newest_more : (newest : NewestRun) → IsNewest g id In newest → IsNewest g id (More In z run) newest
+  newest_more newest is = newest_kept g id In (More In z run) newest (λ y y_low. spans_of id (In y) (More In z run y) (λ u c. inl c)) is
+
+  pub fits_more : (len : ℕ) → len ≡ run.len → IsNew g id z In run → Fits g id (More In z run) (row_with row (zones_before g id z) run.start len)
+  fits_more len whole new = record {
     ahead = λ y other y_low in' of_id. elim in' [
       | inl old ↦ left_low row.ahead (zones_before g id z) (zones_before g id y) (fits.ahead y other y_low old of_id)
       | inr new ↦ right_low row.ahead (zones_before g id z) (zones_before g id y) (ap (zones_before g id) new.0)
@@ -298,6 +325,8 @@ module _ (g : Geometry) (id z : ℕ) (In : ℕ → Run → Type 0) (row : IdTall
         before = subst (λ (n : ℕ). bit < run.start + n) whole to;
       };
     };
+    former = λ some. newest_more row.newest (fits.newest some);
+    apart = newest_apart len whole new;
   }
     where
       left_low : (a b n : ℕ) → a ≤ n → min a b ≤ n
@@ -334,6 +363,21 @@ meets_there newest before start len bit zone from to from' to' =
           ∙ lt-ltb newest.start (start + len) (omega arith)
     ]
 
+-- the two that are left have no bits in common
+known_apart : (none : Bool) (newest former : NewestRun) → AreApart newest former → AreApart (cond none former newest) (cond none no_newest former)
+known_apart true newest former apart = λ bit same from to from' to'. absurd (omega (arith, from', to'))
+known_apart false newest former apart = apart
+
+left_apart : (met met' : Bool) (newest former : NewestRun) → AreApart newest former
+    → AreApart (newest_of (cond met no_newest newest) (cond met' no_newest former)) (former_of (cond met no_newest newest) (cond met' no_newest former))
+left_apart met met' newest former apart =
+    known_apart ((cond met no_newest newest).len == 0) (cond met no_newest newest) (cond met' no_newest former) (by met met')
+  where
+    by : (met met' : Bool) → AreApart (cond met no_newest newest) (cond met' no_newest former)
+    by true met' = λ bit same from to from' to'. absurd (omega (arith, from, to))
+    by false true = λ bit same from to from' to'. absurd (omega (arith, from', to'))
+    by false false = apart
+
 module _ (g : Geometry) (id z : ℕ) (In Those : ℕ → Run → Type 0) (row : IdTally) (run : Run) (back : (y : ℕ) → Covers id (Those y) (In y)) (kept : (y : ℕ) (other : Run) → In y other → More Those z run y other) (fits : Fits g id In row) where
   -- the first is another
   first_stays : (y : ℕ) → y < g.zones → zones_before g id y ≡ row.ahead → (row.start ≡ 0 → ⊥) → (zones_before g id z ≡ row.ahead → run.start ≡ row.start → ⊥) → IsFirst id (Those y) row.start
@@ -356,9 +400,9 @@ module _ (g : Geometry) (id z : ℕ) (In Those : ℕ → Run → Type 0) (row : 
       let is = start_stays row (zones_before g id z) run.start other in
       subst (IsFirst id (Those y)) (sym is) (first_stays y low e (λ none. some (is ∙ none)) other)
 
-  -- the newest is another, and has no bits of this one
-  newest_stays : meets row.newest (zones_before g id z) run.start run.len ≡ false → IsNewest g id In row.newest → IsNewest g id Those row.newest
-  newest_stays apart is = record {
+  -- the newest, or the one before it, is another, and has no bits of this one
+  newest_stays : (newest : NewestRun) → meets newest (zones_before g id z) run.start run.len ≡ false → IsNewest g id In newest → IsNewest g id Those newest
+  newest_stays newest apart is = record {
     zone = is.zone;
     low = is.low;
     before = is.before;
@@ -366,23 +410,42 @@ module _ (g : Geometry) (id z : ℕ) (In Those : ℕ → Run → Type 0) (row : 
         (let b = is.bits bit from to in
         elim (kept is.zone b.run b.among) [
           | inl still ↦ bit_in id (In is.zone) (Those is.zone) bit b still
-          | inr gone ↦ absurd (not_both (meets row.newest (zones_before g id z) run.start run.len)
-              (meets_there row.newest (zones_before g id z) run.start run.len bit (ap (zones_before g id) (sym gone.0) ∙ is.before) from to
+          | inr gone ↦ absurd (not_both (meets newest (zones_before g id z) run.start run.len)
+              (meets_there newest (zones_before g id z) run.start run.len bit (ap (zones_before g id) (sym gone.0) ∙ is.before) from to
               (subst (λ (u : Run). u.start ≤ bit) gone.1 b.from) (subst (λ (u : Run). bit < u.start + u.len) gone.1 b.before))
               apart)
         ]);
   }
 
-  newest_less : (newest : NewestRun) (met : Bool) → meets row.newest (zones_before g id z) run.start run.len ≡ met → newest ≡ cond met no_newest row.newest → (newest.len ≡ 0 → ⊥) → IsNewest g id Those newest
-  newest_less newest true met e some = absurd (some (ap (λ (n : NewestRun). n.len) e))
-  newest_less newest false met e some = subst (IsNewest g id Those) (sym e) (newest_stays met (fits.newest (λ none. some (ap (λ (n : NewestRun). n.len) e ∙ none))))
+  newest_less : (was : NewestRun) (met : Bool) → meets was (zones_before g id z) run.start run.len ≡ met → ((was.len ≡ 0 → ⊥) → IsNewest g id In was)
+      → ((cond met no_newest was).len ≡ 0 → ⊥) → IsNewest g id Those (cond met no_newest was)
+  newest_less was true met is some = absurd (some refl)
+  newest_less was false met is some = newest_stays was met (is some)
+
+  -- what is left of the two
+  abbrev left_of : NewestRun → NewestRun
+  left_of was = newest_left was (zones_before g id z) run.start run.len
+
+  is_left : (was : NewestRun) → ((was.len ≡ 0 → ⊥) → IsNewest g id In was) → ((left_of was).len ≡ 0 → ⊥) → IsNewest g id Those (left_of was)
+  is_left was is = newest_less was (meets was (zones_before g id z) run.start run.len) refl is
+
+  newest_known : (newest former : NewestRun) (none : Bool) → ((newest.len ≡ 0 → ⊥) → IsNewest g id Those newest) → ((former.len ≡ 0 → ⊥) → IsNewest g id Those former)
+      → ((cond none former newest).len ≡ 0 → ⊥) → IsNewest g id Those (cond none former newest)
+  newest_known newest former true is was = was
+  newest_known newest former false is was = is
+
+  former_known : (former : NewestRun) (none : Bool) → ((former.len ≡ 0 → ⊥) → IsNewest g id Those former) → ((cond none no_newest former).len ≡ 0 → ⊥) → IsNewest g id Those (cond none no_newest former)
+  former_known former true was some = absurd (some refl)
+  former_known former false was some = was some
 
   pub fits_left : Fits g id Those (row_left row (zones_before g id z) run.start run.len)
   fits_left = record {
     ahead = λ y other low in' is. (let x = back y other in' is in fits.ahead y x.0 low x.1.0 x.1.1);
     reach = λ y other low in' is. (let x = back y other in' is in fits.reach y x.0 low x.1.0 x.1.1);
     start = first_less;
-    newest = newest_less (newest_left row.newest (zones_before g id z) run.start run.len) (meets row.newest (zones_before g id z) run.start run.len) refl refl;
+    newest = newest_known (left_of row.newest) (left_of row.former) ((left_of row.newest).len == 0) (is_left row.newest fits.newest) (is_left row.former fits.former);
+    former = former_known (left_of row.former) ((left_of row.newest).len == 0) (is_left row.former fits.former);
+    apart = left_apart (meets row.newest (zones_before g id z) run.start run.len) (meets row.former (zones_before g id z) run.start run.len) row.newest row.former fits.apart;
   }
 
 -- ---- the runs of one zone change
@@ -531,6 +594,33 @@ front_before shape bs front rest at end run other h c =
     let first = cut.2.0 in
     omega (arith, within.1, within.2, first)
 
+-- they end before it
+pub front_ends : (shape : ZoneShape) (bs : List ℕ) (front rest : List Run) (at end : ℕ) (run other : Run) → Spells shape bs at (front ++ run ∷ rest) end → Contains front other → other.start + other.len ≤ run.start
+front_ends shape bs front rest at end run other h c =
+    let cut = Spells-split shape bs front (run ∷ rest) at end h in
+    let within = spelled_within shape bs front at cut.0 other cut.1 c in
+    let first = cut.2.0 in
+    omega (arith, within.2, first)
+
+-- a run that isn't the identifier's has none of its bits
+pub none_within : (id : ℕ) (shape : ZoneShape) (bs : List ℕ) (front rest : List Run) (at end : ℕ) (run : Run) → Spells shape bs at (front ++ run ∷ rest) end → has_id id run.kind ≡ false → (bit : ℕ) → run.start ≤ bit → bit < run.start + run.len
+    → IsBitOf id (Contains (front ++ run ∷ rest)) bit → ⊥
+none_within id shape bs front rest at end run h none bit from to b = elim (Contains-append_cases front (run ∷ rest) b.run b.among) [
+  | inl early ↦ (
+      let ends = front_ends shape bs front rest at end run b.run h early in
+      let before = b.before in
+      absurd (omega (arith, ends, before, from)))
+  | inr more ↦ elim (contains_cases run rest b.run more) [
+    | Ok here ↦ absurd (not_both (has_id id b.run.kind) b.of_id (ap (λ (u : Run). has_id id u.kind) (sym here) ∙ none))
+    | Err late ↦ (
+        let cut = Spells-split shape bs front (run ∷ rest) at end h in
+        let first = cut.2.0 in
+        let within = spelled_within shape bs rest (cut.0 + run.len) end b.run cut.2.3 late in
+        let low = b.from in
+        absurd (omega (arith, within.0, first, low, to)))
+  ]
+]
+
 pub next_after : (shape : ZoneShape) (bs : List ℕ) (front rest : List Run) (at end : ℕ) (one two : Run) → Spells shape bs at (front ++ one ∷ two ∷ rest) end → two.start ≡ one.start + one.len
 next_after shape bs front rest at end one two h =
     let cut = Spells-split shape bs front (one ∷ two ∷ rest) at end h in
@@ -560,3 +650,64 @@ contains_placed z (x ∷ runs) run c = elim (contains_cases (let p : ZoneRun = (
   | Ok here ↦ subst (λ (u : Run). Contains (x ∷ runs) u) (ap (λ (p : ZoneRun). p.1) here) (contains_here x runs)
   | Err later ↦ contains_later x runs run (contains_placed z runs run later)
 ]
+
+placed_zone : (z : ℕ) (runs : List Run) (p : ZoneRun) → Contains (placed z runs) p → p.0 ≡ z
+placed_zone z [] p c = absurd (contains_none p c)
+placed_zone z (x ∷ runs) p c = elim (contains_cases (let q : ZoneRun = (z, x) in q) (placed z runs) p c) [
+  | Ok here ↦ ap (λ (q : ZoneRun). q.0) (sym here)
+  | Err later ↦ placed_zone z runs p later
+]
+
+-- A run that a pass comes to is one of these in a zone, or comes after them.
+cut_placed : (z : ℕ) (runs : List Run) (others passed rest : List ZoneRun) (p : ZoneRun) → passed ++ p ∷ rest ≡ placed z runs ++ others
+    → ((front tail : List Run) × ((runs ≡ front ++ p.1 ∷ tail) × (passed ≡ placed z front) × (p.0 ≡ z))) ⊎ ((later : List ZoneRun) × ((passed ≡ placed z runs ++ later) × (later ++ p ∷ rest ≡ others)))
+cut_placed z [] others passed rest p e = inr (passed, (refl, e))
+cut_placed z (run ∷ runs) others [] rest p e =
+    let here : p ≡ (z, run) = ap (λ (l : List ZoneRun). get_or l 0 p) e in
+    inl ([], runs, (ap (λ (q : ZoneRun). q.1 ∷ runs) (sym here), refl, ap (λ (q : ZoneRun). q.0) here))
+cut_placed z (run ∷ runs) others (q ∷ passed) rest p e =
+    let here : q ≡ (z, run) = ap (λ (l : List ZoneRun). get_or l 0 q) e in
+    elim (cut_placed z runs others passed rest p (ap (λ (l : List ZoneRun). drop 1 l) e)) [
+      | inl c ↦ inl (run ∷ c.0, c.1, (ap (λ (us : List Run). run ∷ us) c.2.0, ap₂ (λ (u : ZoneRun) (us : List ZoneRun). u ∷ us) here c.2.1, c.2.2))
+      | inr c ↦ inr (c.0, (ap₂ (λ (u : ZoneRun) (us : List ZoneRun). u ∷ us) here c.1.0, c.1.1))
+    ]
+
+-- Those of its zone that the pass came to are before it there.
+front_of : (m : Map) (from n : ℕ) (passed rest : List ZoneRun) (p : ZoneRun) → passed ++ p ∷ rest ≡ runs_in m (range_with_len from n)
+    → (front tail : List Run) × ((runs_of m p.0 ≡ front ++ p.1 ∷ tail) × ((other : Run) → Contains passed (p.0, other) → Contains front other))
+front_of m from zero passed rest p e = absurd (contains_none p (subst (λ (l : List ZoneRun). Contains l p) e (Contains-append_right passed (p ∷ rest) p (contains_here p rest))))
+front_of m from (suc n) passed rest p e =
+    let others = runs_in m (range_with_len (from + 1) n) in
+    elim (cut_placed from (runs_of m from) others passed rest p e) [
+      | inl c ↦ (
+        c.0,
+        c.1,
+        (
+          ap (runs_of m) c.2.2 ∙ c.2.0,
+          λ other in'. contains_placed from c.0 other (subst (λ (y : ℕ). Contains (placed from c.0) (y, other)) c.2.2 (subst (λ (l : List ZoneRun). Contains l (p.0, other)) c.2.1 in')),
+        ),
+      )
+      | inr c ↦ (
+          let r = front_of m (from + 1) n c.0 rest p c.1.1 in
+          let there : Contains others p = subst (λ (l : List ZoneRun). Contains l p) c.1.1 (Contains-append_right c.0 (p ∷ rest) p (contains_here p rest)) in
+          let above = range_in (from + 1) n p.0 (zone_in m (range_with_len (from + 1) n) p there).0 in (
+            r.0,
+            r.1,
+            (
+              r.2.0,
+              λ other in'. elim (Contains-append_cases (placed from (runs_of m from)) c.0 (p.0, other) (subst (λ (l : List ZoneRun). Contains l (p.0, other)) c.1.0 in')) [
+                | inl early ↦ (let zone = placed_zone from (runs_of m from) (p.0, other) early in absurd (omega (arith, zone, above.0)))
+                | inr late ↦ r.2.1 other late
+              ],
+            ),
+          ))
+    ]
+
+-- so the run has no bits of theirs
+pub new_run : (m : Map) (passed rest : List ZoneRun) (p : ZoneRun) (id : ℕ) → IsNewMap m → p.0 < m.geometry.zones → passed ++ p ∷ rest ≡ all_runs m → IsNew m.geometry id p.0 (λ y other. Contains passed (y, other)) p.1
+new_run m passed rest p id is low e = λ bit from to b.
+    let r = front_of m 0 m.geometry.zones passed rest p e in
+    let zone = zone_cut m p.0 (r.0 ++ p.1 ∷ r.1) is low r.2.0 in
+    let ends = front_ends (shape m.geometry p.0) _ r.0 r.1 (first_bit p.0) (end_bit m.geometry p.0) p.1 b.run zone.spelled (r.2.1 b.run b.among) in
+    let before = b.before in
+    omega (arith, ends, before, from)

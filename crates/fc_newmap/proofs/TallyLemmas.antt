@@ -26,12 +26,12 @@ use Rattle.fc_newmap.specs.Edits.{IsEdit, KeepsRuns, MergesIn, RelabelsIn, Split
 use Rattle.fc_newmap.specs.NewMap.{IsNewMap, IsOfRecord}
 use Rattle.fc_newmap.specs.RunsLaw.{placed}
 use Rattle.fc_newmap.specs.Tally.{HasBits, HasRoom, IsBitOf, IsFirst, IsNewest, IsRow, IsTally, IsTallyOf, counted, no_row, no_runs, row_left, row_less, row_of, row_only, row_with, uncounted, zones_before}
-use Rattle.fc_newmap.proofs.ComposeLemmas.{runs_other}
+use Rattle.fc_newmap.proofs.ComposeLemmas.{runs_other, zone_cut}
 use Rattle.fc_newmap.proofs.CoverLemmas.{range_cut}
 use Rattle.fc_newmap.proofs.GeometryLemmas.{facts_of_valid}
 use Rattle.fc_newmap.proofs.HeldLemmas.{end_within, geometry_facts, sector_high}
 use Rattle.fc_newmap.proofs.PlaceLemmas.{contains_cases, contains_none, home_low, id_runs_by_zones, in_id_runs, in_range, in_zone, zone_in}
-use Rattle.fc_newmap.proofs.RowLemmas.{Covers, Fits, More, RunsOf, Spans, before_same, bit_in, contains_cut, contains_placed, covers_cons, covers_edited, covers_nil, covers_none, fits_kept, fits_left, fits_more, fits_none, fits_row, more_back, more_spans, more_there, next_after, not_both, placed_contains, row_fits, spans_cons, spans_edited, spans_nil, spans_none, spans_of, spelled_within, was_or_new}
+use Rattle.fc_newmap.proofs.RowLemmas.{Covers, Fits, IsNew, More, RunsOf, Spans, before_same, bit_in, contains_cut, contains_placed, covers_cons, covers_edited, covers_nil, covers_none, fits_kept, fits_left, fits_more, fits_none, fits_row, more_back, more_spans, more_there, new_run, next_after, none_within, not_both, placed_contains, row_fits, spans_cons, spans_edited, spans_nil, spans_none, spans_of, spelled_within, was_or_new}
 use Rattle.fc_zone.proofs.ZoneLemmas.{Contains-head as contains_here, Contains-tail as contains_later}
 
 -- ---- sums
@@ -47,7 +47,7 @@ bits_of_id id p = share id p.1.kind p.1.len
 abbrev pub part : ℕ → ℕ → List Run → ℕ
 part id z runs = sum_by (bits_of_id id) (placed z runs)
 
-of_runs : (id : ℕ) (runs : List ZoneRun) → bits_in (filter (λ p. has_id id p.1.kind) runs) ≡ sum_by (bits_of_id id) runs
+pub of_runs : (id : ℕ) (runs : List ZoneRun) → bits_in (filter (λ p. has_id id p.1.kind) runs) ≡ sum_by (bits_of_id id) runs
 of_runs id [] = refl
 of_runs id (p ∷ runs) = by (has_id id p.1.kind) (of_runs id runs) ∙ sym (sum_by-cons (bits_of_id id) p runs)
   where
@@ -320,36 +320,84 @@ some_bits m id z run is low c of_id none =
 
 -- ---- the newest run alone
 
--- bits that all are the identifier's
-covered_low : (id z : ℕ) (shape : ZoneShape) (bs : List ℕ) (runs : List Run) (at end from n : ℕ) → Spells shape bs at runs end → ((bit : ℕ) → from ≤ bit → bit < from + n → IsBitOf id (Contains runs) bit) → n ≤ part id z runs
-covered_low id z shape bs [] at end from zero h covered = omega arith
-covered_low id z shape bs [] at end from (suc n) h covered = (let b = covered from (omega arith) (omega arith) in absurd (contains_none b.run b.among))
-covered_low id z shape bs (run ∷ runs) at end from n h covered =
+-- bits that all are the identifier's, one row of them after another
+pub covered_both : (id z : ℕ) (shape : ZoneShape) (bs : List ℕ) (runs : List Run) (at end a n b k : ℕ) → a + n ≤ b → Spells shape bs at runs end → ((bit : ℕ) → a ≤ bit → bit < a + n → IsBitOf id (Contains runs) bit)
+    → ((bit : ℕ) → b ≤ bit → bit < b + k → IsBitOf id (Contains runs) bit) → n + k ≤ part id z runs
+covered_both id z shape bs [] at end a zero b zero apart h one two = omega arith
+covered_both id z shape bs [] at end a (suc n) b k apart h one two = (let bit = one a (omega arith) (omega arith) in absurd (contains_none bit.run bit.among))
+covered_both id z shape bs [] at end a zero b (suc k) apart h one two = (let bit = two b (omega arith) (omega arith) in absurd (contains_none bit.run bit.among))
+covered_both id z shape bs (run ∷ runs) at end a n b k apart h one two =
     let sum = sum_by-cons (bits_of_id id) (z, run) (placed z runs) in
     let first = h.0 in
-    let later : (bit : ℕ) → at + run.len ≤ bit → IsBitOf id (Contains (run ∷ runs)) bit → IsBitOf id (Contains runs) bit = λ bit past b. elim (contains_cases run runs b.run b.among) [
-      | Ok here ↦ (let low = subst (λ (u : Run). bit < u.start + u.len) (sym here) b.before in absurd (omega (arith, low, first)))
-      | Err rest ↦ bit_in id (Contains (run ∷ runs)) (Contains runs) bit b rest
+    let later : (bit : ℕ) → at + run.len ≤ bit → IsBitOf id (Contains (run ∷ runs)) bit → IsBitOf id (Contains runs) bit = λ bit past x. elim (contains_cases run runs x.run x.among) [
+      | Ok here ↦ (let low = subst (λ (u : Run). bit < u.start + u.len) (sym here) x.before in absurd (omega (arith, low, first)))
+      | Err rest ↦ bit_in id (Contains (run ∷ runs)) (Contains runs) bit x rest
     ] in
-    elim (cases_lt from (at + run.len)) [
-      | inl less ↦ elim (cases_eq n 0) [
-        | inl none ↦ omega (arith, none)
-        | inr some ↦ (
-            let b = covered from (omega arith) (omega arith) in
-            let mine : (has_id id run.kind ≡ true) × (run.start ≤ from) = elim (contains_cases run runs b.run b.among) [
-              | Ok here ↦ (ap (λ (u : Run). has_id id u.kind) here ∙ b.of_id, subst (λ (u : Run). u.start ≤ from) (sym here) b.from)
-              | Err rest ↦ (let within = spelled_within shape bs runs (at + run.len) end b.run h.3 rest in let low = b.from in absurd (omega (arith, within.0, low)))
-            ] in
-            let rest = covered_low id z shape bs runs (at + run.len) end (at + run.len) (from + n - (at + run.len)) h.3 (λ bit past to. later bit past (covered bit (omega arith) (omega arith))) in
-            omega (arith, sum, rest, share_is id run.kind run.len true mine.0, mine.1, first))
+    let here : (bit : ℕ) → IsBitOf id (Contains (run ∷ runs)) bit → (at + run.len ≤ bit) ⊎ ((at ≤ bit) × (share id run.kind run.len ≡ run.len)) = λ bit x. elim (contains_cases run runs x.run x.among) [
+      | Ok is ↦ (
+          let from = subst (λ (u : Run). u.start ≤ bit) (sym is) x.from in
+          inr (omega (arith, from, first), share_is id run.kind run.len true (ap (λ (u : Run). has_id id u.kind) is ∙ x.of_id)))
+      | Err rest ↦ (let within = spelled_within shape bs runs (at + run.len) end x.run h.3 rest in let low = x.from in inl (omega (arith, within.0, low)))
+    ] in
+    let rest = covered_both id z shape bs runs (at + run.len) end (max a (at + run.len)) (a + n - max a (at + run.len)) (max b (at + run.len)) (b + k - max b (at + run.len)) (omega arith) h.3
+    (λ bit low to. later bit (omega (arith, low)) (one bit (omega (arith, low)) (omega (arith, low, to))))
+    (λ bit low to. later bit (omega (arith, low)) (two bit (omega (arith, low)) (omega (arith, low, to)))) in
+    let own = share id run.kind run.len in
+    elim (cases_eq n 0) [
+      | inl no_first ↦ elim (cases_eq k 0) [
+        | inl none ↦ omega (arith, no_first, none)
+        | inr some ↦ elim (here b (two b (omega arith) (omega arith))) [
+          | inl past ↦ omega (arith, sum, rest, no_first, past)
+          | inr met ↦ omega (arith, sum, rest, no_first, met.0, met.1)
+        ]
       ]
-      | inr past ↦ (let rest = covered_low id z shape bs runs (at + run.len) end from n h.3 (λ bit low to. later bit (omega arith) (covered bit low to)) in omega (arith, sum, rest))
+      | inr some ↦ elim (here a (one a (omega arith) (omega arith))) [
+        | inl past ↦ omega (arith, sum, rest, past)
+        | inr met ↦ omega (arith, sum, rest, met.0, met.1)
+      ]
     ]
 
-one_low : (f : ℕ → ℕ) (z n : ℕ) → z < n → f z ≤ sum_by f (range_with_len 0 n)
+pub covered_low : (id z : ℕ) (shape : ZoneShape) (bs : List ℕ) (runs : List Run) (at end from n : ℕ) → Spells shape bs at runs end → ((bit : ℕ) → from ≤ bit → bit < from + n → IsBitOf id (Contains runs) bit) → n ≤ part id z runs
+covered_low id z shape bs runs at end from n h covered =
+    let low = covered_both id z shape bs runs at end from n (from + n) 0 (omega arith) h covered (λ bit past to. absurd (omega arith)) in
+    omega (arith, low)
+
+-- If the identifier has no other bits there, none of its runs begins before them.
+pub none_early : (id z : ℕ) (shape : ZoneShape) (bs : List ℕ) (runs : List Run) (at end a n b k : ℕ) (run : Run) → Spells shape bs at runs end → Contains runs run → has_id id run.kind ≡ true → a + n ≤ b
+    → ((bit : ℕ) → a ≤ bit → bit < a + n → IsBitOf id (Contains runs) bit) → ((bit : ℕ) → b ≤ bit → bit < b + k → IsBitOf id (Contains runs) bit) → part id z runs ≤ n + k → a ≤ run.start
+none_early id z shape bs runs at end a n b k run h c of_id apart one two high = elim (cases_lt run.start a) [
+  | inl less ↦ (
+      let cut = contains_cut runs run c in
+      let front = cut.0 in
+      let rest = cut.1 in
+      let spelled : Spells shape bs at (front ++ run ∷ rest) end = subst (λ (rs : List Run). Spells shape bs at rs end) cut.2 h in
+      let split = Spells-split shape bs front (run ∷ rest) at end spelled in
+      let first = split.2.0 in
+      let within = spelled_within shape bs runs at end run h c in
+      let after : (bit : ℕ) → split.0 + run.len ≤ bit → IsBitOf id (Contains runs) bit → IsBitOf id (Contains rest) bit = λ bit past x.
+      elim (Contains-append_cases front (run ∷ rest) x.run (subst (λ (rs : List Run). Contains rs x.run) cut.2 x.among)) [
+        | inl early ↦ (
+            let ends = spelled_within shape bs front at split.0 x.run split.1 early in
+            let low = x.before in
+            absurd (omega (arith, ends.2, low, past)))
+        | inr more ↦ elim (contains_cases run rest x.run more) [
+          | Ok here ↦ (let low = subst (λ (u : Run). bit < u.start + u.len) (sym here) x.before in absurd (omega (arith, low, first, past)))
+          | Err late ↦ bit_in id (Contains runs) (Contains rest) bit x late
+        ]
+      ] in
+      let left = covered_both id z shape bs rest (split.0 + run.len) end (max a (split.0 + run.len)) (a + n - max a (split.0 + run.len)) (max b (split.0 + run.len)) (b + k - max b (split.0 + run.len)) (omega arith) split.2.3
+      (λ bit low to. after bit (omega (arith, low)) (one bit (omega (arith, low)) (omega (arith, low, to))))
+      (λ bit low to. after bit (omega (arith, low)) (two bit (omega (arith, low)) (omega (arith, low, to)))) in
+      let parts : part id z runs ≡ part id z front + part id z (run ∷ rest) = ap (part id z) cut.2 ∙ part-append id z front (run ∷ rest) in
+      let sum = sum_by-cons (bits_of_id id) (z, run) (placed z rest) in
+      absurd (omega (arith, left, within.1, parts, sum, first, high, less, share_is id run.kind run.len true of_id)))
+  | inr more ↦ more
+]
+
+pub one_low : (f : ℕ → ℕ) (z n : ℕ) → z < n → f z ≤ sum_by f (range_with_len 0 n)
 one_low f z n low = let s = sum_one f f z 0 n (omega arith) (omega arith) (λ y other. refl) in omega (arith, s.1.0)
 
-two_low : (f : ℕ → ℕ) (y z n : ℕ) → y < n → z < n → (z ≡ y → ⊥) → f y + f z ≤ sum_by f (range_with_len 0 n)
+pub two_low : (f : ℕ → ℕ) (y z n : ℕ) → y < n → z < n → (z ≡ y → ⊥) → f y + f z ≤ sum_by f (range_with_len 0 n)
 two_low f y z n y_low z_low other =
     let f' : ℕ → ℕ = λ k. cond (k == y) 0 (f k) in
     let s = sum_one f f' y 0 n (omega arith) (omega arith) (λ k ne. ap (λ (b : Bool). cond b 0 (f k)) (ne_eqb k y ne)) in
@@ -357,6 +405,16 @@ two_low f y z n y_low z_low other =
     let kept : f' z ≡ f z = ap (λ (b : Bool). cond b 0 (f z)) (ne_eqb z y other) in
     let none : f' y ≡ 0 = ap (λ (b : Bool). cond b 0 (f y)) (eq-eqb y y refl) in
     omega (arith, s.1.0, s.1.1, low, kept, none)
+
+pub three_low : (f : ℕ → ℕ) (x y z n : ℕ) → x < n → y < n → z < n → (y ≡ x → ⊥) → (z ≡ x → ⊥) → (z ≡ y → ⊥) → f x + f y + f z ≤ sum_by f (range_with_len 0 n)
+three_low f x y z n x_low y_low z_low yx zx zy =
+    let f' : ℕ → ℕ = λ k. cond (k == x) 0 (f k) in
+    let s = sum_one f f' x 0 n (omega arith) (omega arith) (λ k ne. ap (λ (b : Bool). cond b 0 (f k)) (ne_eqb k x ne)) in
+    let low = two_low f' y z n y_low z_low zy in
+    let kept : f' y ≡ f y = ap (λ (b : Bool). cond b 0 (f y)) (ne_eqb y x yx) in
+    let kept' : f' z ≡ f z = ap (λ (b : Bool). cond b 0 (f z)) (ne_eqb z x zx) in
+    let none : f' x ≡ 0 = ap (λ (b : Bool). cond b 0 (f x)) (eq-eqb x x refl) in
+    omega (arith, s.1.0, s.1.1, low, kept, kept', none)
 
 -- An identifier has no bits but those of its newest run.
 module _ (m : Map) (id : ℕ) (row : IdTally) (is : IsNewMap m) (fits : Fits m.geometry id (RunsOf m) row) (newest : IsNewest m.geometry id (RunsOf m) row.newest) (all : bits_in (id_runs m id) ≡ row.newest.len) where
@@ -386,41 +444,13 @@ module _ (m : Map) (id : ℕ) (row : IdTally) (is : IsNewMap m) (fits : Fits m.g
 
   -- none begins before it
   none_before : (run : Run) → Contains (runs_of m newest.zone) run → has_id id run.kind ≡ true → row.newest.start ≤ run.start
-  none_before run c of_id = elim (cases_lt run.start row.newest.start) [
-    | inl less ↦ (
-        let z = newest.zone in
-        let cut = contains_cut (runs_of m z) run c in
-        let front = cut.0 in
-        let rest = cut.1 in
-        let zone = is.right z newest.low in
-        let bs = bits (sector_of m z) in
-        let spelled : Spells (shape m.geometry z) bs (first_bit z) (front ++ run ∷ rest) (end_bit m.geometry z) =
-        subst (λ (runs : List Run). Spells (shape m.geometry z) bs (first_bit z) runs (end_bit m.geometry z)) cut.2 zone.spelled in
-        let split = Spells-split (shape m.geometry z) bs front (run ∷ rest) (first_bit z) (end_bit m.geometry z) spelled in
-        let first = split.2.0 in
-        let within = spelled_within (shape m.geometry z) bs (runs_of m z) (first_bit z) (end_bit m.geometry z) run zone.spelled c in
-        let after : (bit : ℕ) → split.0 + run.len ≤ bit → IsBitOf id (RunsOf m z) bit → IsBitOf id (Contains rest) bit = λ bit past b.
-        elim (Contains-append_cases front (run ∷ rest) b.run (subst (λ (runs : List Run). Contains runs b.run) cut.2 b.among)) [
-          | inl early ↦ (
-              let ends = spelled_within (shape m.geometry z) bs front (first_bit z) split.0 b.run split.1 early in
-              let low = b.before in
-              absurd (omega (arith, ends.2, low)))
-          | inr more ↦ elim (contains_cases run rest b.run more) [
-            | Ok here ↦ (let low = subst (λ (u : Run). bit < u.start + u.len) (sym here) b.before in absurd (omega (arith, low, first)))
-            | Err late ↦ bit_in id (RunsOf m z) (Contains rest) bit b late
-          ]
-        ] in
-        let from : ℕ = max row.newest.start (split.0 + run.len) in
-        let left : row.newest.start + row.newest.len - from ≤ part id z rest =
-        covered_low id z (shape m.geometry z) bs rest (split.0 + run.len) (end_bit m.geometry z) from (row.newest.start + row.newest.len - from) split.2.3 (λ bit low to.
-        let low' : max row.newest.start (split.0 + run.len) ≤ bit = low in
-        let to' : bit < max row.newest.start (split.0 + run.len) + (row.newest.start + row.newest.len - max row.newest.start (split.0 + run.len)) = to in
-        after bit (omega (arith, low')) (newest.bits bit (omega (arith, low')) (omega (arith, low', to')))) in
-        let parts : bits_at z ≡ part id z front + part id z (run ∷ rest) = ap (part id z) cut.2 ∙ part-append id z front (run ∷ rest) in
-        let sum = sum_by-cons (bits_of_id id) (z, run) (placed z rest) in
-        absurd (omega (arith, one_low bits_at z m.geometry.zones newest.low, sum_is, left, within.1, parts, sum, first, share_is id run.kind run.len true of_id)))
-    | inr more ↦ more
-  ]
+  none_before run c of_id =
+      let z = newest.zone in
+      let zone = is.right z newest.low in
+      let start = row.newest.start in
+      let len = row.newest.len in
+      let high = one_low bits_at z m.geometry.zones newest.low in
+      none_early id z (shape m.geometry z) _ (runs_of m z) (first_bit z) (end_bit m.geometry z) start len (start + len) 0 run zone.spelled c of_id (omega arith) newest.bits (λ bit past to. absurd (omega arith)) (omega (arith, high, sum_is))
 
   pub fits_only : (row.newest.len ≡ 0 → ⊥) → Fits m.geometry id (RunsOf m) (row_only row)
   fits_only some =
@@ -451,6 +481,8 @@ module _ (m : Map) (id : ℕ) (row : IdTally) (is : IsNewMap m) (fits : Fits m.g
             } in
             subst (λ (k : ℕ). IsFirst id (RunsOf m k) row.newest.start) (sym same) first);
         newest = λ some'. newest;
+        former = fits.former;
+        apart = fits.apart;
       }
 
 -- ---- the pass over all runs
@@ -531,9 +563,9 @@ pushed_none id runs run none y = λ other c is. (
 pushed_old : (id : ℕ) (runs : List ZoneRun) (run : ZoneRun) (y : ℕ) → Covers id (Passed runs y) (Passed (runs ++ run ∷ []) y)
 pushed_old id runs run y = λ other c is. (other, (Contains-append_left runs (run ∷ []) (y, other) c, is, omega arith))
 
-one_fits : (m : Map) (runs : List ZoneRun) (run : ZoneRun) (rows : List IdTally) (id : ℕ) → run.0 < m.geometry.zones → id < length rows → Fits m.geometry id (Passed runs) (row_of rows id)
+one_fits : (m : Map) (runs : List ZoneRun) (run : ZoneRun) (rows : List IdTally) (id : ℕ) → run.0 < m.geometry.zones → id < length rows → IsNew m.geometry id run.0 (Passed runs) run.1 → Fits m.geometry id (Passed runs) (row_of rows id)
     → Fits m.geometry id (Passed (runs ++ run ∷ [])) (row_of (counted m.geometry rows run.0 run.1.kind run.1.start run.1.len) id)
-one_fits m runs run rows id zone low fits =
+one_fits m runs run rows id zone low new fits =
     let g = m.geometry in
     let In = Passed (runs ++ run ∷ []) in
     elim (counted_row g rows run.0 run.1.kind run.1.start run.1.len id low) [
@@ -543,19 +575,20 @@ one_fits m runs run rows id zone low fits =
           let row = row_with (row_of rows id) (zones_before g id run.0) run.1.start run.1.len in
           subst (Fits g id In) (sym mine.1)
           (fits_kept g id (More (Passed runs) run.0 run.1) In row (λ y in'. pushed_there id runs run y) (λ y in'. pushed_back id runs run y)
-          (λ y in'. pushed_spans id runs run y) (fits_more g id run.0 (Passed runs) (row_of rows id) run.1 zone mine.0 fits run.1.len refl)))
+          (λ y in'. pushed_spans id runs run y) (fits_more g id run.0 (Passed runs) (row_of rows id) run.1 zone mine.0 fits run.1.len refl new)))
     ]
 
-pub one_counted : (m : Map) (runs : List ZoneRun) (run : ZoneRun) (g : Geometry) (old new : List IdTally) → run.0 < m.geometry.zones → g ≡ m.geometry → new ≡ counted g old run.0 run.1.kind run.1.start run.1.len → CountsRuns m runs old
+pub one_counted : (m : Map) (runs left rest : List ZoneRun) (run : ZoneRun) (g : Geometry) (old new : List IdTally) → IsNewMap m → runs ++ left ≡ all_runs m → left ≡ run ∷ rest → run.0 < m.geometry.zones → g ≡ m.geometry → new ≡ counted g old run.0 run.1.kind run.1.start run.1.len → CountsRuns m runs old
     → CountsRuns m (runs ++ run ∷ []) new
-one_counted m runs run g old new zone same e counts = record {
+one_counted m runs left rest run g old new is so_far step zone same e counts = record {
   bits = λ id low.
       (let low' : id < length old = omega (arith, low, ap length e, counted_long g old run.0 run.1.kind run.1.start run.1.len) in
       omega (arith, ap (λ (rs : List IdTally). (row_of rs id).bits) e, counted_bits g old run.0 run.1.kind run.1.start run.1.len id low', counts.bits id low', sum_by-append (bits_of_id id) runs (run ∷ []), sum_by-cons (bits_of_id id) run []));
   fits = λ id low.
       (let low' : id < length old = omega (arith, low, ap length e, counted_long g old run.0 run.1.kind run.1.start run.1.len) in
-      let is : new ≡ counted m.geometry old run.0 run.1.kind run.1.start run.1.len = e ∙ ap (λ (h : Geometry). counted h old run.0 run.1.kind run.1.start run.1.len) same in
-      subst (λ (rs : List IdTally). Fits m.geometry id (Passed (runs ++ run ∷ [])) (row_of rs id)) (sym is) (one_fits m runs run old id zone low' (counts.fits id low')));
+      let first = new_run m runs rest run id is zone (ap (λ (l : List ZoneRun). runs ++ l) (sym step) ∙ so_far) in
+      let made : new ≡ counted m.geometry old run.0 run.1.kind run.1.start run.1.len = e ∙ ap (λ (h : Geometry). counted h old run.0 run.1.kind run.1.start run.1.len) same in
+      subst (λ (rs : List IdTally). Fits m.geometry id (Passed (runs ++ run ∷ [])) (row_of rs id)) (sym made) (one_fits m runs run old id zone low' first (counts.fits id low')));
 }
 
 pub walked_on : (passed left rest all : List ZoneRun) (run : ZoneRun) → passed ++ left ≡ all → left ≡ run ∷ rest → (passed ++ run ∷ []) ++ rest ≡ all
@@ -689,12 +722,16 @@ module _ (m n : Map) (z start : ℕ) (edit : IsEdit m n z) (low : z < m.geometry
         let made = relabels r.0 r.1.0 has.0 cut has.1.0 in
         let others : (u : ℕ) → (u ≡ z → ⊥) → runs_of n u ≡ runs_of m u = λ u ne. runs_other m n z u edit ne in
         let start : has.0.start ≡ hole.start = ap (λ (u : Run). u.start) (sym (is r.0 r.1.0 has.0 cut has.1.0)) in
+        let zone = zone_cut m z (r.0 ++ has.0 ∷ r.1.0) edit.was low cut in
+        let first : IsNew m.geometry k z (RunsOf m) new = λ bit from to b.
+        none_within k (shape m.geometry z) _ r.0 r.1.0 (first_bit z) (end_bit m.geometry z) has.0 zone.spelled (ap (has_id k) has.1.1) bit from to
+        (subst (λ (runs : List Run). IsBitOf k (Contains runs) bit) cut b) in
         subst (λ (s : ℕ). Fits m.geometry k (RunsOf n) (row_with row (zones_before m.geometry k z) s hole.len)) start
         (fits_kept m.geometry k (More (RunsOf m) z new) (RunsOf n) (row_with row (zones_before m.geometry k z) new.start hole.len)
         (λ y in'. more_there k z (runs_of m) (runs_of n) r.0 r.1.0 has.0 new others cut made (ap (has_id k) has.1.1) mine y)
         (λ y in'. more_back k z (runs_of m) (runs_of n) r.0 r.1.0 has.0 new others cut made y)
         (λ y in'. more_spans k z (runs_of m) (runs_of n) r.0 r.1.0 has.0 new others cut made (ap (has_id k) has.1.1) y)
-        (fits_more m.geometry k z (RunsOf m) row new low mine fits hole.len (ap (λ (u : Run). u.len) (is r.0 r.1.0 has.0 cut has.1.0))))
+        (fits_more m.geometry k z (RunsOf m) row new low mine fits hole.len (ap (λ (u : Run). u.len) (is r.0 r.1.0 has.0 cut has.1.0)) first))
 
     label_fits : (rows : List IdTally) (k : ℕ) → k < length rows → Fits m.geometry k (RunsOf m) (row_of rows k) → Fits m.geometry k (RunsOf n) (row_of (counted m.geometry rows z (Id id) hole.start hole.len) k)
     label_fits rows k in' fits = elim (counted_row m.geometry rows z (Id id) hole.start hole.len k in') [

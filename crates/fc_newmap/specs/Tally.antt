@@ -1,5 +1,5 @@
 -- A tally of a map's runs by their identifiers.
-use Rattle.std.specs.Prelude.{◌≡◌, ◌<◌, ◌≤◌, ℕ, ◌+◌, ◌-◌, ◌*◌, ◌==◌, ◌&&◌, nat_le, nat_lt, min, max, Bool, true, false, if◌then◌else◌, List, Contains, length, slice_index_or, slice_set, Option}
+use Rattle.std.specs.Prelude.{◌≡◌, ◌<◌, ◌≤◌, ℕ, ◌+◌, ◌-◌, ◌*◌, ◌==◌, ◌&&◌, nat_le, nat_lt, min, max, Bool, true, false, if◌then◌else◌, List, Contains, length, slice_index_or, slice_set, Option, None, Some, filter}
 use Rattle.std.specs.List.{list_any}
 use Rattle.std.specs.Option.{IfSome}
 use Rattle.std.specs.Global.{Vec}
@@ -10,8 +10,9 @@ use Rattle.fc_zone.specs.declared.RunKind.TheVariants.{Hole, Id}
 use Rattle.fc_newmap.specs.declared.tally.IdTally.{IdTally}
 use Rattle.fc_newmap.specs.declared.tally.NewestRun.{NewestRun}
 use Rattle.fc_newmap.specs.declared.tally.Search.{Search}
-use Rattle.fc_newmap.specs.Map.{Map, bits_in, has_id, home_zone, id_runs, runs_of}
+use Rattle.fc_newmap.specs.Map.{Map, ZoneRun, bits_in, has_id, home_zone, id_runs, runs_of}
 use Rattle.fc_newmap.specs.NewMap.{IsHeld, map_in}
+use Rattle.fc_newmap.specs.RunsLaw.{placed}
 
 -- no newest run
 abbrev pub no_newest : NewestRun
@@ -19,11 +20,11 @@ no_newest = record { before = 0; start = 0; len = 0 }
 
 -- no row
 abbrev pub no_row : IdTally
-no_row = record { bits = 0; ahead = 0; reach = 0; start = 0; newest = no_newest }
+no_row = record { bits = 0; ahead = 0; reach = 0; start = 0; newest = no_newest; former = no_newest }
 
 -- the row of an identifier without runs
 abbrev pub no_runs : Geometry → IdTally
-no_runs g = record { bits = 0; ahead = g.zones; reach = 0; start = 0; newest = no_newest }
+no_runs g = record { bits = 0; ahead = g.zones; reach = 0; start = 0; newest = no_newest; former = no_newest }
 
 -- the row of an identifier
 abbrev pub row_of : List IdTally → ℕ → IdTally
@@ -79,6 +80,11 @@ pub record IsNewest (g : Geometry) (id : ℕ) (In : ℕ → Run → Type 0) (new
   pub before : zones_before g id zone ≡ newest.before
   pub bits : (bit : ℕ) → newest.start ≤ bit → bit < newest.start + newest.len → IsBitOf id (In zone) bit
 
+-- The two runs that were counted last have no bits in common.
+abbrev pub AreApart : NewestRun → NewestRun → Type 0
+AreApart one two =
+    (bit : ℕ) → one.before ≡ two.before → one.start ≤ bit → bit < one.start + one.len → two.start ≤ bit → bit < two.start + two.len → ⊥
+
 -- The row says what is so of its identifier.
 pub record IsRow (m : Map) (id : ℕ) (row : IdTally) : Type 0 where
   -- the bits of all its runs
@@ -87,6 +93,35 @@ pub record IsRow (m : Map) (id : ℕ) (row : IdTally) : Type 0 where
   pub reach : IsReach m id row.reach
   pub start : IsStart m id row.ahead row.start
   pub newest : (row.newest.len ≡ 0 → ⊥) → IsNewest m.geometry id (λ z. Contains (runs_of m z)) row.newest
+  pub former : (row.former.len ≡ 0 → ⊥) → IsNewest m.geometry id (λ z. Contains (runs_of m z)) row.former
+  pub apart : AreApart row.newest row.former
+
+-- the bits that such a run has in the zone after `before` zones of the search
+abbrev pub bits_there : NewestRun → ℕ → ℕ
+bits_there run before = if before == run.before then run.len else 0
+
+-- All bits of the identifier are those of the two runs that were counted last.
+abbrev pub is_told : IdTally → Bool
+is_told row = row.bits == row.newest.len + row.former.len
+
+-- by its row, an identifier has no more bits in the zone after `before` zones of the search
+abbrev pub bits_at : IdTally → ℕ → ℕ
+bits_at row before = if is_told row then bits_there row.newest before + bits_there row.former before else row.bits
+
+-- where the first of the two runs begins that are in that zone
+abbrev pub first_of_two : IdTally → ℕ → Option ℕ
+first_of_two row before =
+    if bits_there row.newest before == 0
+    then (if bits_there row.former before == 0 then None else Some row.former.start)
+    else (if bits_there row.former before == 0 then Some row.newest.start else Some (min row.newest.start row.former.start))
+
+-- where the identifier's first run in that zone begins, if its row tells it of each zone
+abbrev pub start_at : IdTally → ℕ → Option ℕ
+start_at row before = if is_told row then first_of_two row before else None
+
+-- the identifier's runs of zone z
+abbrev pub id_runs_in : Map → ℕ → ℕ → List ZoneRun
+id_runs_in m id z = filter (λ p. has_id id p.1.kind) (placed z (runs_of m z))
 
 -- The rows are those of identifiers from 0 on.
 abbrev pub IsTally : Map → List IdTally → Type 0
@@ -125,6 +160,7 @@ row_with row before start len = record {
   reach = max row.reach (before + 1);
   start = first_start row before start;
   newest = record { before = before; start = start; len = len };
+  former = row.newest;
 }
 
 -- the rows with a run more, of this kind and in zone z
@@ -142,9 +178,17 @@ abbrev pub meets : NewestRun → ℕ → ℕ → ℕ → Bool
 meets newest before start len =
     (before == newest.before) && (if nat_le start newest.start then nat_lt newest.start (start + len) else nat_lt start (newest.start + newest.len))
 
--- the newest run when such a run goes: not known, if they have bits in common
+-- the newest run, or the one before it, when such a run goes: not known, if they have bits in common
 abbrev pub newest_left : NewestRun → ℕ → ℕ → ℕ → NewestRun
 newest_left newest before start len = if meets newest before start len then no_newest else newest
+
+-- the newest of the two that are left
+abbrev pub newest_of : NewestRun → NewestRun → NewestRun
+newest_of newest former = if newest.len == 0 then former else newest
+
+-- the one of them that was counted before it
+abbrev pub former_of : NewestRun → NewestRun → NewestRun
+former_of newest former = if newest.len == 0 then no_newest else former
 
 -- a row of an identifier all of whose bits are those of the newest run
 abbrev pub row_only : IdTally → IdTally
@@ -156,11 +200,14 @@ row_only row = record row {
 
 -- a row with such a run less, and some bits left
 abbrev pub row_left : IdTally → ℕ → ℕ → ℕ → IdTally
-row_left row before start len = record row {
-  bits = row.bits - len;
-  start = start_left row before start;
-  newest = newest_left row.newest before start len;
-}
+row_left row before start len =
+    let newest = newest_left row.newest before start len in
+    let former = newest_left row.former before start len in record row {
+      bits = row.bits - len;
+      start = start_left row before start;
+      newest = newest_of newest former;
+      former = former_of newest former;
+    }
 
 -- a row with such a run less
 abbrev pub row_less : Geometry → IdTally → ℕ → ℕ → ℕ → IdTally

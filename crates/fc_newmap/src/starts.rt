@@ -30,6 +30,9 @@ impl NewMap {
         requires { z < self.now.geometry.zones }
         ensures { IfSome result (IsFirstIn self.now id z) }
     {
+        if let Some(start) = self.start_told(id, z) {
+            return Some(start);
+        }
         let g = self.geometry();
         let search = self.search(id);
         if search.start == 0 || zone_up(g, home_zone(g, id), search.ahead) != z {

@@ -7,7 +7,7 @@ ghost use Rattle.fc_zone.specs.declared.RunKind.TheVariants.{Id};
 ghost use Rattle.fc_record.specs.Record.{id_limit};
 ghost use Rattle.fc_newmap.specs.Map.{bits_in, has_id, id_runs, runs_of};
 ghost use Rattle.fc_newmap.specs.NewMap.{IsOfRecord};
-ghost use Rattle.fc_newmap.specs.Tally.{HasBits, HasRoom, IsRow, IsSearch, IsTally, counted, has_run_of, uncounted, zones_before};
+ghost use Rattle.fc_newmap.specs.Tally.{HasBits, HasRoom, IsFirstIn, IsRow, IsSearch, IsTally, bits_there, counted, has_run_of, id_runs_in, uncounted, zones_before};
 
 mod rows;
 
@@ -17,7 +17,7 @@ use crate::walk::Walk;
 use fc_device::NoMemory;
 use fc_record::Geometry;
 use fc_zone::{Run, RunKind};
-use rows::{first_start, no_runs, row_less};
+use rows::{bits_at, first_start, is_told, no_runs, row_less, start_at};
 use std::alloc::Global;
 
 /// What the runs of one identifier come to, and in which zones they are.
@@ -33,6 +33,8 @@ pub struct IdTally {
     pub start: u32,
     /// The run that was counted last. Once its bits are all that are left, it says where the runs are.
     pub newest: NewestRun,
+    /// The one counted before it, with other bits. Once the two have all bits that are left, they say where runs are.
+    pub former: NewestRun,
 }
 
 /// A run that was counted, and all of whose bits are the identifier's still. It can have been split or merged since.
@@ -101,6 +103,7 @@ fn count_in(rows: &mut Vec<IdTally>, g: &Geometry, z: u16, id: u32, run: Run)
                 start: run.start,
                 len: run.len,
             },
+            former: row.newest,
         };
     }
 }
@@ -209,6 +212,33 @@ fn next_zone_by(g: &Geometry, id: u32, row: IdTally, z: u16) -> u16
     if first > z { first } else { g.zones }
 }
 
+// The zone of a counted run, if it isn't before zone z, and else the number of zones.
+fn next_of_run(g: &Geometry, id: u32, run: NewestRun, z: u16) -> u16
+    requires record { IsOfRecord g.now }
+    requires zone { z < g.now.zones }
+    ensures onward { z ≤ result }
+    ensures low { result ≤ g.now.zones }
+    ensures none { (y : ℕ) → z ≤ y → y < result → bits_there run (zones_before g.now id y) ≡ 0 }
+{
+    if run.len == 0 || run.before >= g.zones {
+        return g.zones;
+    }
+    let zone = zone_up(g, home_zone(g, id), run.before);
+    if zone >= z { zone } else { g.zones }
+}
+
+// The least zone from one on that has one of the two runs that were counted last, and the number of zones if none does.
+fn next_of_two(g: &Geometry, id: u32, row: IdTally, z: u16) -> u16
+    requires record { IsOfRecord g.now }
+    requires zone { z < g.now.zones }
+    ensures onward { z ≤ result }
+    ensures low { result ≤ g.now.zones }
+    ensures none { (y : ℕ) → z ≤ y → y < result → (bits_there row.newest (zones_before g.now id y) ≡ 0) × (bits_there row.former (zones_before g.now id y) ≡ 0) }
+{
+    let newest = next_of_run(g, id, row.newest, z);
+    newest.min(next_of_run(g, id, row.former, z))
+}
+
 impl NewMap {
     // What the tally says of an identifier, if it reaches so far.
     fn row(&self, id: u32) -> Option<IdTally>
@@ -243,7 +273,7 @@ impl NewMap {
             return true;
         };
         let before = zones_before(self.geometry(), id, z);
-        row.ahead <= before && before < row.reach
+        row.ahead <= before && before < row.reach && bits_at(row, before) > 0
     }
 
     /// The least zone from one on that may have runs of an identifier, and the number of zones if none does: no zone
@@ -259,6 +289,7 @@ impl NewMap {
             return z;
         }
         match self.row(id) {
+            Some(row) if is_told(row) => next_of_two(g, id, row, z),
             Some(row) => next_zone_by(g, id, row, z),
             None => z,
         }
@@ -287,6 +318,27 @@ impl NewMap {
         let rows = tally_of(alloc, self)?;
         self.tally = Some(rows);
         Ok(())
+    }
+
+    /// At least the bits of an identifier's runs in a zone, by the map's tally. `None` says nothing: there is no tally, or
+    /// it doesn't reach so far. Costs no search.
+    pub fn bits_in_zone(&self, id: u32, z: u16) -> Option<u64>
+        requires { z < self.now.geometry.zones }
+        ensures { IfSome result (λ bits. bits_in (id_runs_in self.now id z) ≤ bits) }
+    {
+        let row = self.row(id)?;
+        let before = zones_before(self.geometry(), id, z);
+        Some(bits_at(row, before))
+    }
+
+    /// Where the first run of an identifier in a zone begins, if the last two that were counted are all of its runs.
+    pub(crate) fn start_told(&self, id: u32, z: u16) -> Option<u32>
+        requires { z < self.now.geometry.zones }
+        ensures { IfSome result (IsFirstIn self.now id z) }
+    {
+        let row = self.row(id)?;
+        let before = zones_before(self.geometry(), id, z);
+        start_at(row, before)
     }
 
     /// The bits of all runs of an identifier, by the map's tally. `None` says nothing: there is no tally, or it doesn't

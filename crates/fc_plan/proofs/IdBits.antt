@@ -1,8 +1,7 @@
 -- How many bits the runs of some identifiers have.
-use Rattle.std.proofs.Common.{◌≡◌, ◌<◌, ◌≤◌, ◌==◌, ℕ, zero, suc, ◌+◌, ◌-◌, Bool, true, false, cond, Option, Some, None, List, [], ◌∷◌, ◌++◌, sum_by, refl, sym, ap, ap₂, ◌∙◌, inl, inr, arith, eq-eqb, length, take, get_or}
+use Rattle.std.proofs.Common.{◌≡◌, ◌<◌, ◌≤◌, ◌==◌, ℕ, suc, ◌+◌, ◌-◌, Bool, true, false, cond, Option, Some, None, List, [], ◌∷◌, ◌++◌, sum_by, refl, sym, ap, ap₂, ◌∙◌, inl, inr, arith, eq-eqb, length, take, get_or}
 use Rattle.std.specs.Prelude.{◌||◌, IfSome}
 use Rattle.std.specs.Option.{unwrap_or}
-use Rattle.std.specs.List.{range_with_len}
 use Rattle.std.proofs.Math.Seq.{take-suc}
 use Rattle.std.proofs.lemmas.Bool.{cases_eq, cases_lt, ne_eqb}
 use Rattle.std.proofs.lemmas.List.Folds.{list_any-append}
@@ -16,11 +15,12 @@ use Rattle.fc_zone.specs.declared.ZoneShape.{ZoneShape}
 use Rattle.fc_zone.specs.declared.cursor.Cursor.{Cursor}
 use Rattle.fc_zone.specs.Cursor.{StandsBetween}
 use Rattle.fc_zone.proofs.CursorLemmas.{Spells-sum}
-use Rattle.fc_newmap.specs.Map.{Map, bits_in, has_id, id_runs, is_hole, runs_of, sector_of, shape}
+use Rattle.fc_newmap.specs.Map.{Map, bits_in, has_id, is_hole, runs_of, sector_of, shape}
 use Rattle.fc_newmap.specs.NewMap.{IsNewMap}
 use Rattle.fc_newmap.specs.RunsLaw.{placed}
+use Rattle.fc_newmap.specs.Tally.{id_runs_in}
 use Rattle.fc_newmap.proofs.HeldLemmas.{end_within, geometry_facts, sector_high}
-use Rattle.fc_newmap.proofs.TallyLemmas.{bits_by_zones, bits_of_id, part, share}
+use Rattle.fc_newmap.proofs.TallyLemmas.{bits_of_id, of_runs, part, share}
 use Rattle.fc_image.specs.effects.Steady.{has_id_that}
 use Rattle.fc_plan.specs.Beginnings.{bits_if_of, bits_of_ids}
 use Rattle.fc_plan.specs.Giving.{behind_next, has_run_of, is_one_of, rest_passed}
@@ -87,31 +87,14 @@ zone_bits m z is low =
     let high = sector_high m.geometry (geometry_facts m.geometry is.of_record) in
     omega (arith, all, within, high)
 
--- ---- all zones
-
-one_of_sum : (f : ℕ → ℕ) (from n z : ℕ) → from ≤ z → z < from + n → f z ≤ sum_by f (range_with_len from n)
-one_of_sum f from zero z low high = absurd (omega arith)
-one_of_sum f from (suc n) z low high =
-    let all = sum_by-cons f from (range_with_len (from + 1) n) in
-    elim (cases_eq z from) [
-      | inl here ↦ (let same : f z ≡ f from = ap f here in omega (arith, all, same))
-      | inr later ↦ omega (arith, all, one_of_sum f (from + 1) n z (omega arith) (omega arith))
-    ]
-
--- in a zone an identifier has some of the bits of all its runs
-part_of_all : (m : Map) (id z bits : ℕ) → IsNewMap m → z < m.geometry.zones → bits ≡ bits_in (id_runs m id) → part id z (runs_of m z) ≤ bits
-part_of_all m id z bits is low e =
-    let facts = geometry_facts m.geometry is.of_record in
-    let all = bits_by_zones m id facts.zones in
-    let one = one_of_sum (λ y. part id y (runs_of m y)) 0 m.geometry.zones z (omega arith) (omega arith) in
-    omega (arith, e, all, one)
+-- ---- an identifier's bits in a zone
 
 part_high : (m : Map) (id z bits : ℕ) → IsNewMap m → z < m.geometry.zones → 8192 ≤ bits → part id z (runs_of m z) ≤ bits
 part_high m id z bits is low enough = omega (arith, part_low id z (runs_of m z), zone_bits m z is low)
 
-pub own_bits : (m : Map) (id z : ℕ) (told : Option ℕ) → IsNewMap m → z < m.geometry.zones → IfSome told (λ bits. bits ≡ bits_in (id_runs m id)) → part id z (runs_of m z) ≤ unwrap_or told 18446744073709551615
+pub own_bits : (m : Map) (id z : ℕ) (told : Option ℕ) → IsNewMap m → z < m.geometry.zones → IfSome told (λ bits. bits_in (id_runs_in m id z) ≤ bits) → part id z (runs_of m z) ≤ unwrap_or told 18446744073709551615
 own_bits m id z None is low e = part_high m id z 18446744073709551615 is low (omega arith)
-own_bits m id z (Some bits) is low e = part_of_all m id z bits is low e
+own_bits m id z (Some bits) is low enough = omega (arith, of_runs id (placed z (runs_of m z)), enough)
 
 pub no_bits : (runs : List Run) → bits_of_ids [] runs ≤ 0
 no_bits [] = omega arith

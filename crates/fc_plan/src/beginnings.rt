@@ -1,6 +1,6 @@
 // Where runs of some identifiers begin in a zone, and how many bits they have.
 
-ghost use Rattle.std.specs.Prelude.{◌≡◌, ◌<◌, ◌≤◌, ℕ, IfSome, min};
+ghost use Rattle.std.specs.Prelude.{◌≡◌, ◌<◌, ◌≤◌, IfSome, min};
 ghost use Rattle.std.specs.Option.{option_map_or};
 ghost use Rattle.fc_newmap.specs.Map.{runs_of};
 ghost use Rattle.fc_newmap.specs.NewMap.{IsNewMap};
@@ -51,14 +51,15 @@ pub fn beginning(map: &NewMap, ids: &[u32], z: u16) -> (Walk, Option<Run>)
     (walk, map.hole_before(z, start))
 }
 
-// The bits of all runs of these identifiers, or more if the map's tally doesn't tell them. In no zone they have more.
-pub fn bits_of_all(map: &NewMap, ids: &[u32]) -> u64
-    requires { IsNewMap map.now }
-    ensures { (z : ℕ) → z < map.now.geometry.zones → bits_of_ids ids.now (runs_of map.now z) ≤ result }
+// At least the bits that these identifiers have in a zone: no more, if the map's tally tells it of that zone.
+pub fn bits_of_all(map: &NewMap, ids: &[u32], z: u16) -> u64
+    requires zone { z < map.now.geometry.zones }
+    requires map { IsNewMap map.now }
+    ensures { bits_of_ids ids.now (runs_of map.now z) ≤ result }
 {
     let mut bits = 0u64;
     for i in 0..ids.len() {
-        bits = bits.saturating_add(map.bits_of(ids[i]).unwrap_or(u64::MAX));
+        bits = bits.saturating_add(map.bits_in_zone(ids[i], z).unwrap_or(u64::MAX));
     }
     bits
 }

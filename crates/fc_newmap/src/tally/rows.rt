@@ -1,7 +1,7 @@
 // The rows of a tally, and what a run more or less makes of them.
 
 ghost use Rattle.std.specs.Prelude.{◌≡◌, ◌≤◌};
-ghost use Rattle.fc_newmap.specs.Tally.{first_start, meets, newest_left, no_newest, no_runs, row_less, row_only, start_left};
+ghost use Rattle.fc_newmap.specs.Tally.{bits_at, bits_there, first_of_two, first_start, former_of, is_told, meets, newest_left, newest_of, no_newest, no_runs, row_less, row_only, start_at, start_left};
 
 use super::{IdTally, NewestRun};
 use fc_record::Geometry;
@@ -28,6 +28,7 @@ pub fn no_runs(g: &Geometry) -> IdTally
         reach: 0,
         start: 0,
         newest: no_newest(),
+        former: no_newest(),
     }
 }
 
@@ -68,7 +69,7 @@ fn meets(newest: NewestRun, before: u16, run: Run) -> bool
     }
 }
 
-// The newest run when a run goes: none is known, if they have bits in common.
+// The newest run, or the one before it, when a run goes: it isn't known, if they have bits in common.
 fn newest_left(newest: NewestRun, before: u16, run: Run) -> NewestRun
     ensures { result ≡ newest_left newest before run.start run.len }
 {
@@ -77,6 +78,20 @@ fn newest_left(newest: NewestRun, before: u16, run: Run) -> NewestRun
     } else {
         newest
     }
+}
+
+// The newest of the two runs that are left.
+fn newest_of(newest: NewestRun, former: NewestRun) -> NewestRun
+    ensures { result ≡ newest_of newest former }
+{
+    if newest.len == 0 { former } else { newest }
+}
+
+// The one before the newest of the two runs that are left.
+fn former_of(newest: NewestRun, former: NewestRun) -> NewestRun
+    ensures { result ≡ former_of newest former }
+{
+    if newest.len == 0 { no_newest() } else { former }
 }
 
 // The row of an identifier all of whose bits are those of the newest run.
@@ -99,15 +114,73 @@ pub fn row_less(g: &Geometry, row: IdTally, before: u16, run: Run) -> IdTally
     if row.bits == run.len {
         return no_runs(g);
     }
+    let newest = newest_left(row.newest, before, run);
+    let former = newest_left(row.former, before, run);
     let left = IdTally {
         bits: row.bits - run.len,
         start: start_left(row, before, run.start),
-        newest: newest_left(row.newest, before, run),
+        newest: newest_of(newest, former),
+        former: former_of(newest, former),
         ..row
     };
     if left.bits == left.newest.len {
         row_only(left)
     } else {
         left
+    }
+}
+
+/// Whether all bits of the identifier are those of the two runs that were counted last.
+pub fn is_told(row: IdTally) -> bool
+    ensures { result ≡ is_told row }
+{
+    u64::from(row.bits) == u64::from(row.newest.len) + u64::from(row.former.len)
+}
+
+// The bits that a counted run has in the zone after `before` zones of the search.
+fn bits_there(run: NewestRun, before: u16) -> u32
+    ensures { result ≡ bits_there run before }
+{
+    if before == run.before { run.len } else { 0 }
+}
+
+/// The bits of the identifier in the zone after `before` zones of the search, or more.
+pub fn bits_at(row: IdTally, before: u16) -> u64
+    ensures { result ≡ bits_at row before }
+{
+    if is_told(row) {
+        u64::from(bits_there(row.newest, before)) + u64::from(bits_there(row.former, before))
+    } else {
+        u64::from(row.bits)
+    }
+}
+
+// Where the first of the two runs that were counted last begins in the zone after `before` zones of the search.
+fn first_of_two(row: IdTally, before: u16) -> Option<u32>
+    ensures { result ≡ first_of_two row before }
+{
+    let newest = bits_there(row.newest, before);
+    let former = bits_there(row.former, before);
+    if newest == 0 {
+        return if former == 0 {
+            None
+        } else {
+            Some(row.former.start)
+        };
+    }
+    if former == 0 {
+        return Some(row.newest.start);
+    }
+    Some(row.newest.start.min(row.former.start))
+}
+
+/// Where the identifier's first run begins in the zone after `before` zones of the search, if the row tells all zones.
+pub fn start_at(row: IdTally, before: u16) -> Option<u32>
+    ensures { result ≡ start_at row before }
+{
+    if is_told(row) {
+        first_of_two(row, before)
+    } else {
+        None
     }
 }

@@ -38,7 +38,7 @@ loop-z-preserved c =
       step.0,
       step.1.1,
       walked_on so_far.0 so_far.1 step.0 (all_runs c.args.map.now) run so_far.3 step.1.0,
-      one_counted c.args.map.now so_far.0 run c.geometry-g.result.now c.loop-z.rows.items c.count_run.new.rows.items c.in-Some.ensures.within.zone c.geometry-g.ensures.value c.count_run.ensures so_far.4,
+      one_counted c.args.map.now so_far.0 so_far.1 step.0 run c.geometry-g.result.now c.loop-z.rows.items c.count_run.new.rows.items c.geometry-g.ensures.map so_far.3 step.1.0 c.in-Some.ensures.within.zone c.geometry-g.ensures.value c.count_run.ensures so_far.4,
     )
 
 pub returns : goal.returns

@@ -1,7 +1,7 @@
-use Rattle.std.proofs.Common.{◌<◌, ◌≤◌, ℕ, take}
+use Rattle.std.proofs.Common.{◌≤◌, take}
 use Rattle.fc_newmap.specs.Map.{runs_of}
 use Rattle.fc_plan.specs.Beginnings.{bits_of_ids}
 use Rattle.fc_plan.proofs.beginnings.bits_of_all.Given as goal
 
 abbrev pub invariant-loop-i : goal.invariant-loop-i
-invariant-loop-i l = (z : ℕ) → z < l.fn.map.geometry.zones → bits_of_ids (take l.i l.fn.ids) (runs_of l.fn.map z) ≤ l.bits
+invariant-loop-i l = bits_of_ids (take l.i l.fn.ids) (runs_of l.fn.map l.z) ≤ l.bits
