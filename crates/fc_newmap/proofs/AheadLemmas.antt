@@ -19,7 +19,9 @@ use Rattle.fc_newmap.specs.Tally.{IsFirstIn, IsRow, IsSearch, has_run_of, zones_
 use Rattle.fc_newmap.specs.Walk.{StandsAt, StandsBefore, StandsBeforeFirst, zone_after, zone_up, zones_from}
 use Rattle.fc_newmap.proofs.ComposeLemmas.{zone_cut}
 use Rattle.fc_newmap.proofs.PlaceLemmas.{home_low}
-use Rattle.fc_newmap.proofs.RowLemmas.{any_none, any_of, before_same, contains_cut, front_before, not_below}
+use Rattle.fc_newmap.proofs.RowLemmas.{any_none, any_of, not_below}
+use Rattle.fc_newmap.proofs.RowChangeLemmas.{before_same}
+use Rattle.fc_newmap.proofs.ZoneRunLemmas.{contains_cut, front_before}
 use Rattle.fc_newmap.proofs.WalkLemmas.{after_last, after_other, filter_later, of_id, order_is}
 
 -- ---- zones up, and round

@@ -19,8 +19,11 @@ use Rattle.fc_newmap.specs.Walk.{zone_up}
 use Rattle.fc_newmap.proofs.AheadLemmas.{before_up, up_low}
 use Rattle.fc_newmap.proofs.HeldLemmas.{geometry_facts}
 use Rattle.fc_newmap.proofs.PlaceLemmas.{home_low}
-use Rattle.fc_newmap.proofs.RowLemmas.{RunsOf, any_none, before_same, contains_cut, not_both, spelled_within}
-use Rattle.fc_newmap.proofs.TallyLemmas.{bits_by_zones, bits_of_id, covered_both, covered_low, none_early, of_runs, one_low, part, part-append, share, three_low, two_low}
+use Rattle.fc_newmap.proofs.RowLemmas.{RunsOf, any_none, not_both}
+use Rattle.fc_newmap.proofs.RowChangeLemmas.{before_same}
+use Rattle.fc_newmap.proofs.ZoneRunLemmas.{contains_cut, spelled_within}
+use Rattle.fc_newmap.proofs.BitSumLemmas.{bits_by_zones, bits_of_id, of_runs, part, part-append, share}
+use Rattle.fc_newmap.proofs.NewestLemmas.{covered_both, covered_low, none_early, one_low, three_low, two_low}
 
 there_is : (run : NewestRun) (before : ℕ) → before ≡ run.before → bits_there run before ≡ run.len
 there_is run before e = ap (λ (b : Bool). cond b run.len 0) (eq-eqb before run.before e)

@@ -20,7 +20,7 @@ use Rattle.fc_newmap.specs.NewMap.{IsNewMap}
 use Rattle.fc_newmap.specs.RunsLaw.{placed}
 use Rattle.fc_newmap.specs.Tally.{id_runs_in}
 use Rattle.fc_newmap.proofs.HeldLemmas.{end_within, geometry_facts, sector_high}
-use Rattle.fc_newmap.proofs.TallyLemmas.{bits_of_id, of_runs, part, share}
+use Rattle.fc_newmap.proofs.BitSumLemmas.{bits_of_id, of_runs, part, share}
 use Rattle.fc_image.specs.effects.Steady.{has_id_that}
 use Rattle.fc_plan.specs.Beginnings.{bits_if_of, bits_of_ids}
 use Rattle.fc_plan.specs.Giving.{behind_next, has_run_of, is_one_of, rest_passed}

@@ -13,7 +13,8 @@ use Rattle.fc_newmap.specs.Map.{Map, has_id, runs_of, sector_of, shape}
 use Rattle.fc_newmap.specs.NewMap.{IsNewMap}
 use Rattle.fc_newmap.specs.Tally.{IsFirstIn}
 use Rattle.fc_newmap.proofs.ComposeLemmas.{zone_cut}
-use Rattle.fc_newmap.proofs.RowLemmas.{any_none, contains_cut, front_before, none_any, not_below}
+use Rattle.fc_newmap.proofs.RowLemmas.{any_none, none_any, not_below}
+use Rattle.fc_newmap.proofs.ZoneRunLemmas.{contains_cut, front_before}
 use Rattle.fc_plan.specs.Beginnings.{BeginAt}
 use Rattle.fc_plan.proofs.NoIds.{no_run_of}
 

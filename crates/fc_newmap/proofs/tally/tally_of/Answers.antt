@@ -3,7 +3,7 @@ use Rattle.fc_record.specs.declared.Geometry.{Geometry}
 use Rattle.fc_newmap.specs.Map.{ZoneRun, all_runs}
 use Rattle.fc_newmap.specs.NewMap.{IsOfRecord}
 use Rattle.fc_newmap.specs.Tally.{no_runs}
-use Rattle.fc_newmap.proofs.TallyLemmas.{all_counted, has_room, none_counted, one_counted, walked_on}
+use Rattle.fc_newmap.proofs.TallyPassLemmas.{all_counted, has_room, none_counted, one_counted, walked_on}
 use Rattle.fc_newmap.proofs.tally.tally_of.Goals as goal
 
 pub id_limit-requires : goal.id_limit-requires

@@ -1,7 +1,7 @@
 use Rattle.std.proofs.Common.{◌≡◌, ◌++◌, List}
 use Rattle.fc_newmap.specs.Map.{ZoneRun, all_runs}
 use Rattle.fc_newmap.specs.Walk.{StandsBefore, bits_left}
-use Rattle.fc_newmap.proofs.TallyLemmas.{CountsRuns}
+use Rattle.fc_newmap.proofs.TallyPassLemmas.{CountsRuns}
 use Rattle.fc_newmap.proofs.tally.tally_of.Given as goal
 
 abbrev pub invariant-loop-z : goal.invariant-loop-z
