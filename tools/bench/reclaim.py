@@ -16,7 +16,7 @@ import sys
 import tempfile
 import time
 
-from tools.bench.compact import MIB, totals, written
+from tools.bench.compact import MIB, copied, totals, written
 from tools.files import built_shim
 from tools.images.fragmented import Fragmenter, hard_disc
 from tools.images.volumes import NewVolume
@@ -34,13 +34,6 @@ def losing() -> NewVolume:
         zone, at = holes[number * len(holes) // LOST]
         volume.runs[zone][at] = volume.runs[zone][at][0], lost[number % len(lost)]
     return volume
-
-
-def copied(image: str, work: str) -> None:
-    """Copies an image, onto the disk: what is timed later has its own writes to sync, and not the copy."""
-    shutil.copyfile(image, work)
-    with open(work, "r+b") as file:
-        os.fsync(file.fileno())
 
 
 def seconds(program: str, image: str, script: bytes) -> float:
@@ -73,7 +66,7 @@ def main(program: str) -> bool:
         copied(image, image + ".work")
         told = subprocess.run([program, image + ".work"], input=b"reclaim\n", stdout=subprocess.PIPE, check=True,
                               env={"LD_PRELOAD": built_shim(folder), "OUTSIDE_RECORD": record}).stdout
-        moved, syncs = totals(record)
+        moved, _, syncs = totals(record)
         check, reclaim = (seconds(program, image, script) for script in (b"check\n", b"reclaim\n"))
         beside = syncing(image + ".work", syncs, volume.shape.sector)
     zones = len(volume.runs)
