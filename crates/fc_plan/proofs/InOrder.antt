@@ -21,7 +21,7 @@ use Rattle.fc_plan.proofs.TakenRuns.{filter_as_map}
 use Rattle.fc_plan.proofs.Ordered.{all_taken, is_free, none_taken, same_part, taken_of, taken_others}
 use Rattle.fc_plan.proofs.Order.{ArePositive, Rising, StandsIn, begins_at, begins_then, elsewhere, ends_then_begins, filter_all, find_nothing, later_than, map_holes-free, not_both, not_both_turned, order-filter, rising_of, same_place, stands_in, weaken_all}
 use Rattle.fc_plan.proofs.GivenRuns.{at_zone, in_zone}
-use Rattle.fc_plan.proofs.Walks.{shape_of_zone}
+use Rattle.fc_newmap.proofs.ZoneWalkLemmas.{shape_of_zone}
 use Rattle.fc_device.specs.Numbers.{is_listed as is_in}
 use Rattle.fc_zone.proofs.ZoneLemmas.{Contains-head as contains_here, Contains-tail as contains_later}
 

@@ -9,7 +9,6 @@ pub mod TakenRuns
 pub mod Ordered
 pub mod LeftBits
 pub mod Gives
-pub mod Walks
 pub mod Spaces
 pub mod Passes
 pub mod GivenRuns

@@ -6,7 +6,7 @@ use Rattle.fc_zone.specs.Zone.{IsShapeOf, Zone}
 use Rattle.fc_newmap.specs.Map.{runs_of, sector_of, shape}
 use Rattle.fc_newmap.proofs.ComposeLemmas.{zone_cut}
 use Rattle.fc_plan.proofs.Starts.{none_ends}
-use Rattle.fc_plan.proofs.Walks.{IsStart, shape_of_zone, stands_again, started_in}
+use Rattle.fc_newmap.proofs.ZoneWalkLemmas.{IsStart, shape_of_zone, stands_again, started_in}
 use Rattle.fc_plan.proofs.beginnings.beginning.Goals as goal
 use Rattle.fc_plan.proofs.beginnings.beginning.Goals.{After-first_start}
 

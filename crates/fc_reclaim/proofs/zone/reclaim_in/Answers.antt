@@ -7,7 +7,7 @@ use Rattle.fc_zone.specs.declared.Run.{Run}
 use Rattle.fc_zone.specs.declared.ZoneShape.{ZoneShape}
 use Rattle.fc_newmap.proofs.ComposeLemmas.{edit_none}
 use Rattle.fc_newmap.specs.Map.{runs_of, sector_of, shape}
-use Rattle.fc_plan.proofs.Walks.{shape_of_zone, shaped, stands_in_map, started_in}
+use Rattle.fc_newmap.proofs.ZoneWalkLemmas.{shape_of_zone, shaped, stands_in_map, started_in}
 use Rattle.fc_reclaim.specs.Lost.{goes_back}
 use Rattle.fc_reclaim.specs.Zone.{left_after}
 use Rattle.fc_reclaim.proofs.PassLemmas.{IsPassing, follows, passing_end, passing_start}
