@@ -233,14 +233,6 @@ front_on_disc w is z low front rest run runs fresh few =
     let up = count_up w.geometry fresh run.len (geometry_is w is).some few in
     omega (arith, whole, up)
 
-pub step_ends : (owners : List Owner) (w w' : Map) (z : ℕ) (run next : Run) (fresh : ℕ) (s : Front) → IsGathered owners w w' z run next fresh s → next.start ≡ run.start + run.len
-    → s.run.start + s.run.len ≡ next.start + next.len
-step_ends owners w w' z run next fresh s step follows = by s.moved refl
-  where
-    by : (b : Bool) → s.moved ≡ b → s.run.start + s.run.len ≡ next.start + next.len
-    by true e = (let f = step.some e in let a = ap (λ (r : Run). r.start + r.len) f.3 in omega (arith, a, follows))
-    by false e = (let f = step.none e in ap (λ (r : Run). r.start + r.len) f.1)
-
 or_false : (b : Bool) → (b || false) ≡ b
 or_false true = refl
 or_false false = refl

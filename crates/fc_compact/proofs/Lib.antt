@@ -30,6 +30,7 @@ pub mod GoneLemmas
 mod AdjacentLemmas
 mod SeenLemmas
 mod PassLemmas
+mod ZonePassLemmas
 mod SideLemmas
 mod LongestLemmas
 mod CandidatesLemmas

@@ -1,5 +1,5 @@
 -- The runs of an identifier that become holes, and a hole whose front becomes a run.
-use Rattle.std.proofs.Common.{◌≡◌, ◌<◌, ℕ, Bool, true, false, cond, List, [], ◌∷◌, ◌++◌, map, slice_get, Some, None, refl, sym, ap, ◌∙◌, append_assoc, arith}
+use Rattle.std.proofs.Common.{◌≡◌, ◌<◌, ℕ, Bool, true, false, cond, List, [], ◌∷◌, ◌++◌, map, refl, sym, ap, ◌∙◌, append_assoc, arith}
 use Rattle.std.specs.Prelude.{filter}
 use Rattle.std.proofs.lemmas.Bool.{eqb-true, ne_eqb}
 use Rattle.std.proofs.lemmas.List.{map-append}
@@ -13,17 +13,6 @@ use Rattle.fc_newmap.specs.RunsLaw.{placed}
 use Rattle.fc_newmap.proofs.ComposeLemmas.{zone_cut}
 use Rattle.fc_compact.specs.Joins.{HasBetween, all_freed, freed, hole_part}
 use Rattle.fc_compact.specs.Slides.{HasRuns, hole_at}
-
-pub first_of : (left : List Run) (run : Run) → slice_get left 0 ≡ Some run → (rest : List Run) × (left ≡ run ∷ rest)
-first_of [] run e = absurd (cc)
-first_of (x ∷ left) run e = (left, ap (λ (r : Run). r ∷ left) (same x run e))
-  where
-    same : (a b : Run) → Some a ≡ Some b → a ≡ b
-    same a b f = cc
-
-pub none_of : (left : List Run) → slice_get left 0 ≡ None → left ≡ []
-none_of [] e = refl
-none_of (x ∷ left) e = absurd (cc)
 
 -- the runs of a zone that a walk has before it
 pub placed_none : (z : ℕ) (runs : List Run) → placed z runs ≡ [] → runs ≡ []
@@ -43,13 +32,6 @@ placed_first z (x ∷ runs) p rest e = (runs, ap (λ (r : Run). r ∷ runs) (ap 
 pub freed_more : (id : ℕ) (done rest : List Run) (run : Run) → map (freed id) (done ++ run ∷ []) ++ rest ≡ map (freed id) done ++ freed id run ∷ rest
 freed_more id done rest run =
     ap (λ (rs : List Run). rs ++ rest) (map-append (freed id) done (run ∷ [])) ∙ append_assoc (map (freed id) done) (freed id run ∷ []) rest
-
-pub freed_start : (id : ℕ) (run : Run) → (freed id run).start ≡ run.start
-freed_start id run = by (has_id id run.kind)
-  where
-    by : (b : Bool) → (cond b (record run { kind = kinds.Hole }) run).start ≡ run.start
-    by true = refl
-    by false = refl
 
 -- where a run is released
 pub run_is_at : (m : Map) (z : ℕ) (run : Run) → IsNewMap m → z < m.geometry.zones → HasBetween m z run → HasRunAt (shape m.geometry z) (sector_of m z) run.start

@@ -42,7 +42,6 @@ zone_weight runs = sum_by run_weight runs
 pub record Steps (owners : List Owner) (m m' : Map) (z : ℕ) (run next : Run) (s : Stepped) : Type 0 where
   pub packs : Packs owners m m'
   pub others : (y : ℕ) → (y ≡ z → ⊥) → runs_of m' y ≡ runs_of m y
-  pub ends : s.run.start + s.run.len ≡ next.start + next.len
   pub cut : (front rest : List Run) → HasRuns m z (front ++ run ∷ next ∷ rest)
       → (front' : List Run) × (HasRuns m' z (front' ++ s.run ∷ rest) × (s.changed ≡ false → front' ≡ front ++ run ∷ []))
   pub falls : zone_weight (runs_of m' z) + one_if s.changed ≤ zone_weight (runs_of m z)

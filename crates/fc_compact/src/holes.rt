@@ -8,7 +8,7 @@ ghost use Rattle.fc_image.specs.effects.Moves.{with_holes_joined};
 ghost use Rattle.fc_compact.specs.Joins.{EditsListed, are_holes, changed_runs, hole_or_next, passed};
 ghost use Rattle.fc_compact.specs.Slides.{HasRuns};
 
-use fc_newmap::NewMap;
+use fc_newmap::{NewMap, Walk};
 use fc_zone::{Run, RunKind};
 
 // Whether a run is a hole.
@@ -48,18 +48,20 @@ fn join_pair(map: &mut NewMap, z: u16, run: Run, next: Run) -> Run
     }
 }
 
-// Makes one hole of those that touch, in a zone.
+// Makes one hole of those that touch, in a zone, in one pass over the zone's words.
 pub fn join_holes_in(map: &mut NewMap, z: u16)
     requires zone { z < map.old.geometry.zones }
     ensures runs { runs_of map.new z ≡ with_holes_joined (runs_of map.old z) }
     ensures edit { IsEdit map.old map.new z }
 {
-    map.is_map();
-    let Some(first) = map.first_in(z) else {
+    let walk = Walk::from_zone(map, z, 0);
+    let shape = walk.shape;
+    let mut place = walk.place;
+    let Some(first) = place.next(map.bytes(z), &shape) else {
         return;
     };
     let mut run = first;
-    while let Some(next) = map.next_in(z, run) {
+    while let Some(next) = place.next(map.bytes(z), &shape) {
         run = join_pair(map, z, run, next);
     }
 }

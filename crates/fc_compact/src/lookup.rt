@@ -11,7 +11,7 @@ use fc_newmap::{NewMap, Walk};
 use fc_zone::RunKind;
 
 // Whether a run is one of an identifier.
-fn has_id(id: u32, kind: RunKind) -> bool
+pub fn has_id(id: u32, kind: RunKind) -> bool
     ensures { result ≡ has_id id kind }
 {
     match kind {

@@ -7,41 +7,34 @@ ghost use Rattle.fc_newmap.specs.Map.{runs_of};
 ghost use Rattle.fc_compact.specs.Slides.{HasRuns, IsPart, hole_at, run_at};
 ghost use Rattle.fc_compact.specs.Joins.{EditsListed, HasBetween, all_freed, changed_runs, freed, hole_part};
 
-use fc_newmap::NewMap;
-use fc_zone::{Run, RunKind};
+use crate::lookup::has_id;
+use fc_newmap::{NewMap, Walk};
+use fc_zone::Run;
 
-// Turns a run into a hole, if it is one of the identifier, and gives it as it is then.
-fn release_run(map: &mut NewMap, z: u16, run: Run, id: u32) -> Run
+// Turns a run into a hole, if it is one of the identifier.
+fn release_run(map: &mut NewMap, z: u16, run: Run, id: u32)
     requires zone { z < map.old.geometry.zones }
     requires run { HasBetween map.old z run }
     ensures runs { (front rest : List Run) → HasRuns map.old z (front ++ run ∷ rest) → HasRuns map.new z (front ++ freed id run ∷ rest) }
-    ensures value { result ≡ freed id run }
     ensures edit { IsEdit map.old map.new z }
 {
     map.is_map();
-    match run.kind {
-        RunKind::Id(owner) if owner == id => {
-            map.release(z, run.start);
-            Run {
-                kind: RunKind::Hole,
-                ..run
-            }
-        }
-        _ => run,
+    if has_id(id, run.kind) {
+        map.release(z, run.start);
     }
 }
 
-// Turns each run of an identifier in a zone into a hole.
+// Turns each run of an identifier in a zone into a hole, in one pass over the zone's words.
 fn release_in(map: &mut NewMap, z: u16, id: u32)
     requires zone { z < map.old.geometry.zones }
     ensures runs { runs_of map.new z ≡ all_freed id (runs_of map.old z) }
     ensures edit { IsEdit map.old map.new z }
 {
-    map.is_map();
-    let mut at = map.first_in(z);
-    while let Some(run) = at {
-        let left = release_run(map, z, run, id);
-        at = map.next_in(z, left);
+    let walk = Walk::from_zone(map, z, 0);
+    let shape = walk.shape;
+    let mut place = walk.place;
+    while let Some(run) = place.next(map.bytes(z), &shape) {
+        release_run(map, z, run, id);
     }
 }
 

@@ -21,7 +21,7 @@ use crate::shift::{Slide, shift};
 use arrayvec::ArrayVec;
 use fc_alloc::Owners;
 use fc_device::{Disk, DiskFault};
-use fc_newmap::{NewMap, commit, extent_of};
+use fc_newmap::{NewMap, Walk, commit, extent_of};
 use fc_zone::{Run, RunKind};
 
 /// A run of a zone, and how many bits at its front were a hole when the moves began and are one still.
@@ -176,14 +176,16 @@ fn gather_runs<D: Disk>(
     ensures cause { FailsByFault D.Disk disk.old disk.new result }
 {
     laws();
-    map.is_map();
-    let Some(first) = map.first_in(z) else {
+    let walk = Walk::from_zone(map, z, 0);
+    let shape = walk.shape;
+    let mut place = walk.place;
+    let Some(first) = place.next(map.bytes(z), &shape) else {
         return Ok(false);
     };
     let mut run = first;
     let mut fresh = fresh_of(first);
     let mut any = false;
-    while let Some(next) = map.next_in(z, run) {
+    while let Some(next) = place.next(map.bytes(z), &shape) {
         let front = gather_pair(disk, map, owners, z, run, next, fresh)?;
         run = front.run;
         fresh = front.fresh;

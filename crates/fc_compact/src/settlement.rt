@@ -19,7 +19,7 @@ use crate::rounds::{gather, gather_rounds};
 use crate::slides::{commit_zone, slide};
 use fc_alloc::Owners;
 use fc_device::{Disk, DiskFault};
-use fc_newmap::{MAP_ID, NewMap};
+use fc_newmap::{MAP_ID, NewMap, Walk};
 use fc_record::Geometry;
 use fc_zone::{Run, RunKind};
 
@@ -162,13 +162,15 @@ fn settle_pass<D: Disk>(
     ensures passes { IfOk result (Passes owners.now map.old map.new z) }
 {
     laws();
-    map.is_map();
-    let Some(first) = map.first_in(z) else {
+    let walk = Walk::from_zone(map, z, 0);
+    let shape = walk.shape;
+    let mut place = walk.place;
+    let Some(first) = place.next(map.bytes(z), &shape) else {
         return Ok(false);
     };
     let mut run = first;
     let mut changed = false;
-    while let Some(next) = map.next_in(z, run) {
+    while let Some(next) = place.next(map.bytes(z), &shape) {
         let step = settle_pair(disk, map, owners, z, run, next)?;
         run = step.run;
         changed |= step.changed;

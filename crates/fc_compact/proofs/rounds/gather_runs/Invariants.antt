@@ -1,8 +1,9 @@
-use Rattle.std.proofs.Common.{◌≡◌, ◌≤◌, ◌-◌, ◌+◌, List, ◌∷◌, ◌++◌, false}
+use Rattle.std.proofs.Common.{◌≡◌, ◌≤◌, ◌-◌, List, ◌∷◌, ◌++◌, false}
 use Rattle.std.specs.Option.{ForSome}
 use Rattle.fc_device.specs.Calls.{SameForm}
 use Rattle.fc_zone.specs.declared.Run.{Run}
-use Rattle.fc_newmap.specs.Map.{Map}
+use Rattle.fc_zone.specs.Cursor.{StandsBetween}
+use Rattle.fc_newmap.specs.Map.{Map, sector_of, shape}
 use Rattle.fc_compact.specs.Rounds.{Carrying, Gathers, Spares, StaysInHoles}
 use Rattle.fc_compact.specs.Slides.{HasRuns}
 use Rattle.fc_compact.proofs.GatherLemmas.{FrontIn}
@@ -24,7 +25,10 @@ invariant-loop-next g l = record {
   few : l.fresh ≤ l.run.len;
   in_holes : (m : Map) → Spares m l.fn.map l.owners l.z → FrontIn m l.z l.run l.fresh;
   faults : g.D.Disk.faults l.fn.disk ≤ g.D.Disk.faults l.disk;
+  shape : l.shape ≡ shape l.fn.map.geometry l.z;
+  gone : List Run;
+  stands : StandsBetween l.shape (sector_of l.map l.z) gone rest l.place;
 }
 
 abbrev pub decreases-loop-next : goal.decreases-loop-next
-decreases-loop-next g l = 8192 - (l.run.start + l.run.len)
+decreases-loop-next g l = l.shape.end - l.place.at

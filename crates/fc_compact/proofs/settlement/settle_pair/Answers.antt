@@ -4,7 +4,6 @@ use Rattle.fc_zone.specs.declared.Run.{Run}
 use Rattle.fc_device.proofs.DiskLaws.{laws}
 use Rattle.fc_compact.specs.Compaction.{is_done_by}
 use Rattle.fc_compact.specs.Settlement.{zone_weight}
-use Rattle.fc_compact.proofs.FindLemmas.{run_follows}
 use Rattle.fc_compact.proofs.GoneLemmas.{kept_err, kept_ok, kept_start}
 use Rattle.fc_compact.proofs.HoldLemmas.{run_short}
 use Rattle.fc_compact.proofs.MergeLemmas.{merge_falls}
@@ -62,12 +61,9 @@ returns-in-Done-clause-steps g c =
     let a = c.args in
     let m = a.map.now in
     let is = c.is_map.ensures in
-    let r = c.requires.pair in
-    let low = c.requires.zone in
     record {
       packs = packs_none a.owners.now m is;
       others = λ y other. refl;
-      ends = refl;
       cut = λ front rest was. (front ++ a.run ∷ [], (was ∙ sym (append_assoc front (a.run ∷ []) (a.next ∷ rest)), λ e. refl));
       falls = omega arith;
       done = λ e. (refl, refl, subst (λ (h : Geometry). is_done_by h a.owners.now a.run a.next ≡ true) c.geometry.ensures.value c.in-Done.ensures);
@@ -76,17 +72,11 @@ returns-in-Done-clause-steps g c =
 pub returns-in_ok-merge_runs-in-Merge-clause-steps : goal.returns-in_ok-merge_runs-in-Merge-clause-steps
 returns-in_ok-merge_runs-in-Merge-clause-steps g c =
     let a = c.args in
-    let m = a.map.now in
-    let is = c.is_map.ensures in
     let r = c.requires.pair in
-    let low = c.requires.zone in
-    let last = c.merge_runs.new.map in
     let ok = c.in_ok-merge_runs-in-Merge.ensures in
-    let follows = run_follows m is a.z low r.0 r.1 a.run a.next r.2 in
     record {
       packs = ok.packs;
       others = ok.others;
-      ends = omega (arith, follows);
       cut = λ front rest was. (front, (ok.runs front rest was, λ e. absurd (cc)));
       falls = (let now = ap zone_weight (ok.runs r.0 r.1 r.2) in let was = ap zone_weight r.2 in omega (arith, now, was, merge_falls r.0 r.1 a.run a.next));
       done = λ e. absurd (cc);
@@ -104,11 +94,9 @@ returns-in_ok-slide-in-Slide-clause-steps g c =
     let slid = ok.slid in
     let next = slid_next m last is a.z a.run.start low slid r.0 r.1 a.run a.next refl r.2 in
     let kind = ap (λ (x : Run). x.kind) next ∙ c.in-Slide.ensures.2 in
-    let follows = run_follows m is a.z low r.0 r.1 a.run a.next r.2 in
     record {
       packs = slid_packs m last is a.z a.run.start low slid a.owners.now ok.leads;
       others = slid.others;
-      ends = omega (arith, follows);
       cut = λ front rest was. (front ++ record a.next { start = a.run.start } ∷ [], (slid_cut m last is a.z a.run.start low slid front rest a.run a.next refl was, λ e. absurd (cc)));
       falls = slid_falls m last is a.z a.run.start low slid c.in-Slide.ensures.0 kind;
       done = λ e. absurd (cc);
