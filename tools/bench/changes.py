@@ -18,7 +18,7 @@ import shutil
 import subprocess
 import sys
 import tempfile
-from typing import Callable, Dict, Iterable, List, Tuple
+from typing import Callable, Dict, Iterable, Iterator, List, Tuple
 
 from tools.files import built_shim
 from tools.images.fragmented import hard_disc
@@ -127,21 +127,28 @@ def many_files(bench: Bench, image: str, files: int) -> None:
         bench.table(image, "%d files" % count, commands(paths, fresh, others))
 
 
-def full_directories(bench: Bench, image: str, files: int) -> None:
-    """Files of 100 bytes saved into one of 100 directories after another, every tenth first, and the commands in those ten at a tenth
-    of the files and at all of them: only the disc has more files then, and no directory in which a command works."""
+def filled(bench: Bench, image: str, files: int, lines: int) -> Iterator[Tuple[int, Dict[str, List[str]]]]:
+    """Files of 100 bytes saved into one of 100 directories after another, every tenth first: at a tenth of the files and at all of them
+    their number, and the commands in those ten, so many lines of each. Only the disc has more files then, and no directory in which a
+    command works."""
     empty_disc(image)
     each, done = files // DIRECTORIES, 0
     chosen = list(range(0, DIRECTORIES, DIRECTORIES // 10))
     order = chosen + [one for one in range(DIRECTORIES) if one not in chosen]
-    numbers = [(at, chosen[at] * each + number) for number in range(min(each, LINES // 10)) for at in range(10)]
+    numbers = [(at, chosen[at] * each + number) for number in range(min(each, lines // 10)) for at in range(10)]
     paths = ["$.D%d.File%05d" % (chosen[at], number) for at, number in numbers]
     fresh = ["$.D%d.New%05d" % (chosen[at], number) for at, number in numbers]
     others = ["$.D%d.File%05d" % (chosen[at - 1], number) for at, number in numbers]
     for count in (files // 10, files):
         bench.seconds(image, script_of(saving([order[at // each] * each + at % each for at in range(done, count)], lambda at: at // each)))
-        bench.table(image, "%d files, %d a directory" % (count, each), commands(paths, fresh, others))
+        yield count, commands(paths, fresh, others)
         done = count
+
+
+def full_directories(bench: Bench, image: str, files: int) -> None:
+    """The commands in directories that are as long on a disc of few files as on one of many."""
+    for count, of_words in filled(bench, image, files, LINES):
+        bench.table(image, "%d files, %d a directory" % (count, files // DIRECTORIES), of_words)
 
 
 def one_directory(bench: Bench, image: str, files: int) -> None:

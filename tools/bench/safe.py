@@ -19,7 +19,7 @@ import sys
 import tempfile
 from typing import Dict, List, NamedTuple, Sequence
 
-from tools.bench.changes import DIRECTORIES, Bench, commands, empty_disc, saving, script_of
+from tools.bench.changes import DIRECTORIES, Bench, empty_disc, filled, saving, script_of
 from tools.bench.extract import seconds
 from tools.files import MEMORY, built_shim, read
 
@@ -90,18 +90,8 @@ def shown(cost: Cost) -> str:
 
 def tables(costs: Costs, image: str, files: int) -> None:
     """Each command in ten of the directories, at a tenth of the files and at all of them."""
-    empty_disc(image)
-    bench, each, done = Bench(costs.program, costs.folder), files // DIRECTORIES, 0
-    chosen = list(range(0, DIRECTORIES, DIRECTORIES // 10))
-    order = chosen + [one for one in range(DIRECTORIES) if one not in chosen]
-    numbers = [(at, chosen[at] * each + number) for number in range(min(each, LINES // 10)) for at in range(10)]
-    paths = ["$.D%d.File%05d" % (chosen[at], number) for at, number in numbers]
-    fresh = ["$.D%d.New%05d" % (chosen[at], number) for at, number in numbers]
-    others = ["$.D%d.File%05d" % (chosen[at - 1], number) for at, number in numbers]
-    for count in (files // 10, files):
-        bench.seconds(image, script_of(saving([order[at // each] * each + at % each for at in range(done, count)], lambda at: at // each)))
-        done = count
-        for word, lines in commands(paths, fresh, others).items():
+    for count, of_words in filled(Bench(costs.program, costs.folder), image, files, LINES):
+        for word, lines in of_words.items():
             if word != "load":
                 for mode, options in MODES.items():
                     print("%d files, %s, %s: %s" % (count, word, mode, shown(costs.a_command(image, lines, options))), flush=True)

@@ -57,7 +57,7 @@ def tree_of(image: bytes) -> Tree:
 
 
 def digest(data: bytes) -> bytes:
-    return hashlib.blake2b(data, digest_size=16).digest()
+    return hashlib.sha1(data).digest()  # the fastest here; nobody forges images
 
 
 # ---- the program
