@@ -22,8 +22,7 @@ fn cut_up(b: &mut [u8], shape: &ZoneShape)
     ensures { IsZone shape.now b.new }
 {
     let mut at = first(b, shape);
-    for _ in 0..1024 {
-        let Some(run) = at else { return };
+    while let Some(run) = at {
         if run.len < shape.min || run.len - shape.min < shape.min {
             return;
         }
